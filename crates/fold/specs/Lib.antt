@@ -1,0 +1,3 @@
+-- What the contracts of every crate cite for loops and lent parts.
+pub mod Fold
+pub mod Part
