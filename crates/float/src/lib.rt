@@ -1,5 +1,6 @@
 // Arithmetic on f32 that rounds once: the methods `mul_add`, `midpoint` and `sqrt` of Rust, from whole numbers.
 pub mod add;
+pub mod bits;
 pub mod parts;
 pub mod root;
 pub mod round;

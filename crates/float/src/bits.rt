@@ -1,0 +1,23 @@
+// f32 values and their bit patterns, every NaN being one.
+ghost use mathlib.Core.Path.{_≡_};
+ghost use lib.Ieee.{binary32, ofBits, toBits};
+
+// The value with these bits; each pattern of a NaN gives the NaN.
+pub fn from_bits(bits: u32) -> f32
+    ensures { λ r. ⌜ r ≡ ofBits binary32 bits ⌝ }
+{
+    if 0x7f800000 < bits % 0x80000000 {
+        return 0.0 / 0.0;
+    }
+    f32::from_bits(bits)
+}
+
+// The bits of x; 7fc00000 for the NaN.
+pub fn to_bits(x: f32) -> u32
+    ensures { λ r. ⌜ r ≡ toBits binary32 x ⌝ }
+{
+    if x != x {
+        return 0x7fc00000;
+    }
+    f32::to_bits(x)
+}

@@ -1,0 +1,81 @@
+//! f32 values by kind, and their comparison: "all NaNs count as one", zeros keep their sign.
+use crate::random::Random;
+
+/// One NaN for all.
+pub fn bits(x: f32) -> u32 {
+    if x.is_nan() { 0x7fc0_0000 } else { x.to_bits() }
+}
+
+pub fn same(x: f32, y: f32) -> bool {
+    bits(x) == bits(y)
+}
+
+/// Zeros, smallest and largest subnormals and normals, ones and their neighbours, infinities, NaNs, both signs.
+pub const SPECIAL: [u32; 26] = [
+    0x0000_0000,
+    0x8000_0000,
+    0x0000_0001,
+    0x8000_0001,
+    0x0000_0002,
+    0x007f_ffff,
+    0x807f_ffff,
+    0x0080_0000,
+    0x8080_0000,
+    0x0080_0001,
+    0x3f00_0000,
+    0x3f7f_ffff,
+    0x3f80_0000,
+    0xbf80_0000,
+    0x3f80_0001,
+    0x4000_0000,
+    0xc000_0000,
+    0x4b80_0000,
+    0x7eff_ffff,
+    0x7f00_0000,
+    0x7f7f_ffff,
+    0xff7f_ffff,
+    0x7f80_0000,
+    0xff80_0000,
+    0x7fc0_0000,
+    0xff80_0001,
+];
+
+pub fn special(r: &mut Random) -> f32 {
+    f32::from_bits(r.pick(&SPECIAL))
+}
+
+pub fn any(r: &mut Random) -> f32 {
+    f32::from_bits(r.bits())
+}
+
+pub fn subnormal(r: &mut Random) -> f32 {
+    f32::from_bits(r.bits() & 0x807f_ffff)
+}
+
+/// A normal value with the leading one at 2^e, e held within -126 to 127.
+pub fn at(r: &mut Random, e: i64) -> f32 {
+    let field = (e.clamp(-126, 127) + 127) as u32;
+    f32::from_bits(r.bits() & 0x807f_ffff | field << 23)
+}
+
+/// The f32 some places further in the order of bits, the sign kept.
+pub fn beside(x: f32, places: i64) -> f32 {
+    let b = x.to_bits();
+    let size = (i64::from(b & 0x7fff_ffff) + places).clamp(0, 0x7f80_0000) as u32;
+    f32::from_bits(b & 0x8000_0000 | size)
+}
+
+/// m * 2^e, where that is an f32.
+pub fn exact(m: i128, e: i32) -> Option<f32> {
+    if m == 0 {
+        return Some(0.0);
+    }
+    let zeros = m.trailing_zeros() as i32;
+    let (m, e) = (m >> zeros, e + zeros);
+    let length = 128 - m.unsigned_abs().leading_zeros() as i32;
+    if length > 24 || e < -149 || e + length > 128 {
+        return None;
+    }
+    let power = f64::from_bits(((e + 1023) as u64) << 52);
+    Some((m as f64 * power) as f32)
+}

@@ -1,0 +1,14 @@
+//! The oracle's common pieces: numbers at random, f32 kinds, the proved library, comparison.
+pub mod arith;
+pub mod bench;
+pub mod floats;
+pub mod picture;
+pub mod probe;
+pub mod random;
+pub mod run;
+pub mod sheet;
+pub mod tally;
+pub mod texts;
+
+#[path = "../stand-ins/utils/macros.rs"]
+mod macros;

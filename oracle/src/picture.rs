@@ -1,0 +1,90 @@
+//! The whole program: a sheet text to the lines of a picture, by the published `solve_cpu` and `finish` of lib.rs. The jobs of `run` find blown channels.
+use crate::{
+    floats::same,
+    run::{coefficient, runs},
+    sheet::{Sheet, Weight, joined, read},
+};
+use artefact::{
+    AlignedF32, Artefact, ValueCollection,
+    image::RgbImage,
+    pipeline::open::{Jpeg, finish, solve_cpu},
+};
+
+/// What the program `smooth` prints for a text: "W and H above 32 are 2 there".
+pub fn smooth(text: &[u8]) -> String {
+    match read(text, 32).and_then(|sheet| picture(&sheet).ok_or((10, 0))) {
+        Ok(image) => lines(&image),
+        Err((number, line)) => format!("X\t{number}\t{line}\n"),
+    }
+}
+
+fn lines(image: &RgbImage) -> String {
+    let pixel = |p: &[u8]| format!("{:02x}{:02x}{:02x}", p[0], p[1], p[2]);
+    let rows = image.bytes.chunks(3 * image.width as usize);
+    let rows = rows.map(|row| format!("R\t{}\n", joined(row.chunks(3).map(pixel), "\t")));
+    format!("I\t{}\t{}\n{}", image.width, image.height, rows.collect::<String>())
+}
+
+/// None where a channel is blown.
+pub fn picture(sheet: &Sheet) -> Option<RgbImage> {
+    let mut planes: Vec<AlignedF32> = vec![];
+    for mut run in runs(sheet) {
+        while !run.is_done() {
+            run.step(|_, _, _| ());
+            if run.is_blown() {
+                return None;
+            }
+        }
+        planes.extend(run.auxs.into_iter().map(|aux| aux.fdata));
+    }
+    let settings = Artefact::default()
+        .weight(ValueCollection::ForEach(sheet.smoothing.map(Weight::value)))
+        .pweight(ValueCollection::ForEach(sheet.data.map(Weight::value)))
+        .iterations(ValueCollection::ForEach(sheet.counts.map(|n| n as usize)))
+        .separate_components(!sheet.joint);
+    let jpeg = Jpeg {
+        nchannel: sheet.channels.len() as u32,
+        real_px_w: sheet.picture_w,
+        real_px_h: sheet.picture_h,
+        coefs: sheet.channels.iter().map(coefficient).collect(),
+    };
+    let solved = solve_cpu(&settings, &jpeg, sheet.w, sheet.h);
+    let pairs = || solved.iter().flat_map(|p| p.iter()).zip(planes.iter().flat_map(|p| p.iter()));
+    assert!(pairs().all(|(x, y)| same(*x, *y)), "the jobs' planes differ from those of `solve_cpu`");
+    Some(finish(&settings, &jpeg, solved, sheet.w, sheet.h))
+}
+
+#[cfg(test)]
+mod tests {
+    use super::*;
+    use crate::{
+        run::runs,
+        texts::{example, fixed_runs},
+    };
+
+    #[test]
+    fn whole_example() {
+        assert_eq!(smooth(&example()), "I\t2\t1\nR\t818181\t818181\n");
+        assert_eq!(smooth(&[example(), b"\n".into()].concat()), "X\t7\t5\n");
+    }
+
+    #[test]
+    fn blown_or_not() {
+        for (name, sheet, blown) in fixed_runs() {
+            assert_eq!(smooth(&sheet.text()) == "X\t10\t0\n", blown, "{name}");
+        }
+    }
+
+    #[test]
+    fn start_is_reordered_repeatedly() {
+        let mut sheet = read(&example(), 32).expect("legal");
+        (sheet.w, sheet.channels[0].w) = (16, 16);
+        sheet.channels[0].levels.extend([0; 64]);
+        let v = 1.0 - 2.0_f32.powi(-24);
+        let (_, plane) = &runs(&sheet)[0].buffers(0)[0];
+        for (i, x) in plane.iter().enumerate() {
+            let (row, column) = (i / 16, i % 16);
+            assert_eq!(*x, if row % 2 == 0 && column < 8 { v } else { 0.0 });
+        }
+    }
+}

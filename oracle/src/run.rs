@@ -1,0 +1,225 @@
+//! A sheet's runs, job by job: document 01, "Jobs and positions". The jobs call the published functions. What stands as loops inside the published
+//! `solve` and `solver_step` is copied here statement by statement, and `check` holds the planes against the published `solve`.
+use crate::{floats::same, macros::mul_add, sheet};
+use artefact::{
+    AlignedF32, Aux,
+    pipeline::open::{
+        Coefficient, SampleFactor, ScalarCoef, dct_gradient, project_onto_box, solve, tgv_gradient, tv_gradient,
+    },
+};
+
+pub fn coefficient(c: &sheet::Channel) -> Coefficient {
+    Coefficient {
+        rounded_px_w: c.w,
+        rounded_px_h: c.h,
+        rounded_px_count: c.w * c.h,
+        block_w: c.w / 8,
+        block_h: c.h / 8,
+        block_count: c.w * c.h / 64,
+        horizontal_samp_factor: SampleFactor(c.across as u8),
+        vertical_samp_factor: SampleFactor(c.down as u8),
+        dct_coefs: c.levels.iter().map(|level| *level as f32).collect(),
+        quant_table: std::array::from_fn(|i| c.table[i] as f32),
+    }
+}
+
+/// "The step constants of a sheet are four f32 values."
+#[derive(Clone, Copy)]
+pub struct Constants {
+    pub term: f32,
+    pub factor: f32,
+    pub step_size: f32,
+    pub second_order_weight: f32,
+}
+
+pub struct Run {
+    pub w: u32,
+    pub h: u32,
+    pub iterations: usize,
+    pub positions: Vec<usize>,
+    pub marks: Vec<bool>,
+    pub auxs: Vec<Aux>,
+    coefs: Vec<ScalarCoef>,
+    given: Vec<Coefficient>,
+    weight: f32,
+    pweight: [f32; 3],
+    term: f32,
+}
+
+/// Joint mode: one run of all channels. Separate mode: a run of each, with its own smoothing weight and iteration count, but always the
+/// first data weight.
+pub fn runs(sheet: &sheet::Sheet) -> Vec<Run> {
+    let given: Vec<Coefficient> = sheet.channels.iter().map(coefficient).collect();
+    if sheet.joint {
+        return vec![Run::start(sheet, given, 0)];
+    }
+    given.into_iter().enumerate().map(|(c, one)| Run::start(sheet, vec![one], c)).collect()
+}
+
+impl Run {
+    /// The start of the run with the smoothing weight and iteration count at place `c`.
+    fn start(sheet: &sheet::Sheet, given: Vec<Coefficient>, c: usize) -> Self {
+        let coefs: Vec<ScalarCoef> = given.iter().cloned().map(Into::into).collect();
+        let (w, h) = (sheet.w, sheet.h);
+        Self {
+            w,
+            h,
+            iterations: sheet.counts[c] as usize,
+            positions: vec![0; coefs.len()],
+            marks: vec![false; coefs.len()],
+            auxs: coefs.iter().map(|coef| Aux::init(w, h, (w * h) as usize, coef)).collect(),
+            coefs,
+            given,
+            weight: sheet.smoothing[c].value(),
+            pweight: sheet.data.map(sheet::Weight::value),
+            term: 1.0,
+        }
+    }
+
+    pub fn channels(&self) -> usize {
+        self.coefs.len()
+    }
+
+    fn count(&self) -> usize {
+        (self.w * self.h) as usize
+    }
+
+    /// The constants of the next step, and the next term: statements of `solve` and `solver_step`.
+    pub fn constants(&self) -> (Constants, f32) {
+        let (term, iterations) = (self.term, self.iterations);
+        let radius = (self.count() as f32).sqrt() / 2.0;
+        let next_term = f32::midpoint(1.0, mul_add!(4.0_f32, term.powi(2), 1.0).sqrt());
+        let factor = (term - 1.0) / next_term;
+        let step_size = radius / (1.0 + iterations as f32).sqrt();
+        let second_order_weight = self.weight / 2.0_f32.sqrt();
+        (Constants { term, factor, step_size, second_order_weight }, next_term)
+    }
+
+    /// Statements of `solve`.
+    fn push(&mut self, c: usize, factor: f32) {
+        let count = self.count();
+        let aux = &mut self.auxs[c];
+        for i in 0..count {
+            aux.fista[i] = mul_add!(factor, aux.fdata[i] - aux.fista[i], aux.fdata[i]);
+        }
+        std::mem::swap(&mut aux.fdata, &mut aux.fista);
+        self.positions[c] += 1;
+    }
+
+    /// Statements of `solver_step`.
+    fn data(&mut self, c: usize) {
+        let (w, h, count) = (self.w, self.h, self.count());
+        let pweight = &self.pweight;
+        let aux = &mut self.auxs[c];
+        aux.obj_gradient = AlignedF32::zeros(count);
+        if pweight[c] != 0.0 {
+            let alpha = pweight[c] * 2.0 * 255.0 * 2.0_f32.sqrt();
+            dct_gradient(w, h, alpha, &self.coefs[c], &aux.cos, &mut aux.obj_gradient);
+        }
+        self.positions[c] += 1;
+    }
+
+    fn blend(&mut self, second_order_weight: f32) {
+        let (w, h, nchannel) = (self.w, self.h, self.channels());
+        tv_gradient(w, h, nchannel, &mut self.auxs);
+        tgv_gradient(w, h, nchannel, &mut self.auxs, second_order_weight);
+        self.positions.iter_mut().for_each(|p| *p += 1);
+    }
+
+    /// Statements of `solver_step`.
+    fn move_plane(&mut self, c: usize, step_size: f32) {
+        let count = self.count();
+        let aux = &mut self.auxs[c];
+        let norm = aux.obj_gradient.iter().fold(0.0, |acc, &x| mul_add!(x, x, acc)).sqrt();
+        if norm != 0.0 {
+            for i in 0..count {
+                aux.fdata[i] = step_size.mul_add(-(aux.obj_gradient[i] / norm), aux.fdata[i]);
+            }
+        }
+        self.positions[c] += 1;
+    }
+
+    fn project(&mut self, c: usize) {
+        project_onto_box(self.w, self.h, &mut self.auxs[c], &self.coefs[c]);
+        self.positions[c] += 1;
+        let own = self.coefs[c].rounded_px_count as usize;
+        let aux = &self.auxs[c];
+        self.marks[c] = !aux.fdata.iter().chain(&aux.cos[..own]).all(|x| x.is_finite());
+    }
+
+    /// The five jobs of a step; `after` sees the run after each, with the job's name and the channel that it was done for (for blend each channel).
+    pub fn step(&mut self, mut after: impl FnMut(&Self, &str, usize)) {
+        let channels = 0..self.channels();
+        let (now, next_term) = self.constants();
+        for c in channels.clone() {
+            self.push(c, now.factor);
+            after(self, "push", c);
+        }
+        self.term = next_term;
+        for c in channels.clone() {
+            self.data(c);
+            after(self, "data", c);
+        }
+        self.blend(now.second_order_weight);
+        channels.clone().for_each(|c| after(self, "blend", c));
+        for c in channels.clone() {
+            self.move_plane(c, now.step_size);
+            after(self, "move", c);
+        }
+        for c in channels {
+            self.project(c);
+            after(self, "project", c);
+        }
+    }
+
+    pub fn is_done(&self) -> bool {
+        self.positions[0] == 5 * self.iterations
+    }
+
+    pub fn is_blown(&self) -> bool {
+        self.marks.contains(&true)
+    }
+
+    /// A channel's six buffers by document 01's names. Saved is 0 past the own sides' places, where the published Rust keeps scratch.
+    pub fn buffers(&self, c: usize) -> [(&'static str, Vec<f32>); 6] {
+        let (aux, own) = (&self.auxs[c], self.coefs[c].rounded_px_count as usize);
+        let mut saved = vec![0.0; self.count()];
+        saved[..own].copy_from_slice(&aux.cos[..own]);
+        [
+            ("plane", aux.fdata.to_vec()),
+            ("prior", aux.fista.to_vec()),
+            ("gradient", aux.obj_gradient.to_vec()),
+            ("across", aux.pixel_diff.x.to_vec()),
+            ("down", aux.pixel_diff.y.to_vec()),
+            ("saved", saved),
+        ]
+    }
+
+    /// Whether the planes of a run that is done are those of the published `solve`.
+    pub fn check(&self) -> bool {
+        let (weight, pweight, iterations, count) = (self.weight, self.pweight, self.iterations, self.count());
+        let planes = solve(self.channels(), self.given.clone(), weight, pweight, iterations, self.w, self.h, count);
+        let equal = |(aux, plane): (&Aux, &AlignedF32)| aux.fdata.iter().zip(plane.iter()).all(|(x, y)| same(*x, *y));
+        self.auxs.iter().zip(&planes).all(equal)
+    }
+}
+
+#[cfg(test)]
+mod tests {
+    use super::*;
+    use crate::{random::Random, texts::legal};
+
+    #[test]
+    fn planes_are_those_of_solve() {
+        let mut r = Random::new(1);
+        for _ in 0..200 {
+            let sheet = legal(&mut r, 32, 6);
+            for mut run in runs(&sheet) {
+                while !run.is_done() {
+                    run.step(|_, _, _| ());
+                }
+                assert!(run.check(), "{}", String::from_utf8_lossy(&sheet.text()));
+            }
+        }
+    }
+}

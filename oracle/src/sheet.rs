@@ -1,0 +1,221 @@
+//! The sheet text, read and written as document 01, "Sheet records", says. Nothing here is taken from the proved reader.
+
+/// The number of a refusal in document 01's table, and the line.
+pub type Refusal = (u32, usize);
+type Fault = u32;
+
+const FORM: Fault = 1;
+const SIZE: Fault = 2;
+const FACTOR: Fault = 3;
+const TABLE: Fault = 4;
+const LEVEL: Fault = 5;
+const WEIGHT: Fault = 6;
+const CUT: Fault = 7;
+
+#[derive(Clone, Copy, Debug, PartialEq)]
+pub enum Weight {
+    Bits(u32),
+    Whole(u32),
+}
+
+impl Weight {
+    pub fn value(self) -> f32 {
+        match self {
+            Self::Bits(bits) => f32::from_bits(bits),
+            Self::Whole(number) => number as f32,
+        }
+    }
+}
+
+#[derive(Clone, Debug, PartialEq)]
+pub struct Channel {
+    pub w: u32,
+    pub h: u32,
+    pub across: u32,
+    pub down: u32,
+    pub table: Vec<u32>,
+    pub levels: Vec<i32>,
+}
+
+#[derive(Clone, Debug, PartialEq)]
+pub struct Sheet {
+    pub w: u32,
+    pub h: u32,
+    pub picture_w: u32,
+    pub picture_h: u32,
+    pub joint: bool,
+    pub counts: [u32; 3],
+    pub smoothing: [Weight; 3],
+    pub data: [Weight; 3],
+    pub channels: Vec<Channel>,
+}
+
+/// Reads a whole text. `limit` is the largest full side: 512, or 32 in `smooth`.
+pub fn read(text: &[u8], limit: u32) -> Result<Sheet, Refusal> {
+    let mut lines = Lines { rest: text, line: 0 };
+    lines.sheet(limit).map_err(|fault| (fault, lines.line))
+}
+
+struct Lines<'a> {
+    rest: &'a [u8],
+    line: usize,
+}
+
+/// The fields that are left of a line.
+struct Fields<'a>(Option<&'a [u8]>);
+
+impl<'a> Iterator for Fields<'a> {
+    type Item = &'a [u8];
+
+    fn next(&mut self) -> Option<&'a [u8]> {
+        let line = self.0?;
+        let tab = line.iter().position(|b| *b == b'\t');
+        self.0 = tab.map(|i| &line[i + 1..]);
+        Some(&line[..tab.unwrap_or(line.len())])
+    }
+}
+
+impl<'a> Lines<'a> {
+    /// The next line's fields after its tag. Where no text is left, the line is empty and unended.
+    fn next(&mut self, tag: &[u8], count: usize) -> Result<Fields<'a>, Fault> {
+        self.line += 1;
+        let end = self.rest.iter().position(|b| *b == b'\n');
+        let line = &self.rest[..end.unwrap_or(self.rest.len())];
+        if line.len() > 1024 {
+            return Err(FORM);
+        }
+        self.rest = &self.rest[end.ok_or(CUT)? + 1..];
+        let mut fields = Fields(Some(line));
+        let tabs = line.iter().filter(|b| **b == b'\t').count();
+        if tabs + 1 != count || fields.next() != Some(tag) {
+            return Err(FORM);
+        }
+        Ok(fields)
+    }
+
+    fn sheet(&mut self, limit: u32) -> Result<Sheet, Fault> {
+        let mut fields = self.next(b"S", 16)?;
+        let mut field = || fields.next().expect("counted");
+        let side = |n| n % 8 == 0 && (8..=limit).contains(&n);
+        let w = number_in(field(), side, SIZE)?;
+        let h = number_in(field(), side, SIZE)?;
+        let picture_w = number_in(field(), |n| (1..=w).contains(&n), SIZE)?;
+        let picture_h = number_in(field(), |n| (1..=h).contains(&n), SIZE)?;
+        let channels = number_in(field(), |n| n == 1 || n == 3, SIZE)?;
+        let joint = match field() {
+            b"j" => true,
+            b"s" => false,
+            _ => return Err(FORM),
+        };
+        let mut count = || number_in(field(), |n| n <= 1000, SIZE);
+        let counts = [count()?, count()?, count()?];
+        let smoothing = [weight(field())?, weight(field())?, weight(field())?];
+        let data = [weight(field())?, weight(field())?, weight(field())?];
+        let channels = (0..channels).map(|_| self.channel(w, h)).collect::<Result<_, _>>()?;
+        self.next(b"E", 1)?;
+        if !self.rest.is_empty() {
+            self.line += 1;
+            return Err(CUT);
+        }
+        Ok(Sheet { w, h, picture_w, picture_h, joint, counts, smoothing, data, channels })
+    }
+
+    fn channel(&mut self, full_w: u32, full_h: u32) -> Result<Channel, Fault> {
+        let mut fields = self.next(b"C", 69)?;
+        let mut field = || fields.next().expect("counted");
+        let side = |n| n % 8 == 0 && n >= 8;
+        let w = number_in(field(), side, SIZE)?;
+        let h = number_in(field(), side, SIZE)?;
+        let factor = |n| (1..=4).contains(&n);
+        let across = number_in(field(), factor, FACTOR)?;
+        let down = number_in(field(), factor, FACTOR)?;
+        let table = fields.map(|f| number_in(f, |n| (1..=255).contains(&n), TABLE)).collect::<Result<_, _>>()?;
+        if w * across > full_w || h * down > full_h {
+            return Err(SIZE);
+        }
+        let mut levels = Vec::with_capacity((w * h) as usize);
+        for _ in 0..w * h / 64 {
+            for field in self.next(b"B", 65)? {
+                levels.push(level(field)?);
+            }
+        }
+        Ok(Channel { w, h, across, down, table, levels })
+    }
+}
+
+fn number(field: &[u8]) -> Result<u32, Fault> {
+    if !(1..=6).contains(&field.len()) || (field[0] == b'0' && field.len() > 1) {
+        return Err(FORM);
+    }
+    field.iter().try_fold(0, |n, digit| match digit {
+        b'0'..=b'9' => Ok(10 * n + u32::from(digit - b'0')),
+        _ => Err(FORM),
+    })
+}
+
+fn number_in(field: &[u8], legal: impl Fn(u32) -> bool, fault: Fault) -> Result<u32, Fault> {
+    let n = number(field)?;
+    if legal(n) { Ok(n) } else { Err(fault) }
+}
+
+fn level(field: &[u8]) -> Result<i32, Fault> {
+    let size = field.strip_prefix(b"-");
+    let n = number(size.unwrap_or(field))? as i32;
+    if size.is_some() && n == 0 {
+        return Err(FORM);
+    }
+    if n > 2047 {
+        return Err(LEVEL);
+    }
+    Ok(if size.is_some() { -n } else { n })
+}
+
+fn weight(field: &[u8]) -> Result<Weight, Fault> {
+    let Some(bits) = bit_form(field) else {
+        let digits = field.strip_prefix(b"w").ok_or(FORM)?;
+        return number_in(digits, |n| n <= 255, WEIGHT).map(Weight::Whole);
+    };
+    // infinite, NaN or with the sign bit: all from the bits of infinity on
+    if bits >= f32::INFINITY.to_bits() { Err(WEIGHT) } else { Ok(Weight::Bits(bits)) }
+}
+
+fn bit_form(field: &[u8]) -> Option<u32> {
+    let digits = field.strip_prefix(b"h").filter(|d| d.len() == 8)?;
+    digits.iter().try_fold(0, |bits, digit| match digit {
+        b'0'..=b'9' => Some(bits << 4 | u32::from(digit - b'0')),
+        b'a'..=b'f' => Some(bits << 4 | u32::from(digit - b'a' + 10)),
+        _ => None,
+    })
+}
+
+/// Numbers or words parted by `between`.
+pub fn joined<T: ToString>(items: impl IntoIterator<Item = T>, between: &str) -> String {
+    items.into_iter().map(|item| item.to_string()).collect::<Vec<_>>().join(between)
+}
+
+impl Sheet {
+    pub fn weights(&self) -> impl Iterator<Item = Weight> {
+        self.smoothing.into_iter().chain(self.data)
+    }
+
+    pub fn mode(&self) -> &'static str {
+        if self.joint { "j" } else { "s" }
+    }
+
+    pub fn text(&self) -> Vec<u8> {
+        let spelled = self.weights().map(|weight| match weight {
+            Weight::Bits(bits) => format!("h{bits:08x}"),
+            Weight::Whole(number) => format!("w{number}"),
+        });
+        let sizes = [self.w, self.h, self.picture_w, self.picture_h, self.channels.len() as u32];
+        let (sizes, counts) = (joined(sizes, "\t"), joined(self.counts, "\t"));
+        let mut text = format!("S\t{sizes}\t{}\t{counts}\t{}\n", self.mode(), joined(spelled, "\t"));
+        for c in &self.channels {
+            text += &format!("C\t{}\t{}\n", joined([c.w, c.h, c.across, c.down], "\t"), joined(&c.table, "\t"));
+            for block in c.levels.chunks(64) {
+                text += &format!("B\t{}\n", joined(block, "\t"));
+            }
+        }
+        (text + "E\n").into_bytes()
+    }
+}

@@ -1,0 +1,36 @@
+//! Counts of what was compared and what differs, by kind.
+
+#[derive(Default)]
+pub struct Tally {
+    rows: Vec<(String, u64, u64)>,
+}
+
+impl Tally {
+    /// Starts a kind; what is counted next belongs to it.
+    pub fn kind(&mut self, name: &str) {
+        self.rows.push((name.into(), 0, 0));
+    }
+
+    /// Counts one comparison; `show` describes a difference, and the first few of each kind are printed.
+    pub fn count(&mut self, equal: bool, show: impl FnOnce() -> String) {
+        let row = self.rows.last_mut().expect("a kind was started");
+        row.1 += 1;
+        if !equal {
+            row.2 += 1;
+            if row.2 <= 5 {
+                println!("differ: {}: {}", row.0, show());
+            }
+        }
+    }
+
+    /// Prints the table and the verdict; the program's exit status.
+    pub fn close(&self) -> std::process::ExitCode {
+        for (name, compared, differ) in &self.rows {
+            println!("{name:<32} {compared:>12} {differ:>8}");
+        }
+        let compared: u64 = self.rows.iter().map(|row| row.1).sum();
+        let differ: u64 = self.rows.iter().map(|row| row.2).sum();
+        println!("{compared} compared, {differ} differ");
+        u8::from(differ > 0).into()
+    }
+}

@@ -1,0 +1,518 @@
+//! Sheet texts at random: legal ones, and ones damaged at each of document 01's rules; and fixed ones with their answers.
+use crate::{
+    random::Random,
+    sheet::{Channel, Refusal, Sheet, Weight, read},
+};
+use std::{fs, path::Path};
+
+/// A legal sheet with sides up to `limit` and iteration counts up to `steps`.
+pub fn legal(r: &mut Random, limit: u32, steps: u32) -> Sheet {
+    let (w, h) = (full_side(r, limit), full_side(r, limit));
+    let channels = r.pick(&[1, 1, 3]);
+    Sheet {
+        w,
+        h,
+        picture_w: picture_side(r, w),
+        picture_h: picture_side(r, h),
+        joint: r.one_in(2),
+        counts: [0; 3].map(|_| r.between(0, steps.into()) as u32),
+        smoothing: [0; 3].map(|_| weight(r)),
+        data: [0; 3].map(|_| weight(r)),
+        channels: (0..channels).map(|_| channel(r, w, h)).collect(),
+    }
+}
+
+fn full_side(r: &mut Random, limit: u32) -> u32 {
+    let most = if r.one_in(4) { limit / 8 } else { (limit / 8).min(4) };
+    8 * r.between(1, most.into()) as u32
+}
+
+fn picture_side(r: &mut Random, full: u32) -> u32 {
+    if r.one_in(2) { full } else { r.between(1, full.into()) as u32 }
+}
+
+fn weight(r: &mut Random) -> Weight {
+    match r.below(8) {
+        0 | 1 => Weight::Whole(0),
+        2 => Weight::Whole(r.between(0, 255) as u32),
+        3 => Weight::Whole(1),
+        4 => Weight::Bits(r.between(0, 0x7f7f_ffff) as u32),
+        5 => Weight::Bits(r.pick(&[0, 1, 0x007f_ffff, 0x3f80_0000, 0x7100_0000, 0x7f00_0000, 0x7f7f_ffff])),
+        _ => Weight::Bits((r.between(1, 4_000) as f32 / 1_000.0).to_bits()),
+    }
+}
+
+/// A factor and an own side; half of them cover as much as they can.
+fn cover(r: &mut Random, full: u32) -> (u32, u32) {
+    let factor = r.between(1, (full / 8).min(4).into()) as u32;
+    let most = (full / 8 / factor).min(8);
+    (factor, 8 * if r.one_in(2) { most } else { r.between(1, most.into()) as u32 })
+}
+
+fn channel(r: &mut Random, full_w: u32, full_h: u32) -> Channel {
+    let ((across, w), (down, h)) = (cover(r, full_w), cover(r, full_h));
+    let most = r.pick(&[1, 2, 24, 255]);
+    let table = (0..64).map(|_| r.between(1, most) as u32).collect();
+    let levels = (0..w * h / 64).flat_map(|_| block(r)).collect();
+    Channel { w, h, across, down, table, levels }
+}
+
+/// Many zeros and small levels, as pictures have them; some blocks with all levels at random.
+fn block(r: &mut Random) -> [i32; 64] {
+    let (most, zeros) = (r.pick(&[0, 1, 9, 60, 2047]), r.pick(&[1, 3, 9]));
+    [0; 64].map(|_| if r.one_in(zeros) { r.between(-most, most) as i32 } else { 0 })
+}
+
+type Lines = Vec<Vec<Vec<u8>>>;
+type Damage = (&'static str, fn(&mut Random, &mut Vec<u8>));
+
+/// Each changes a text; the result may still be legal.
+pub const DAMAGES: [Damage; 11] = [
+    ("range", |r, text| fields(r, text, |r, line, at, full| line[at] = edge(r, line, at, full))),
+    ("spelling", |r, text| fields(r, text, |r, line, at, _| line[at] = misspelt(r, &line[at]))),
+    ("two fields", |r, text| {
+        fields(r, text, |r, line, at, full| {
+            line[at] = edge(r, line, at, full);
+            let other = r.below(line.len());
+            line[other] = misspelt(r, &line[other]);
+        });
+    }),
+    ("cover", covered),
+    ("tag", |r, text| {
+        fields(r, text, |r, line, _, _| line[0] = r.pick(&["S", "C", "B", "E", "", "b", "BB", "F", "G"]).into());
+    }),
+    ("field count", field_count),
+    ("order of lines", order),
+    ("long line", |r, text| fields(r, text, |r, line, at, _| lengthen(r, line, at))),
+    ("cut", cut),
+    ("after the end", |r, text| text.extend(r.pick(&["\n", "E\n", "x", "S\t8", "\t", "\r\n"]).bytes())),
+    ("bytes", bytes),
+];
+
+fn split(text: &[u8]) -> Lines {
+    let fields = |line: &[u8]| line.split(|b| *b == b'\t').map(<[u8]>::to_vec).collect();
+    text.split(|b| *b == b'\n').map(fields).collect()
+}
+
+fn join(lines: &Lines) -> Vec<u8> {
+    lines.iter().map(|line| line.join(&b'\t')).collect::<Vec<_>>().join(&b'\n')
+}
+
+fn tagged(r: &mut Random, lines: &Lines) -> usize {
+    let tag = r.pick(&["S", "S", "S", "S", "C", "C", "C", "B", "B", "E"]).as_bytes();
+    let found: Vec<usize> = (0..lines.len()).filter(|i| lines[*i][0] == tag).collect();
+    if found.is_empty() { r.below(lines.len()) } else { r.pick(&found) }
+}
+
+/// Edits a line at a field, given the full sides. The fields of the header and the first of the others are the likelier ones.
+fn fields(r: &mut Random, text: &mut Vec<u8>, edit: impl Fn(&mut Random, &mut Vec<Vec<u8>>, usize, [u32; 2])) {
+    let mut lines = split(text);
+    let full = [1, 2].map(|i| lines[0].get(i).and_then(|f| std::str::from_utf8(f).ok()?.parse().ok()).unwrap_or(8));
+    let i = tagged(r, &lines);
+    let last = lines[i].len() - 1;
+    let at = match r.below(4) {
+        0 => last,
+        1 => r.below(last + 1),
+        _ => r.below(last.min(15) + 1),
+    };
+    edit(r, &mut lines[i], at, full);
+    *text = join(&lines);
+}
+
+/// A value at or just beyond the ends of the field's range.
+fn edge(r: &mut Random, line: &[Vec<u8>], at: usize, [w, h]: [u32; 2]) -> Vec<u8> {
+    let n = |r: &mut Random, values: &[u32]| r.pick(values).to_string().into_bytes();
+    let full = if at % 2 == 1 { w } else { h };
+    match (line[0].as_slice(), at) {
+        (b"S", 1 | 2) => n(r, &[0, 7, 8, 12, 24, 31, 32, 33, 40, 504, 512, 513, 520, 65_544, 999_999, 1_000_000]),
+        (b"S", 3 | 4) => n(r, &[0, 1, full, full + 1, w + h, 999_999]),
+        (b"S", 5) => n(r, &[0, 1, 2, 3, 4, 13, 999_999]),
+        (b"S", 6) => r.pick(&["j", "s", "k", "J", "S", "js", "", "w", "1"]).into(),
+        (b"S", 7..=9) => n(r, &[0, 1, 999, 1_000, 1_001, 65_536, 999_999]),
+        (b"S", 10..) => odd_weight(r),
+        (b"C", 1 | 2) => n(r, &[0, 4, 8, 12, full, full + 8, 512, 520, 65_544, 999_992, 999_999]),
+        (b"C", 3 | 4) => n(r, &[0, 1, 2, 3, 4, 5, 257, 999_999]),
+        (b"C", 5..) => n(r, &[0, 1, 254, 255, 256, 257, 511, 65_537, 999_999]),
+        (b"B", 1..) => r
+            .pick(&[
+                "2047", "-2047", "2048", "-2048", "-0", "0", "-1", "-999999", "999999", "65535", "-1000000", "1000000",
+            ])
+            .into(),
+        _ => misspelt(r, &line[at]),
+    }
+}
+
+fn odd_weight(r: &mut Random) -> Vec<u8> {
+    let words = [
+        "h7f7fffff",
+        "h7f800000",
+        "h7f800001",
+        "h7fc00000",
+        "h80000000",
+        "h80000001",
+        "hff800000",
+        "hffffffff",
+        "h00000001",
+        "h7F800000",
+        "h0000000",
+        "h000000000",
+        "h0000000g",
+        "H00000000",
+        "h",
+        "hw1",
+        "wh00000000",
+        "h+0000000",
+        "w0",
+        "w255",
+        "w256",
+        "w999999",
+        "w1000000",
+        "w0256",
+        "w00",
+        "w",
+        "w-1",
+        "w+1",
+        "W1",
+        "ww1",
+        "1",
+        "",
+        "w1 ",
+        "w1.0",
+    ];
+    r.pick(&words).into()
+}
+
+fn misspelt(r: &mut Random, field: &[u8]) -> Vec<u8> {
+    let (before, after) = r.pick(&[
+        ("0", ""),
+        ("00", ""),
+        ("+", ""),
+        ("-", ""),
+        ("--", ""),
+        (" ", ""),
+        ("", " "),
+        ("", "\r"),
+        ("", "\0"),
+        ("", "."),
+        ("", "0000000"),
+        ("1000000", ""),
+        ("x", ""),
+        ("", "e"),
+        ("0x", ""),
+        ("\u{ff}", ""),
+        ("", ","),
+    ]);
+    match r.below(8) {
+        0 => vec![],
+        1 => r.pick(&["-0", "-", "00", "0", "-00", "1234567", "x", "٣", "1e1", "-01"]).into(),
+        _ => [before.as_bytes(), field, after.as_bytes()].concat(),
+    }
+}
+
+fn covered(r: &mut Random, text: &mut Vec<u8>) {
+    let mut lines = split(text);
+    let found: Vec<usize> = (0..lines.len()).filter(|i| lines[*i][0] == b"C" && lines[*i].len() > 5).collect();
+    if let Some(line) = (!found.is_empty()).then(|| &mut lines[r.pick(&found)]) {
+        let at = r.between(1, 4) as usize;
+        line[at] = r.pick(if at < 3 { &["8", "16", "24", "32", "40"] } else { &["1", "2", "3", "4"] }).into();
+        if r.one_in(3) {
+            line[at + 1] = r.pick(&["256", "5", "0", "x"]).into();
+        }
+    }
+    *text = join(&lines);
+}
+
+fn field_count(r: &mut Random, text: &mut Vec<u8>) {
+    fields(r, text, |r, line, at, _| match r.below(4) {
+        0 => drop(line.remove(at)),
+        1 => line.insert(at, line[at].clone()),
+        2 => line.push(vec![]),
+        _ => line.insert(at, vec![]),
+    });
+}
+
+fn order(r: &mut Random, text: &mut Vec<u8>) {
+    let mut lines = split(text);
+    let (i, j) = (tagged(r, &lines), r.below(lines.len()));
+    match r.below(5) {
+        0 => drop(lines.remove(i)),
+        1 => lines.insert(i, lines[i].clone()),
+        2 => lines.swap(i, j),
+        3 => lines.insert(i, vec![vec![]]),
+        _ => lines.insert(j, lines[i].clone()),
+    }
+    *text = join(&lines);
+}
+
+/// Makes the line 1,023 to 1,026 bytes long, or much longer.
+fn lengthen(r: &mut Random, line: &mut [Vec<u8>], at: usize) {
+    let length: usize = line.iter().map(|f| f.len() + 1).sum::<usize>() - 1;
+    let aim = r.pick(&[1023, 1024, 1024, 1025, 1025, 1026, 1500]);
+    line[at].extend(vec![b'0'; aim - length.min(aim)]);
+}
+
+fn cut(r: &mut Random, text: &mut Vec<u8>) {
+    let ends: Vec<usize> = (0..text.len()).filter(|i| text[*i] == b'\n').collect();
+    match r.below(4) {
+        0 => text.truncate(text.len().saturating_sub(1)),
+        1 if !ends.is_empty() => text.truncate(r.pick(&ends)),
+        2 if !ends.is_empty() => text.truncate(r.pick(&ends) + 1),
+        _ => text.truncate(r.below(text.len() + 1)),
+    }
+}
+
+fn bytes(r: &mut Random, text: &mut Vec<u8>) {
+    let at = r.below(text.len().max(1));
+    let byte = r.pick(b"\t\n\r\0 -+0189wxhjsSCBE\xff\xc3");
+    match r.below(6) {
+        0 => *text = String::from_utf8_lossy(text).replace('\n', r.pick(&["\r\n", "\r", "\n\n"])).into_bytes(),
+        1 | 2 => text.insert(at.min(text.len()), byte),
+        3 if at < text.len() => drop(text.remove(at)),
+        _ if at < text.len() => text[at] = byte,
+        _ => text.push(byte),
+    }
+}
+
+/// The fixed texts, then `count` texts at random: legal ones, damaged ones, doubly damaged ones. Each with its kind.
+pub fn all(seed: u64, count: u64, limit: u32, steps: u32) -> Vec<(&'static str, Vec<u8>)> {
+    let mut r = Random::new(seed);
+    let mut all: Vec<_> = fixed().into_iter().map(|(_, text, _)| ("fixed text", text)).collect();
+    all.extend(fixed_runs().into_iter().map(|(_, sheet, _)| ("fixed sheet", sheet.text())));
+    for i in 0..count {
+        let (kind, damages) = [("legal", 0), ("damaged", 1), ("doubly damaged", 2)][(3 * i / count) as usize];
+        let mut text = legal(&mut r, limit, steps).text();
+        for _ in 0..damages {
+            let (_, damage) = if r.one_in(3) { DAMAGES[0] } else { r.pick(&DAMAGES) };
+            damage(&mut r, &mut text);
+        }
+        all.push((kind, text));
+    }
+    all
+}
+
+/// Document 01's whole example.
+pub fn example() -> Vec<u8> {
+    let (table, levels) = ("\t8".repeat(64), "\t0".repeat(63));
+    format!("S 8 8 2 1 1 s 0 0 0 w0 w0 w0 w0 w0 w0\nC 8 8 1 1{table}\nB 1{levels}\nE\n").replace(' ', "\t").into_bytes()
+}
+
+/// Line from 0, field (the tag is 0), word.
+pub type Edit = (usize, usize, &'static str);
+
+/// The example with other fields.
+pub fn edited(edits: &[Edit]) -> Vec<u8> {
+    let mut lines = split(&example());
+    for (line, field, word) in edits {
+        lines[*line][*field] = (*word).into();
+    }
+    join(&lines)
+}
+
+/// Texts that tell readings of document 01 apart, with what document 01 gives at the limit 32: None is a legal text.
+pub fn fixed() -> Vec<(&'static str, Vec<u8>, Option<Refusal>)> {
+    const S: usize = 0;
+    const C: usize = 1;
+    const B: usize = 2;
+    let whole = example();
+    let lines: Vec<&[u8]> = whole.split_inclusive(|b| *b == b'\n').collect();
+    let padded = |length: usize| {
+        let short = edited(&[(S, 1, "9")]);
+        let end = short.iter().position(|b| *b == b'\n').expect("a line");
+        [&short[..end], &vec![b'0'; length - end], &short[end..]].concat()
+    };
+    let more = |end: &[u8]| [whole.as_slice(), end].concat();
+    let replaced = |old: &str, new: &str| String::from_utf8_lossy(&whole).replacen(old, new, 99).into_bytes();
+    let mut all: Vec<(&'static str, Vec<u8>, Option<Refusal>)> = vec![
+        ("the whole example", whole.clone(), None),
+        ("long and unended", vec![b'a'; 1025], Some((1, 1))),
+        ("unended at the longest", vec![b'a'; 1024], Some((7, 1))),
+        ("longest line, field bad", padded(1024), Some((2, 1))),
+        ("long line, field bad", padded(1025), Some((1, 1))),
+        ("unended wins over content", b"x".into(), Some((7, 1))),
+        ("third line unended", [lines[0], lines[1], &lines[2][..lines[2].len() - 1]].concat(), Some((7, 3))),
+        ("E unended", whole[..whole.len() - 1].into(), Some((7, 4))),
+        ("no bytes", vec![], Some((7, 1))),
+        ("header alone", lines[0].into(), Some((7, 2))),
+        ("no E", lines[..3].concat(), Some((7, 4))),
+        ("E alone", lines[3].into(), Some((1, 1))),
+        ("E too early", [lines[0], lines[3]].concat(), Some((1, 2))),
+        ("E too early, then a byte", [lines[0], lines[3], b"x"].concat(), Some((1, 2))),
+        ("B for E", [lines[0], lines[1], lines[2], lines[2]].concat(), Some((1, 4))),
+        ("E with a tab", replaced("E", "E\t"), Some((1, 4))),
+        ("E with byte 13", replaced("E", "E\r"), Some((1, 4))),
+        ("line feed after E", more(b"\n"), Some((7, 5))),
+        ("long line after E", more(&[b'a'; 1025]), Some((7, 5))),
+        ("S after E", more(b"S"), Some((7, 5))),
+        ("empty line", b"\n".into(), Some((1, 1))),
+        ("empty line first", [b"\n", whole.as_slice()].concat(), Some((1, 1))),
+        ("tag alone", b"S\n".into(), Some((1, 1))),
+        ("tab at the header's end", replaced("w0\n", "w0\t\n"), Some((1, 1))),
+        ("doubled tab", replaced("S\t", "S\t\t"), Some((1, 1))),
+        ("lines end with 13 10", replaced("\n", "\r\n"), Some((1, 1))),
+        ("lines end with 13", replaced("\n", "\r"), Some((7, 1))),
+        ("byte order mark", replaced("S", "\u{feff}S"), Some((1, 1))),
+    ];
+    let edits: [(&[Edit], Option<Refusal>); 61] = [
+        (&[(S, 1, "12"), (S, 2, "x")], Some((2, 1))), // range of a field before the spelling of a later one
+        (&[(B, 1, "2048"), (B, 2, "-0")], Some((5, 3))),
+        (&[(C, 3, "5"), (C, 5, "0")], Some((3, 2))),
+        (&[(S, 6, "k"), (S, 7, "1001")], Some((1, 1))),
+        (&[(S, 6, "js")], Some((1, 1))),
+        (&[(S, 6, "J")], Some((1, 1))),
+        (&[(S, 6, "")], Some((1, 1))),
+        (&[(S, 6, "j")], None),
+        (&[(C, 1, "16"), (C, 68, "256")], Some((4, 2))), // cover after all fields of its line
+        (&[(C, 3, "2")], Some((2, 2))),
+        (&[(C, 4, "2")], Some((2, 2))),
+        (&[(C, 1, "520"), (C, 3, "5")], Some((3, 2))), // own sides have no upper end of their own
+        (&[(C, 1, "999992"), (C, 3, "4")], Some((2, 2))),
+        (&[(C, 1, "65544")], Some((2, 2))),
+        (&[(C, 1, "0")], Some((2, 2))),
+        (&[(C, 1, "12")], Some((2, 2))),
+        (&[(C, 3, "0")], Some((3, 2))),
+        (&[(C, 4, "5")], Some((3, 2))),
+        (&[(S, 1, "40"), (S, 6, "k")], Some((2, 1))), // the limit 32 at its field
+        (&[(S, 1, "40"), (S, 2, "x")], Some((2, 1))),
+        (&[(S, 1, "520")], Some((2, 1))),
+        (&[(S, 1, "32")], None),
+        (&[(S, 2, "32")], None),
+        (&[(S, 1, "0")], Some((2, 1))),
+        (&[(S, 1, "1000000")], Some((1, 1))),
+        (&[(S, 1, "999999")], Some((2, 1))),
+        (&[(S, 1, "08")], Some((1, 1))),
+        (&[(S, 1, "-8")], Some((1, 1))),
+        (&[(S, 1, "+8")], Some((1, 1))),
+        (&[(S, 3, "0")], Some((2, 1))),
+        (&[(S, 3, "9")], Some((2, 1))),
+        (&[(S, 2, "x"), (S, 3, "9")], Some((1, 1))),
+        (&[(S, 5, "2"), (S, 6, "x")], Some((2, 1))),
+        (&[(S, 5, "3")], Some((1, 4))),    // E where a second channel is due
+        (&[(S, 9, "1001")], Some((2, 1))), // spare fields must be legal
+        (&[(S, 9, "1000")], None),
+        (&[(S, 15, "x")], Some((1, 1))),
+        (&[(B, 64, "-0")], Some((1, 3))),
+        (&[(B, 64, "-999999")], Some((5, 3))),
+        (&[(B, 64, "-1000000")], Some((1, 3))),
+        (&[(B, 64, "-01")], Some((1, 3))),
+        (&[(B, 64, "-2047")], None),
+        (&[(B, 64, "-2048")], Some((5, 3))),
+        (&[(B, 64, "2048")], Some((5, 3))),
+        (&[(C, 68, "255")], None),
+        (&[(C, 68, "256")], Some((4, 2))),
+        (&[(C, 68, "0")], Some((4, 2))),
+        (&[(S, 15, "w255")], None),
+        (&[(S, 15, "w256")], Some((6, 1))),
+        (&[(S, 15, "w0256")], Some((1, 1))),
+        (&[(S, 15, "w1000000")], Some((1, 1))),
+        (&[(S, 15, "w")], Some((1, 1))),
+        (&[(S, 15, "w-1")], Some((1, 1))),
+        (&[(S, 15, "1")], Some((1, 1))),
+        (&[(S, 15, "hw1")], Some((1, 1))),
+        (&[(S, 15, "h7F800000")], Some((1, 1))),
+        (&[(S, 15, "h0000000")], Some((1, 1))),
+        (&[(S, 15, "h80000000")], Some((6, 1))),
+        (&[(S, 15, "h7f800001")], Some((6, 1))),
+        (&[(S, 15, "h7f800000")], Some((6, 1))),
+        (&[(S, 15, "h00000001")], None),
+    ];
+    all.extend(edits.iter().map(|(edits, answer)| ("an edited field", edited(edits), *answer)));
+    all
+}
+
+/// Texts about as long as the longest that `smooth` accepts, and beyond, with their answers.
+pub fn long() -> Vec<(Vec<u8>, Option<Refusal>)> {
+    let channel = Channel { w: 32, h: 32, across: 1, down: 1, table: vec![255; 64], levels: vec![-2047; 1024] };
+    let weights = [Weight::Bits(0x3f80_0000); 3];
+    let sheet = Sheet {
+        w: 32,
+        h: 32,
+        picture_w: 32,
+        picture_h: 32,
+        joint: false,
+        counts: [0, 1, 2],
+        smoothing: weights,
+        data: weights,
+        channels: vec![channel; 3],
+    };
+    let whole = sheet.text();
+    let no_end = &whole[..whole.len() - 2];
+    let then = |start: &[u8], bytes: usize, end: &str| [start, &vec![b'a'; bytes], end.as_bytes()].concat();
+    vec![
+        (then(&whole, 1, ""), Some((7, 54))),
+        (then(&whole, 30_000, "\n"), Some((7, 54))),
+        (then(no_end, 0, ""), Some((7, 53))),
+        (then(no_end, 1024, ""), Some((7, 53))),
+        (then(no_end, 1025, ""), Some((1, 53))),
+        (then(no_end, 1024, "\n"), Some((1, 53))),
+        (then(no_end, 1025, "\n"), Some((1, 53))),
+        (then(no_end, 30_000, "\n"), Some((1, 53))),
+        (then(b"", 30_000, ""), Some((1, 1))),
+        (vec![b'\n'; 30_000], Some((1, 1))),
+        (whole, None),
+    ]
+}
+
+/// Sheets that tell readings of document 01 apart by whether a channel is blown.
+pub fn fixed_runs() -> Vec<(&'static str, Sheet, bool)> {
+    let one = read(&example(), 32).expect("legal");
+    let sheet = |joint: bool, channels: usize, counts: [u32; 3], data: [u32; 3]| Sheet {
+        joint,
+        counts,
+        data: data.map(Weight::Bits),
+        channels: vec![one.channels[0].clone(); channels],
+        ..one.clone()
+    };
+    const HUGE: u32 = 0x7f00_0000;
+    vec![
+        ("huge data weight", sheet(true, 1, [1, 0, 0], [HUGE, 0, 0]), true),
+        ("huge data weight, no step", sheet(true, 1, [0, 0, 0], [HUGE, 0, 0]), false),
+        ("separate: the first data weight for channel 1", sheet(false, 3, [0, 1, 0], [HUGE, 0, 0]), true),
+        ("separate: the second data weight is spare", sheet(false, 3, [0, 1, 0], [0, HUGE, 0]), false),
+        ("joint: the first iteration count for all", sheet(true, 3, [0, 1, 0], [HUGE, 0, 0]), false),
+        ("joint: each channel's data weight", sheet(true, 3, [1, 0, 0], [0, 0, HUGE]), true),
+        ("largest data weight with a finite alpha", sheet(true, 1, [1, 0, 0], [0x7ab5_baae, 0, 0]), false),
+        ("smallest data weight with an infinite alpha", sheet(true, 1, [1, 0, 0], [0x7ab5_baaf, 0, 0]), true),
+        ("squares of the gradient overflow", sheet(true, 1, [2, 0, 0], [0x7100_0000, 0, 0]), false),
+    ]
+}
+
+/// Writes texts, each after its length in five digits, and their answers.
+pub fn pack<T>(folder: &Path, texts: &[(T, Vec<u8>)], answers: impl Iterator<Item = String>) {
+    let texts = texts.iter().flat_map(|(_, text)| [format!("{:05}", text.len()).as_bytes(), text].concat());
+    fs::create_dir_all(folder).expect("the folder");
+    fs::write(folder.join("texts"), texts.collect::<Vec<u8>>()).expect("the texts");
+    fs::write(folder.join("answers"), answers.collect::<String>()).expect("the answers");
+}
+
+#[cfg(test)]
+mod tests {
+    use super::*;
+
+    #[test]
+    fn fixed_texts() {
+        for (name, text, answer) in fixed() {
+            assert_eq!(read(&text, 32).err(), answer, "{name}: {}", String::from_utf8_lossy(&text));
+        }
+        for (text, answer) in long() {
+            assert_eq!(read(&text, 32).err(), answer, "{} bytes", text.len());
+        }
+    }
+
+    #[test]
+    fn sides_up_to_512_in_the_library() {
+        assert_eq!(read(&edited(&[(0, 1, "512")]), 512).err(), None);
+        assert_eq!(read(&edited(&[(0, 1, "520")]), 512).err(), Some((2, 1)));
+        assert_eq!(read(&edited(&[(0, 1, "40"), (0, 6, "k")]), 512).err(), Some((1, 1)));
+    }
+
+    #[test]
+    fn written_sheets_are_read_back() {
+        let mut r = Random::new(1);
+        for limit in [32, 512] {
+            for _ in 0..300 {
+                let sheet = legal(&mut r, limit, 1000);
+                assert_eq!(read(&sheet.text(), limit), Ok(sheet));
+            }
+        }
+    }
+}
