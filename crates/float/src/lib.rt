@@ -1,4 +1,5 @@
-// Arithmetic on f32 that rounds once: the methods `mul_add`, `midpoint` and `sqrt` of Rust, from whole numbers.
+// Arithmetic on f32 as the ported Rust has it: the methods `mul_add`, `midpoint` and `sqrt`, from whole numbers and rounded once, the
+// macro `mul_add!`, `powi(2)` and `clamp`. Each is total: NaN, infinities, subnormals and both zeros included.
 pub mod add;
 pub mod bits;
 pub mod parts;
@@ -8,7 +9,8 @@ pub mod round;
 ghost use mathlib.Core.Path.{_≡_};
 ghost use Rattle.float.specs.Ops.{atLeast, atMost, clamp, fused, midpoint, mulAdd, root, square};
 
-// a * b + c, rounded once.
+// The method `mul_add`: a * b + c, rounded once.
+// Ruled out: the product rounded before the sum (0 for 1 + 2^-23, 1 - 2^-23, -1); -0 where the exact sum cancels.
 pub fn mul_add(a: f32, b: f32, c: f32) -> f32
     ensures { λ r. ⌜ r ≡ fused a b c ⌝ }
 {
@@ -34,7 +36,8 @@ pub fn mul_add(a: f32, b: f32, c: f32) -> f32
     )
 }
 
-// (a + b) / 2, rounded once.
+// The function `f32::midpoint`: (a + b) / 2, rounded once.
+// Ruled out: an infinity for two largest values, whose sum overflows; a half sum of subnormals that loses its last digit before it is rounded.
 pub fn midpoint(a: f32, b: f32) -> f32
     ensures { λ r. ⌜ r ≡ midpoint a b ⌝ }
 {
@@ -49,7 +52,8 @@ pub fn midpoint(a: f32, b: f32) -> f32
     add::add_round(p.neg, p.m, p.x + 276, q.neg, q.m, q.x + 276)
 }
 
-// The square root, rounded once.
+// The method `sqrt`: the square root, rounded once.
+// Ruled out: the root cut off where the next value is nearer; +0 for -0.
 pub fn sqrt(x: f32) -> f32
     ensures { λ r. ⌜ r ≡ root x ⌝ }
 {
@@ -70,13 +74,15 @@ pub fn sqrt(x: f32) -> f32
 }
 
 // The macro `mul_add!`: the product is rounded, then the sum.
+// Ruled out: the fused product; the sum of a and b rounded first.
 pub fn mul_add_rounded(a: f32, b: f32, c: f32) -> f32
     ensures { λ r. ⌜ r ≡ mulAdd a b c ⌝ }
 {
     a * b + c
 }
 
-// `powi(2)`.
+// The method `powi(2)`: one rounded square.
+// Ruled out: |x|; an exact square that is not rounded to f32.
 pub fn powi2(x: f32) -> f32
     ensures { λ r. ⌜ r ≡ square x ⌝ }
 {
@@ -104,6 +110,7 @@ fn at_most(x: f32, high: f32) -> f32
 }
 
 // The method `clamp`: x, or the end that it lies beyond; a NaN stays.
+// Ruled out: an end for a NaN; +0 for a -0 that equals an end.
 pub fn clamp(x: f32, low: f32, high: f32) -> f32
     ensures { λ r. ⌜ r ≡ clamp x low high ⌝ }
 {
