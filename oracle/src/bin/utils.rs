@@ -144,10 +144,10 @@ fn list(count: u64, seed: u64) -> ExitCode {
         if i % 8 == 6 {
             let (word, rust, _) = REARRANGE[i / 8 % 2];
             let out = rearranged(rust, &image, &vec![0.0; image.len()], (x.0, y.0));
-            println!("{word} {} {}{}", x.0, y.0, words(&out));
+            println!("{word} {:x} {:x}{}", x.0, y.0, words(&out));
         } else {
             let out = upsampled(&image, x, y);
-            println!("up {} {} {} {} {} {}{}", x.0, y.0, x.1, y.1, x.2, y.2, words(&out));
+            println!("up {:x} {:x} {:x} {:x} {:x} {:x}{}", x.0, y.0, x.1, y.1, x.2, y.2, words(&out));
         }
     }
     ExitCode::SUCCESS

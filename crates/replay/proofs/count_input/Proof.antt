@@ -2,8 +2,8 @@ use mathlib.Core.Path.{_≡_}
 use Prim.Native.Nat.{_≤_, _-_}
 use lib.ListN.{length}
 use borrow.Author.Needs.{needs}
-use Rattle.replay_float.proofs.count_input.Statement.{statement}
-use Rattle.replay_float.proofs.count_input.Tie as tie
+use Rattle.replay.proofs.count_input.Statement.{statement}
+use Rattle.replay.proofs.count_input.Tie as tie
 
 abbrev Inv-loop : tie.InvT-loop
 Inv-loop text₀ turns tally₀ from₀ to₀ counter₀ text tally from to counter = (from ≤ to) × (to ≤ length text₀) × (counter ≤ turns) × (length text ≡ length text₀)

@@ -1,8 +1,8 @@
 use Prim.Native.Nat.{_≤_, _-_}
 use lib.ListN.{length}
 use borrow.Author.Needs.{needs}
-use Rattle.replay_float.proofs.count_lines.Statement.{statement}
-use Rattle.replay_float.proofs.count_lines.Tie as tie
+use Rattle.replay.proofs.count_lines.Statement.{statement}
+use Rattle.replay.proofs.count_lines.Tie as tie
 
 abbrev Inv-loop : tie.InvT-loop
 Inv-loop s to so-far₀ at₀ so-far at = (at ≤ to) × (to ≤ length s)

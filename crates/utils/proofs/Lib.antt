@@ -1,0 +1,10 @@
+-- Laws of the definitions.
+pub mod Divided
+pub mod Opened
+pub mod Places
+pub mod Scatter
+pub mod Moves
+pub mod Lengths
+pub mod Blockwise
+pub mod Upsampled
+pub mod Examples

@@ -1,0 +1,30 @@
+-- Each definition as its loops, with nothing unrolled: for proofs that go through the loops.
+use mathlib.Core.Path.{_≡_, refl}
+use mathlib.Core.List.{List}
+use Prim.Native.Nat.{ℕ}
+use lib.Ieee.{Float}
+use Rattle.fold.specs.Fold.{upto}
+use Rattle.utils.specs.Auxiliary.{upsamplePixels, upsampleRow}
+use Rattle.utils.specs.Blocks.{fromBlocks, moveLines, rowIndex, rowStart, toBlocks}
+use Rattle.utils.specs.Dct.{columnsRows, dct8, dct8x8, idct8, idct8x8}
+
+pub idct-is : (s : List Float) → columnsRows idct8 s ≡ idct8x8 s
+unfolding idct8x8
+idct-is s = refl
+
+pub dct-is : (s : List Float) → columnsRows dct8 s ≡ dct8x8 s
+unfolding dct8x8
+dct-is s = refl
+
+pub from-is : (w bw bh : ℕ) (input output : List Float) → moveLines (rowIndex bw) (rowStart w) input bw bh output ≡ fromBlocks w bw bh input output
+unfolding fromBlocks
+from-is w bw bh input output = refl
+
+pub to-is : (w bw bh : ℕ) (input output : List Float) → moveLines (rowStart w) (rowIndex bw) input bw bh output ≡ toBlocks w bw bh input output
+unfolding toBlocks
+to-is w bw bh input output = refl
+
+pub upsample-is : (image : List Float) (w h across down W H : ℕ) (out : List Float)
+    → upto (upsampleRow image w h across down W) H out ≡ upsamplePixels image w h across down W H out
+unfolding upsamplePixels
+upsample-is image w h across down W H out = refl
