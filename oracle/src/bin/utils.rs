@@ -78,9 +78,29 @@ fn equal(xs: &[f32], ys: &[f32]) -> bool {
     xs.len() == ys.len() && xs.iter().zip(ys).all(|(x, y)| same(*x, *y))
 }
 
+/// The constants of dct.rs, by name.
+const CONSTANTS: [(&str, f32); 8] = [
+    ("C8_1R", dct::C8_1R),
+    ("C8_1I", dct::C8_1I),
+    ("C8_2R", dct::C8_2R),
+    ("C8_2I", dct::C8_2I),
+    ("C8_3R", dct::C8_3R),
+    ("C8_3I", dct::C8_3I),
+    ("C8_4R", dct::C8_4R),
+    ("W8_4R", dct::W8_4R),
+];
+
+/// The definitions of the transforms, whose constants are written as bits.
+const DEFINITIONS: &str = include_str!("../../../crates/utils/specs/Dct.antt");
+
 fn compare(seed: u64, count: u64) -> ExitCode {
     let (mut r, mut tally) = (Random::new(seed), Tally::default());
     println!("seed {seed}");
+    tally.kind("constants of the definitions");
+    for (name, value) in CONSTANTS {
+        let line = format!("\n{name} = ofBits binary32 0x{:08x}\n", value.to_bits());
+        tally.count(DEFINITIONS.contains(&line), || line);
+    }
     for (word, rust, proved) in TRANSFORMS {
         for (name, make) in KINDS {
             tally.kind(&format!("{word} {name}"));
