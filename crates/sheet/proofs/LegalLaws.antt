@@ -1,0 +1,328 @@
+-- Every sheet that is read is legal.
+use Prim.Native.Nat.{ℕ, zero, suc, _+_, _-_, _*_, _/_, _%_, _<_, _≤_}
+use mathlib.Core.Path.{_≡_, refl, sym, ap, _∙_, subst}
+use mathlib.Core.List.{List, [], _∷_, _++_, append-nil}
+use mathlib.Core.Bool.{Bool, true, false, cond, _&&_}
+use mathlib.Core.Logic.{_⊎_, ⊎-elim}
+use mathlib.Core.Option.{Option, none, some}
+use native.Mathlib.Numerals.{add-one}
+use native.Mathlib.Nat.{mul-div-cancel-left}
+use native.Mathlib.Omega.{arith}
+use lib.ListN.{length, getD, drop, replicate, length-append, length-drop}
+use lib.Dec.{eqb, leb, ltb}
+use lib.IntN.{ℤ}
+use borrow.Author.Tests.{eqb-true, eqb-false, leb-true, ltb-true, ltb-false, eq-eqb, ne-eqb}
+use Rattle.text.specs.declared.field.Rule.{Rule}
+use Rattle.text.specs.declared.field.Rule.the-variants as rule
+use Rattle.text.specs.Pieces.{split}
+use Rattle.text.specs.Numbers.{numberAt}
+use Rattle.text.specs.Weights.{weightAt}
+use Rattle.text.specs.Fields.{isSide, fieldOf, faultIn}
+use Rattle.text.specs.Legal.{Between, LegalSide}
+use Rattle.text.proofs.GoodLaws.{both-left, both-right, side-is, range-good, side-good, channels-good, weight-good}
+use Rattle.sheet.specs.declared.Header.{Header}
+use Rattle.sheet.specs.declared.Channel.{Channel}
+use Rattle.sheet.specs.declared.Sheet.{Sheet}
+use Rattle.sheet.specs.declared.state.State.{State}
+use Rattle.sheet.specs.declared.state.Taken.the-variants as taken
+use Rattle.sheet.specs.Lines.{headerRules, channelRules, blockRules, rulesOf, firstFault, fieldsFault, lineLevels, lineTables, headerOf, channelOf, recordOf, noChannel}
+use Rattle.sheet.specs.Reading.{Outcome, Contents, contents, headed, blank, expectedTag, placed, opened, covers, takenOf, isLast, lineFault, nothingLeft, onFault, onTaken, readFrom, readText}
+use Rattle.sheet.specs.Reading.Outcome.{Gives, Refused}
+use Rattle.sheet.specs.Legal.{LegalHeader, LegalChannel, channelAt, levelsTo, LegalQuantisers, LegalLevels, LegalSheet}
+use Rattle.sheet.proofs.GoodLines.{fault-at, fault-drop, tables-without, levels-without, channel-tables, block-levels, all-quantisers, all-levels}
+
+-- Good lines
+
+header-is-legal : (limit : ℕ) (fs : List (List ℕ)) → length fs ≡ 16 → firstFault (headerRules limit fs) fs ≡ none → LegalHeader limit (headerOf fs)
+unfolding headerOf numberAt weightAt
+header-is-legal limit fs n e =
+    record {
+      width = side-good (getD fs 1 []) limit (at 1 (omega arith));
+      height = side-good (getD fs 2 []) limit (at 2 (omega arith));
+      shown-width = range-good (getD fs 3 []) 2 1 (numberAt fs 1) (at 3 (omega arith));
+      shown-height = range-good (getD fs 4 []) 2 1 (numberAt fs 2) (at 4 (omega arith));
+      channels = channels-good (getD fs 5 []) (at 5 (omega arith));
+      iterations0 = range-good (getD fs 7 []) 2 0 1000 (at 7 (omega arith)) .top;
+      iterations1 = range-good (getD fs 8 []) 2 0 1000 (at 8 (omega arith)) .top;
+      iterations2 = range-good (getD fs 9 []) 2 0 1000 (at 9 (omega arith)) .top;
+      smoothing0 = weight-good (getD fs 10 []) (at 10 (omega arith));
+      smoothing1 = weight-good (getD fs 11 []) (at 11 (omega arith));
+      smoothing2 = weight-good (getD fs 12 []) (at 12 (omega arith));
+      data0 = weight-good (getD fs 13 []) (at 13 (omega arith));
+      data1 = weight-good (getD fs 14 []) (at 14 (omega arith));
+      data2 = weight-good (getD fs 15 []) (at 15 (omega arith));
+    }
+  where
+    at : (i : ℕ) → i < 16 → faultIn (fieldOf (getD (headerRules limit fs) i (rule.Tag 0)) (getD fs i [])) ≡ none
+    at i h = fault-at (headerRules limit fs) fs i e h (omega arith)
+
+channel-is-legal : (h : Header) (fs : List (List ℕ)) → length fs ≡ 69 → firstFault channelRules fs ≡ none → covers h (channelOf fs) ≡ true → LegalChannel h (channelOf fs)
+unfolding channelOf numberAt
+channel-is-legal h fs n e v =
+    let c = channelOf fs in
+    let w = leb (c .width * c .across) (h .width) in
+    let d = leb (c .height * c .down) (h .height) in
+    record {
+      width = side-good (getD fs 1 []) 999999 (at 1 (omega arith));
+      height = side-good (getD fs 2 []) 999999 (at 2 (omega arith));
+      across = range-good (getD fs 3 []) 3 1 4 (at 3 (omega arith));
+      down = range-good (getD fs 4 []) 3 1 4 (at 4 (omega arith));
+      wide = leb-true (c .width * c .across) (h .width) (both-left w d v);
+      high = leb-true (c .height * c .down) (h .height) (both-right w d v);
+    }
+  where
+    at : (i : ℕ) → i < 69 → faultIn (fieldOf (getD channelRules i (rule.Tag 0)) (getD fs i [])) ≡ none
+    at i k = fault-at channelRules fs i e k (omega arith)
+
+more-quantisers : (xs ys : List ℕ) → LegalQuantisers xs → LegalQuantisers ys → LegalQuantisers (xs ++ ys)
+more-quantisers [] ys a b = b
+more-quantisers (q ∷ xs) ys a b = (a .0, more-quantisers xs ys (a .1) b)
+
+more-levels : (xs ys : List ℤ) → LegalLevels xs → LegalLevels ys → LegalLevels (xs ++ ys)
+more-levels [] ys a b = b
+more-levels (z ∷ xs) ys a b = (a .0, more-levels xs ys (a .1) b)
+
+-- The sheet so far
+
+record Begun (limit : ℕ) (s : State) (ls : List ℤ) (ts : List ℕ) : Type 0 where
+  begun : s .begun ≡ true
+  header : LegalHeader limit (s .sheet .header)
+  upto : s .read ≤ s .sheet .header .channels
+  channel : (j : ℕ) → j < s .read → LegalChannel (s .sheet .header) (channelAt (s .sheet) j)
+  spare : (j : ℕ) → s .read ≤ j → j < 3 → channelAt (s .sheet) j ≡ noChannel
+  levels-count : length ls + 64 * s .left ≡ levelsTo (s .sheet) (s .read)
+  tables-count : length ts ≡ 64 * s .read
+  levels : LegalLevels ls
+  tables : LegalQuantisers ts
+
+few : (limit : ℕ) (h : Header) → LegalHeader limit h → h .channels ≤ 3
+few limit h l = ⊎-elim (λ e. omega arith) (λ e. omega arith) (l .channels)
+
+-- a channel at its place leaves the others
+placed-other : (s : Sheet) (r : ℕ) (c : Channel) (j : ℕ) → (j ≡ r → ⊥) → j < 3 → channelAt (placed s r c) j ≡ channelAt s j
+placed-other s r c zero h k = rw (ne-eqb r 0 (λ e. h (sym e)))
+placed-other s r c (suc zero) h k = rw (ne-eqb r 1 (λ e. h (sym e)))
+placed-other s r c (suc (suc zero)) h k = rw (ne-eqb r 2 (λ e. h (sym e)))
+placed-other s r c (suc (suc (suc j))) h k = let y : ⊥ = omega arith in absurd y
+
+placed-there : (s : Sheet) (r : ℕ) (c : Channel) → r < 3 → channelAt (placed s r c) r ≡ c
+placed-there s zero c k = refl
+placed-there s (suc zero) c k = refl
+placed-there s (suc (suc zero)) c k = refl
+placed-there s (suc (suc (suc r))) c k = let y : ⊥ = omega arith in absurd y
+
+levels-same : (s t : Sheet) (n : ℕ) → ((j : ℕ) → j < n → channelAt t j ≡ channelAt s j) → levelsTo t n ≡ levelsTo s n
+levels-same s t zero f = refl
+levels-same s t (suc n) f = rw (levels-same s t n (λ j h. f j (omega arith)), f n (omega arith))
+
+blocks : (w h : ℕ) → w % 8 ≡ 0 → h % 8 ≡ 0 → 64 * (w * h / 64) ≡ w * h
+blocks w h p q =
+    let a : w ≡ 8 * (w / 8) = omega arith in
+    let b : h ≡ 8 * (h / 8) = omega arith in
+    let c : (8 * (w / 8)) * (8 * (h / 8)) ≡ 64 * ((w / 8) * (h / 8)) = omega arith in
+    let d : w * h ≡ 64 * ((w / 8) * (h / 8)) = ap (λ (x : ℕ). x * h) a ∙ ap (λ (y : ℕ). (8 * (w / 8)) * y) b ∙ c in
+    ap (λ (x : ℕ). 64 * (x / 64)) d ∙ ap (λ (x : ℕ). 64 * x) (mul-div-cancel-left ((w / 8) * (h / 8)) {n = 64} (omega arith)) ∙ sym d
+
+-- A line that is no refusal
+
+record Line (tag limit : ℕ) (fs : List (List ℕ)) (X T : Outcome Contents) : Type 0 where
+  count : length fs ≡ length (rulesOf tag limit fs)
+  fault : firstFault (rulesOf tag limit fs) fs ≡ none
+  more : X ≡ T
+
+fields-count : (a b : ℕ) (m : Option ℕ) → cond (eqb a b) m (some 1) ≡ none → (a ≡ b) × (m ≡ none)
+fields-count a b m e = two (eqb a b) refl e
+  where
+    two : (t : Bool) → eqb a b ≡ t → cond t m (some 1) ≡ none → (a ≡ b) × (m ≡ none)
+    two true p o = (eqb-true a b p, o)
+    two false p o = let z : _≡_ {A = ℕ} 0 1 = cc in let y : ⊥ = omega arith in absurd y
+
+line-fields : (u v : Bool) (m : Option ℕ) → cond u (some 1) (cond v (some 7) m) ≡ none → m ≡ none
+line-fields true v m e = let z : _≡_ {A = ℕ} 0 1 = cc in let y : ⊥ = omega arith in absurd y
+line-fields false true m e = let z : _≡_ {A = ℕ} 0 1 = cc in let y : ⊥ = omega arith in absurd y
+line-fields false false m e = e
+
+no-fault : (m : Option ℕ) (k : ℕ) (X : Outcome Contents) (c : Contents) → onFault m k X ≡ Gives c → (m ≡ none) × (X ≡ Gives c)
+no-fault none k X c e = (refl, e)
+no-fault (some j) k X c e = let z : _≡_ {A = ℕ} 0 1 = cc in let y : ⊥ = omega arith in absurd y
+
+line-is : (tag limit k : ℕ) (p : List ℕ) (rest : List (List ℕ)) (X : Outcome Contents) (c : Contents)
+    → onFault (lineFault limit tag p rest) k X ≡ Gives c → Line tag limit (split 9 p) X (Gives c)
+unfolding lineFault fieldsFault
+line-is tag limit k p rest X c e =
+    let f = no-fault (lineFault limit tag p rest) k X c e in
+    let g = fields-count (length (split 9 p)) (length (rulesOf tag limit (split 9 p))) (firstFault (rulesOf tag limit (split 9 p)) (split 9 p))
+    (line-fields (ltb 1024 (length p)) (isLast rest) (fieldsFault (rulesOf tag limit (split 9 p)) (split 9 p)) (f .0)) in
+    record { count = g .0; fault = g .1; more = f .1 }
+
+-- One line, then the others
+
+abbrev LegalContents : ℕ → Contents → Type 0
+LegalContents limit c = LegalSheet limit (c .sheet) (c .levels) (c .tables)
+
+module _ (limit : ℕ) (most : LegalSide 512 limit) (p : List ℕ) (rest : List (List ℕ)) (C : Contents)
+    (ih : (s : State) (ls : List ℤ) (ts : List ℕ) (k : ℕ) → Begun limit s ls ts → readFrom limit s ls ts k rest ≡ Gives C → LegalContents limit C) where
+  first-line : (k : ℕ) → readFrom limit blank [] [] k (p ∷ rest) ≡ Gives C → LegalContents limit C
+  unfolding blank expectedTag rulesOf takenOf recordOf
+  first-line k e =
+      let l = line-is 83 limit k p rest _ C e in
+      let fs = split 9 p in
+      ih (record { begun = true; sheet = headed (headerOf fs); read = 0; left = 0 }) [] [] (k + 1)
+      (record {
+        begun = refl;
+        header = header-is-legal limit fs (l .count) (l .fault);
+        upto = omega arith;
+        channel = λ j h. let y : ⊥ = omega arith in absurd y;
+        spare = λ j h. none-yet j (headerOf fs);
+        levels-count = omega arith;
+        tables-count = omega arith;
+        levels = tt;
+        tables = tt;
+      })
+      (rw (levels-without (headerRules limit fs) fs refl, tables-without (headerRules limit fs) fs refl) at (l .more))
+    where
+      none-yet : (j : ℕ) (h : Header) → j < 3 → channelAt (headed h) j ≡ noChannel
+      none-yet zero h k = refl
+      none-yet (suc zero) h k = refl
+      none-yet (suc (suc zero)) h k = refl
+      none-yet (suc (suc (suc j))) h k = let y : ⊥ = omega arith in absurd y
+
+  module _ (s : State) (ls : List ℤ) (ts : List ℕ) (k : ℕ) (b : Begun limit s ls ts) where
+    tag-is : (u v : Bool) → ltb 0 (s .left) ≡ u → ltb (s .read) (s .sheet .header .channels) ≡ v → expectedTag s ≡ cond u 66 (cond v 67 69)
+    unfolding expectedTag
+    tag-is u v p q = rw (b .begun, p, q)
+
+    block-line : ltb 0 (s .left) ≡ true → readFrom limit s ls ts k (p ∷ rest) ≡ Gives C → LegalContents limit C
+    unfolding rulesOf takenOf recordOf
+    block-line u e =
+        let g : expectedTag s ≡ 66 = tag-is true (ltb (s .read) (s .sheet .header .channels)) u refl in
+        let l = line-is 66 limit k p rest _ C (rw g at e) in
+        let fs = split 9 p in
+        let a = all-levels 64 (drop 1 fs) (length-drop 1 fs ∙ omega (arith, l .count)) (fault-drop 1 blockRules fs (l .fault)) in
+        let vs = lineLevels (replicate 64 rule.Level) (drop 1 fs) in
+        ih (record { begun = s .begun; sheet = s .sheet; read = s .read; left = s .left - 1 }) (ls ++ vs) ts (k + 1)
+        (record {
+          begun = b .begun;
+          header = b .header;
+          upto = b .upto;
+          channel = b .channel;
+          spare = b .spare;
+          levels-count = rw (length-append ls vs) (omega (arith, a .1, b .levels-count, ltb-true 0 (s .left) u));
+          tables-count = b .tables-count;
+          levels = more-levels ls vs (b .levels) (a .0);
+          tables = b .tables;
+        })
+        (rw (u, block-levels fs, tables-without blockRules fs refl, append-nil ts) at (l .more))
+
+    channel-line : ltb 0 (s .left) ≡ false → ltb (s .read) (s .sheet .header .channels) ≡ true → readFrom limit s ls ts k (p ∷ rest) ≡ Gives C → LegalContents limit C
+    unfolding rulesOf takenOf recordOf
+    channel-line u v e =
+        let g : expectedTag s ≡ 67 = tag-is false true u v in
+        let l = line-is 67 limit k p rest _ C (rw g at e) in
+        let fs = split 9 p in
+        covered (covers (s .sheet .header) (channelOf fs)) refl (l .count) (l .fault) (rw (v, channel-tables fs, levels-without channelRules fs refl, append-nil ls) at (l .more))
+      where
+        fs : List (List ℕ)
+        fs = split 9 p
+
+        c : Channel
+        c = channelOf fs
+
+        qs : List ℕ
+        qs = lineTables (replicate 64 rule.Quantiser) (drop 5 fs)
+
+        covered : (x : Bool) → covers (s .sheet .header) c ≡ x → length fs ≡ 69 → firstFault channelRules fs ≡ none
+            → onTaken (cond x (taken.Good (opened s c)) (taken.Bad 2)) k (λ t. readFrom limit t ls (ts ++ qs) (k + 1) rest) ≡ Gives C
+            → LegalContents limit C
+        covered false i n f o = let z : _≡_ {A = ℕ} 0 1 = cc in let y : ⊥ = omega arith in absurd y
+        covered true i n f o =
+            let t = opened s c in
+            let good : LegalChannel (s .sheet .header) c = channel-is-legal (s .sheet .header) fs n f i in
+            let r : s .read ≤ 2 = omega (arith, ltb-true (s .read) (s .sheet .header .channels) v, few limit (s .sheet .header) (b .header)) in
+            let a = all-quantisers 64 (drop 5 fs) (length-drop 5 fs ∙ omega arith) (fault-drop 5 channelRules fs f) in
+            let all : levelsTo (t .sheet) (s .read + 1) ≡ levelsTo (s .sheet) (s .read) + c .width * c .height =
+            ap (λ (n : ℕ). levelsTo (t .sheet) n) (add-one (s .read))
+            ∙ ap (λ (n : ℕ). n + channelAt (t .sheet) (s .read) .width * channelAt (t .sheet) (s .read) .height)
+            (levels-same (s .sheet) (t .sheet) (s .read) (λ q h. placed-other (s .sheet) (s .read) c q (λ w. omega arith) (omega arith)))
+            ∙ ap (λ (d : Channel). levelsTo (s .sheet) (s .read) + d .width * d .height) (placed-there (s .sheet) (s .read) c (omega arith)) in
+            let kept : length ls + 64 * (c .width * c .height / 64) ≡ levelsTo (s .sheet) (s .read) + c .width * c .height =
+            omega (arith, blocks (c .width) (c .height) (good .width .whole) (good .height .whole), b .levels-count, ltb-false 0 (s .left) u) in
+            ih t ls (ts ++ qs) (k + 1)
+            (record {
+              begun = refl;
+              header = b .header;
+              upto = omega (arith, ltb-true (s .read) (s .sheet .header .channels) v);
+              channel = λ q h. which q r good (eqb q (s .read)) refl (omega arith);
+              spare = λ q h w. placed-other (s .sheet) (s .read) c q (λ x. omega arith) w ∙ b .spare q (omega arith) w;
+              levels-count = kept ∙ sym all;
+              tables-count = rw (length-append ts qs) (omega (arith, a .1, b .tables-count));
+              levels = b .levels;
+              tables = more-quantisers ts qs (b .tables) (a .0);
+            })
+            o
+          where
+            which : (q : ℕ) → s .read ≤ 2 → LegalChannel (s .sheet .header) c → (t : Bool) → eqb q (s .read) ≡ t → q < s .read + 1
+                → LegalChannel (s .sheet .header) (channelAt (placed (s .sheet) (s .read) c) q)
+            which q r good true z h = rw (eqb-true q (s .read) z, placed-there (s .sheet) (s .read) c (omega arith)) good
+            which q r good false z h =
+                let less : q < s .read = omega (arith, eqb-false q (s .read) z) in
+                rw (placed-other (s .sheet) (s .read) c q (eqb-false q (s .read) z) (omega arith)) (b .channel q less)
+
+    end-line : ltb 0 (s .left) ≡ false → ltb (s .read) (s .sheet .header .channels) ≡ false → readFrom limit s ls ts k (p ∷ rest) ≡ Gives C → LegalContents limit C
+    end-line u v e =
+        let g : expectedTag s ≡ 69 = tag-is false false u v in
+        let l = line-is 69 limit k p rest _ C (rw g at e) in
+        ended (nothingLeft rest) (l .more)
+      where
+        ended : (t : Bool) → cond t (contents (s .sheet) ls ts) (Refused 7 (k + 1)) ≡ Gives C → LegalContents limit C
+        ended false o = let z : _≡_ {A = ℕ} 0 1 = cc in let y : ⊥ = omega arith in absurd y
+        ended true o =
+            let x : s .read ≡ s .sheet .header .channels = omega (arith, b .upto, ltb-false (s .read) (s .sheet .header .channels) v) in
+            let all : length ls ≡ levelsTo (s .sheet) (s .read) = omega (arith, b .levels-count, ltb-false 0 (s .left) u) in
+            let r : LegalContents limit (record { sheet = s .sheet; levels = ls; tables = ts }) =
+            record {
+              most = most;
+              header = b .header;
+              channel = λ j h. b .channel j (omega arith);
+              spare = λ j h w. b .spare j (omega arith) w;
+              levels-count = all ∙ ap (λ (n : ℕ). levelsTo (s .sheet) n) x;
+              tables-count = b .tables-count ∙ ap (λ (n : ℕ). 64 * n) x;
+              levels = b .levels;
+              tables = b .tables;
+            } in
+            subst (LegalContents limit) (same (record { sheet = s .sheet; levels = ls; tables = ts }) C o) r
+          where
+            same : (A B : Contents) → Gives A ≡ Gives B → A ≡ B
+            same A B q = cc
+
+    any-line : readFrom limit s ls ts k (p ∷ rest) ≡ Gives C → LegalContents limit C
+    any-line e = two (ltb 0 (s .left)) (ltb (s .read) (s .sheet .header .channels)) refl refl
+      where
+        two : (u v : Bool) → ltb 0 (s .left) ≡ u → ltb (s .read) (s .sheet .header .channels) ≡ v → LegalContents limit C
+        two true v p q = block-line p e
+        two false true p q = channel-line p q e
+        two false false p q = end-line p q e
+
+refusal : (k j : ℕ) (C : Contents) {A : Type 0} → Refused k j ≡ Gives C → A
+refusal k j C e = let z : _≡_ {A = ℕ} 0 1 = cc in let y : ⊥ = omega arith in absurd y
+
+legal-from : (limit : ℕ) → LegalSide 512 limit → (ps : List (List ℕ)) (C : Contents) (s : State) (ls : List ℤ) (ts : List ℕ) (k : ℕ)
+    → Begun limit s ls ts → readFrom limit s ls ts k ps ≡ Gives C → LegalContents limit C
+legal-from limit m [] C s ls ts k b e = refusal 7 k C e
+legal-from limit m (p ∷ rest) C s ls ts k b e = any-line limit m p rest C (legal-from limit m rest C) s ls ts k b e
+
+-- Every sheet that is read is legal
+pub legal : (limit : ℕ) (text : List ℕ) (s : Sheet) (ls : List ℤ) (ts : List ℕ) → readText limit text ≡ contents s ls ts → LegalSheet limit s ls ts
+unfolding readText
+legal limit text s ls ts e = two (isSide 512 limit) refl e
+  where
+    C : Contents
+    C = record { sheet = s; levels = ls; tables = ts }
+
+    by : LegalSide 512 limit → (ps : List (List ℕ)) → readFrom limit blank [] [] 1 ps ≡ Gives C → LegalSheet limit s ls ts
+    by m [] o = refusal 7 1 C o
+    by m (p ∷ rest) o = first-line limit m p rest C (legal-from limit m rest C) 1 o
+
+    two : (b : Bool) → isSide 512 limit ≡ b → cond b (readFrom limit blank [] [] 1 (split 10 text)) (Refused 2 0) ≡ Gives C → LegalSheet limit s ls ts
+    two true p o = by (side-is 512 limit p) (split 10 text) o
+    two false p o = refusal 2 0 C o

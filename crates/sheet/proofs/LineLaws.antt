@@ -1,0 +1,201 @@
+-- The lines by the tests that the code makes.
+use Prim.Native.Nat.{ℕ, zero, suc, _+_, _-_, _<_, _≤_}
+use mathlib.Core.Path.{_≡_, refl, sym, ap, _∙_}
+use mathlib.Core.List.{List, [], _∷_, _++_}
+use mathlib.Core.Bool.{Bool}
+use native.Mathlib.Omega.{arith}
+use lib.ListN.{length, getD, take, replicate, getD-replicate}
+use lib.Seq.{getD-append-add}
+use borrow.Author.Tests.{eq-eqb, ne-eqb}
+use Rattle.text.specs.declared.weight.Weight.{Weight}
+use Rattle.text.specs.declared.field.Rule.{Rule}
+use Rattle.text.specs.declared.field.Rule.the-variants as rule
+use Rattle.text.specs.Numbers.{numberAt}
+use Rattle.text.specs.Weights.{weightAt}
+use Rattle.text.specs.Fields.{letter}
+use Rattle.sheet.specs.declared.Header.{Header}
+use Rattle.sheet.specs.declared.Channel.{Channel}
+use Rattle.sheet.specs.declared.line.Record.the-variants as line
+use Rattle.sheet.specs.Lines.{count, factor, ownSide, headerRules, channelRules, blockRules, rulesOf, fieldCount, headerOf, channelOf, recordOf}
+
+-- What a header line holds
+
+pub header-is : (fs : List (List ℕ)) (w h pw ph c : ℕ) (j : Bool) (n0 n1 n2 : ℕ) (s0 s1 s2 d0 d1 d2 : Weight)
+    → w ≡ numberAt fs 1 → h ≡ numberAt fs 2 → pw ≡ numberAt fs 3 → ph ≡ numberAt fs 4 → c ≡ numberAt fs 5 → j ≡ letter 106 (getD fs 6 [])
+    → n0 ≡ numberAt fs 7 → n1 ≡ numberAt fs 8 → n2 ≡ numberAt fs 9
+    → s0 ≡ weightAt fs 10 → s1 ≡ weightAt fs 11 → s2 ≡ weightAt fs 12 → d0 ≡ weightAt fs 13 → d1 ≡ weightAt fs 14 → d2 ≡ weightAt fs 15
+    → record {
+      width = w;
+      height = h;
+      «picture_width» = pw;
+      «picture_height» = ph;
+      channels = c;
+      joint = j;
+      iterations0 = n0;
+      iterations1 = n1;
+      iterations2 = n2;
+      smoothing0 = s0;
+      smoothing1 = s1;
+      smoothing2 = s2;
+      data0 = d0;
+      data1 = d1;
+      data2 = d2;
+    } ≡ headerOf fs
+unfolding headerOf
+header-is fs w h pw ph c j n0 n1 n2 s0 s1 s2 d0 d1 d2 e1 e2 e3 e4 e5 e6 e7 e8 e9 e10 e11 e12 e13 e14 e15 =
+    rw (e1, e2, e3, e4, e5, e6, e7, e8, e9, e10, e11, e12, e13, e14, e15)
+
+-- Tags
+
+module _ (t : ℕ) where
+  pub count-B : t ≡ 66 → 65 ≡ fieldCount t
+  unfolding fieldCount
+  count-B e = rw (eq-eqb t 66 e)
+
+  pub count-C : t ≡ 67 → 69 ≡ fieldCount t
+  unfolding fieldCount
+  count-C e = rw e
+
+  pub count-S : t ≡ 83 → 16 ≡ fieldCount t
+  unfolding fieldCount
+  count-S e = rw e
+
+  pub count-E : (t ≡ 83 → ⊥) → (t ≡ 67 → ⊥) → (t ≡ 66 → ⊥) → 1 ≡ fieldCount t
+  unfolding fieldCount
+  count-E s c b = rw (ne-eqb t 66 b, ne-eqb t 67 c, ne-eqb t 83 s)
+
+  pub record-S : (fs : List (List ℕ)) (h : Header) → t ≡ 83 → h ≡ headerOf fs → line.Header h ≡ recordOf t fs
+  unfolding recordOf
+  record-S fs h e q = rw (eq-eqb t 83 e) (ap line.Header q)
+
+  pub record-C : (fs : List (List ℕ)) (c : Channel) → (t ≡ 83 → ⊥) → t ≡ 67 → c ≡ channelOf fs → line.Channel c ≡ recordOf t fs
+  unfolding recordOf
+  record-C fs c s e q = rw (ne-eqb t 83 s, eq-eqb t 67 e) (ap line.Channel q)
+
+  pub record-B : (fs : List (List ℕ)) → (t ≡ 83 → ⊥) → (t ≡ 67 → ⊥) → line.Block ≡ recordOf t fs
+  unfolding recordOf
+  record-B fs s c = rw (ne-eqb t 83 s, ne-eqb t 67 c)
+
+pub ruleset tags = (count-S, count-C, count-B, count-E, record-S, record-C, record-B)
+
+-- Rules by place
+
+past : (xs ys : List Rule) (i : ℕ) (d : Rule) → length xs ≤ i → getD (xs ++ ys) i d ≡ getD ys (i - length xs) d
+past xs ys i d h =
+    let e : length xs + (i - length xs) ≡ i = omega arith in
+    rw e at (getD-append-add xs ys (i - length xs) d)
+
+module _ (limit : ℕ) (fs : List (List ℕ)) (i : ℕ) where
+  pub header-tag : i ≡ 0 → rule.Tag 83 ≡ getD (headerRules limit fs) i (rule.Tag 0)
+  header-tag e = rw e
+
+  pub header-side : (i ≡ 0 → ⊥) → i ≤ 2 → rule.Side limit ≡ getD (headerRules limit fs) i (rule.Tag 0)
+  header-side = two i
+    where
+      two : (i : ℕ) → (i ≡ 0 → ⊥) → i ≤ 2 → rule.Side limit ≡ getD (headerRules limit fs) i (rule.Tag 0)
+      two zero h k = absurd (h refl)
+      two (suc zero) h k = refl
+      two (suc (suc zero)) h k = refl
+      two (suc (suc (suc n))) h k = let z : ⊥ = omega arith in absurd z
+
+  pub header-wide : (n : ℕ) → i ≡ 3 → n ≡ numberAt fs 1 → rule.Range 2 1 n ≡ getD (headerRules limit fs) i (rule.Tag 0)
+  header-wide n e q = rw (e, q)
+
+  pub header-high : (n : ℕ) → i ≡ 4 → n ≡ numberAt fs 2 → rule.Range 2 1 n ≡ getD (headerRules limit fs) i (rule.Tag 0)
+  header-high n e q = rw (e, q)
+
+  pub header-channels : i ≡ 5 → rule.Channels ≡ getD (headerRules limit fs) i (rule.Tag 0)
+  header-channels e = rw e
+
+  pub header-mode : i ≡ 6 → rule.Mode ≡ getD (headerRules limit fs) i (rule.Tag 0)
+  header-mode e = rw e
+
+  pub header-count : 2 < i → (i ≡ 3 → ⊥) → (i ≡ 4 → ⊥) → (i ≡ 5 → ⊥) → (i ≡ 6 → ⊥) → i ≤ 9 → count ≡ getD (headerRules limit fs) i (rule.Tag 0)
+  header-count l n3 n4 n5 n6 k =
+      let h : 7 ≤ i = omega arith in
+      let e : getD (headerRules limit fs) i (rule.Tag 0) ≡ getD (count ∷ count ∷ count ∷ replicate 6 rule.Weight) (i - 7) (rule.Tag 0) =
+      past (take 7 (headerRules limit fs)) (count ∷ count ∷ count ∷ replicate 6 rule.Weight) i (rule.Tag 0) h in
+      rw e (three (i - 7) (omega arith))
+    where
+      three : (j : ℕ) → j ≤ 2 → count ≡ getD (count ∷ count ∷ count ∷ replicate 6 rule.Weight) j (rule.Tag 0)
+      three zero k = refl
+      three (suc zero) k = refl
+      three (suc (suc zero)) k = refl
+      three (suc (suc (suc n))) k = let z : ⊥ = omega arith in absurd z
+
+  pub header-weight : 9 < i → i < 16 → rule.Weight ≡ getD (headerRules limit fs) i (rule.Tag 0)
+  header-weight h k =
+      sym (past (take 10 (headerRules limit fs)) (replicate 6 rule.Weight) i (rule.Tag 0) (omega arith)
+      ∙ getD-replicate 6 (i - 10) rule.Weight (rule.Tag 0) (omega arith))
+
+module _ (i : ℕ) where
+  pub channel-tag : i ≡ 0 → rule.Tag 67 ≡ getD channelRules i (rule.Tag 0)
+  channel-tag e = rw e
+
+  pub channel-side : (i ≡ 0 → ⊥) → i ≤ 2 → ownSide ≡ getD channelRules i (rule.Tag 0)
+  channel-side = two i
+    where
+      two : (i : ℕ) → (i ≡ 0 → ⊥) → i ≤ 2 → ownSide ≡ getD channelRules i (rule.Tag 0)
+      two zero h k = absurd (h refl)
+      two (suc zero) h k = refl
+      two (suc (suc zero)) h k = refl
+      two (suc (suc (suc n))) h k = let z : ⊥ = omega arith in absurd z
+
+  pub channel-factor : 2 < i → i ≤ 4 → factor ≡ getD channelRules i (rule.Tag 0)
+  channel-factor = two i
+    where
+      two : (i : ℕ) → 2 < i → i ≤ 4 → factor ≡ getD channelRules i (rule.Tag 0)
+      two zero h k = let z : ⊥ = omega arith in absurd z
+      two (suc zero) h k = let z : ⊥ = omega arith in absurd z
+      two (suc (suc zero)) h k = let z : ⊥ = omega arith in absurd z
+      two (suc (suc (suc zero))) h k = refl
+      two (suc (suc (suc (suc zero)))) h k = refl
+      two (suc (suc (suc (suc (suc n))))) h k = let z : ⊥ = omega arith in absurd z
+
+  pub channel-quantiser : 4 < i → i < 69 → rule.Quantiser ≡ getD channelRules i (rule.Tag 0)
+  channel-quantiser h k =
+      sym (past (take 5 channelRules) (replicate 64 rule.Quantiser) i (rule.Tag 0) (omega arith)
+      ∙ getD-replicate 64 (i - 5) rule.Quantiser (rule.Tag 0) (omega arith))
+
+  pub block-tag : i ≡ 0 → rule.Tag 66 ≡ getD blockRules i (rule.Tag 0)
+  block-tag e = rw e
+
+  pub block-level : (i ≡ 0 → ⊥) → i < 65 → rule.Level ≡ getD blockRules i (rule.Tag 0)
+  block-level h k =
+      sym (past (take 1 blockRules) (replicate 64 rule.Level) i (rule.Tag 0) (omega arith)
+      ∙ getD-replicate 64 (i - 1) rule.Level (rule.Tag 0) (omega arith))
+
+pub ruleset rules = (header-tag, header-side, header-wide, header-high, header-channels, header-mode, header-count, header-weight, channel-tag, channel-side, channel-factor, channel-quantiser, block-tag, block-level)
+
+-- The rule of a tag's field
+
+module _ (t limit i : ℕ) (fs : List (List ℕ)) (r : Rule) where
+  pub rule-B : t ≡ 66 → r ≡ getD blockRules i (rule.Tag 0) → r ≡ getD (rulesOf t limit fs) i (rule.Tag 0)
+  unfolding rulesOf
+  rule-B e q = rw (eq-eqb t 66 e) q
+
+  pub rule-C : (t ≡ 66 → ⊥) → t ≡ 67 → r ≡ getD channelRules i (rule.Tag 0) → r ≡ getD (rulesOf t limit fs) i (rule.Tag 0)
+  unfolding rulesOf
+  rule-C b e q = rw (ne-eqb t 66 b, eq-eqb t 67 e) q
+
+  pub rule-S : (t ≡ 66 → ⊥) → (t ≡ 67 → ⊥) → t ≡ 83 → r ≡ getD (headerRules limit fs) i (rule.Tag 0) → r ≡ getD (rulesOf t limit fs) i (rule.Tag 0)
+  unfolding rulesOf
+  rule-S b c e q = rw (ne-eqb t 66 b, ne-eqb t 67 c, eq-eqb t 83 e) q
+
+pub rule-E : (t limit i : ℕ) (fs : List (List ℕ)) → (t ≡ 66 → ⊥) → (t ≡ 67 → ⊥) → (t ≡ 83 → ⊥) → i < fieldCount t → rule.Tag 69 ≡ getD (rulesOf t limit fs) i (rule.Tag 0)
+unfolding rulesOf fieldCount
+rule-E t limit i fs b c s h =
+    let z : i ≡ 0 = omega (arith, simp (ne-eqb t 83 s, ne-eqb t 67 c, ne-eqb t 66 b) at h) in
+    rw (ne-eqb t 66 b, ne-eqb t 67 c, ne-eqb t 83 s, z)
+
+module _ (t i : ℕ) (h : i < fieldCount t) where
+  pub below-S : t ≡ 83 → i < 16
+  below-S e = omega (arith, count-S t e)
+
+  pub below-C : t ≡ 67 → i < 69
+  below-C e = omega (arith, count-C t e)
+
+  pub below-B : t ≡ 66 → i < 65
+  below-B e = omega (arith, count-B t e)
+
+pub ruleset places = (rule-S, rule-C, rule-B, rule-E, below-S, below-C, below-B)

@@ -1,0 +1,104 @@
+-- What is read so far, by the tests that the code makes.
+use Prim.Native.Nat.{ℕ, _+_, _-_, _*_, _/_, _<_, _≤_}
+use mathlib.Core.Path.{_≡_, refl, sym, ap, _∙_}
+use mathlib.Core.Bool.{Bool, true, false, cond}
+use native.Mathlib.Omega.{arith}
+use native.Mathlib.Nat.{lt-of-le-of-lt, le-of-lt, mul-le-mul-left, mul-lt-mul-of-pos-right}
+use mir.Syntax.{w32, w64}
+use mir.Val.{Fits}
+use lib.Dec.{eqb, lit<}
+use borrow.Author.Tests.{le-leb, lt-leb, lt-ltb, le-ltb}
+use Rattle.sheet.specs.declared.Header.{Header}
+use Rattle.sheet.specs.declared.Channel.{Channel}
+use Rattle.sheet.specs.declared.Sheet.{Sheet}
+use Rattle.sheet.specs.declared.line.Record.{Record}
+use Rattle.sheet.specs.declared.line.Record.the-variants as line
+use Rattle.sheet.specs.declared.state.State.{State}
+use Rattle.sheet.specs.declared.state.Taken.{Taken}
+use Rattle.sheet.specs.declared.state.Taken.the-variants as taken
+use Rattle.sheet.specs.Lines.{noHeader, noChannel}
+use Rattle.sheet.specs.Reading.{headed, blank, expectedTag, placed, opened, takenOf}
+
+-- Nothing, and a header
+
+pub headed-is : (h : Header) (n : Channel) → n ≡ noChannel → record { header = h; first = n; second = n; third = n } ≡ headed h
+headed-is h n e = rw e
+
+pub blank-is : (h : Header) (s : Sheet) → h ≡ noHeader → s ≡ headed h → record { begun = false; sheet = s; read = 0; left = 0 } ≡ blank
+unfolding blank
+blank-is h s e q = rw (q, e)
+
+-- The next line's tag
+
+module _ (s : State) where
+  pub tag-S : s .begun ≡ false → 83 ≡ expectedTag s
+  unfolding expectedTag
+  tag-S b = rw b
+
+  module _ (b : s .begun ≡ true) where
+    pub tag-B : 0 < s .left → 66 ≡ expectedTag s
+    unfolding expectedTag
+    tag-B h = rw (b, lt-ltb 0 (s .left) h)
+
+    pub tag-C : s .left ≤ 0 → s .read < s .sheet .header .channels → 67 ≡ expectedTag s
+    unfolding expectedTag
+    tag-C h k = rw (b, le-ltb 0 (s .left) h, lt-ltb (s .read) (s .sheet .header .channels) k)
+
+    pub tag-E : s .left ≤ 0 → s .sheet .header .channels ≤ s .read → 69 ≡ expectedTag s
+    unfolding expectedTag
+    tag-E h k = rw (b, le-ltb 0 (s .left) h, le-ltb (s .read) (s .sheet .header .channels) k)
+
+pub ruleset nexts = (headed-is, blank-is, tag-S, tag-B, tag-C, tag-E)
+
+-- What a line adds
+
+pub placed-is : (s : Sheet) (j : ℕ) (c f g h : Channel)
+    → f ≡ cond (eqb j 0) c (s .first) → g ≡ cond (eqb j 1) c (s .second) → h ≡ cond (eqb j 2) c (s .third)
+    → record { header = s .header; first = f; second = g; third = h } ≡ placed s j c
+placed-is s j c f g h e i k = rw (e, i, k)
+
+pub product-fits : (a b : ℕ) → Fits w32 a → Fits w32 b → Fits w64 (a * b)
+product-fits a b h k = record { fits = lt-of-le-of-lt (mul-le-mul-left a (le-of-lt (k .fits))) (mul-lt-mul-of-pos-right (h .fits) (lit< tt)) }
+
+module _ (s : State) (c : Channel) where
+  pub channel-over : s .sheet .header .channels ≤ s .read → taken.Bad 1 ≡ takenOf s (line.Channel c)
+  unfolding takenOf
+  channel-over h = rw (le-ltb (s .read) (s .sheet .header .channels) h)
+
+  module _ (h : s .read < s .sheet .header .channels) where
+    pub channel-wide : s .sheet .header .width < c .width * c .across → taken.Bad 2 ≡ takenOf s (line.Channel c)
+    unfolding takenOf
+    channel-wide k = rw (lt-ltb (s .read) (s .sheet .header .channels) h, lt-leb (c .width * c .across) (s .sheet .header .width) k)
+
+    module _ (k : c .width * c .across ≤ s .sheet .header .width) where
+      pub channel-high : s .sheet .header .height < c .height * c .down → taken.Bad 2 ≡ takenOf s (line.Channel c)
+      unfolding takenOf
+      channel-high l =
+          rw (lt-ltb (s .read) (s .sheet .header .channels) h, le-leb (c .width * c .across) (s .sheet .header .width) k, lt-leb (c .height * c .down) (s .sheet .header .height) l)
+
+      pub channel-in : c .height * c .down ≤ s .sheet .header .height → taken.Good (opened s c) ≡ takenOf s (line.Channel c)
+      unfolding takenOf
+      channel-in l =
+          rw (lt-ltb (s .read) (s .sheet .header .channels) h, le-leb (c .width * c .across) (s .sheet .header .width) k, le-leb (c .height * c .down) (s .sheet .header .height) l)
+
+      pub channel-opened : c .height * c .down ≤ s .sheet .header .height → (t : Sheet) → t ≡ placed (s .sheet) (s .read) c
+          → taken.Good (record { begun = true; sheet = t; read = s .read + 1; left = c .width * c .height / 64 }) ≡ takenOf s (line.Channel c)
+      channel-opened l t e = rw e (channel-in l)
+
+module _ (s : State) (rec : Record) where
+  pub record-header : (h : Header) (t : Sheet) → rec ≡ line.Header h → t ≡ headed h → taken.Good (record { begun = true; sheet = t; read = 0; left = 0 }) ≡ takenOf s rec
+  unfolding takenOf
+  record-header h t e q = rw (e, q)
+
+  pub record-channel : (c : Channel) (r : Taken) → rec ≡ line.Channel c → r ≡ takenOf s (line.Channel c) → r ≡ takenOf s rec
+  record-channel c r e q = rw e q
+
+  pub record-none : rec ≡ line.Block → s .left < 1 → taken.Bad 1 ≡ takenOf s rec
+  unfolding takenOf
+  record-none e h = rw (e, le-ltb 0 (s .left) (omega arith))
+
+  pub record-block : rec ≡ line.Block → 1 ≤ s .left → taken.Good (record { begun = s .begun; sheet = s .sheet; read = s .read; left = s .left - 1 }) ≡ takenOf s rec
+  unfolding takenOf
+  record-block e h = rw (e, lt-ltb 0 (s .left) h)
+
+pub ruleset takes = (placed-is, channel-over, channel-wide, channel-high, channel-opened, product-fits, record-header, record-channel, record-none, record-block)

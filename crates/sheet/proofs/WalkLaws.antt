@@ -1,0 +1,451 @@
+-- A walk over a text: what is left to read, read after what was read, gives the whole answer.
+use Prim.Native.Nat.{ℕ, suc, _+_, _-_, _^_, _<_, _≤_}
+use mathlib.Core.Path.{_≡_, refl, sym, ap, _∙_}
+use mathlib.Core.List.{List, [], _∷_, _++_, append-assoc}
+use mathlib.Core.Bool.{Bool, true, false, cond}
+use mathlib.Core.Logic.{⊎-elim}
+use mathlib.Core.Option.{Option, none, some}
+use native.Mathlib.Numerals.{add-one}
+use native.Mathlib.Nat.{zero-add}
+use native.Mathlib.Omega.{arith}
+use lib.ListN.{length, getD, drop, take, set, length-append, length-drop, drop-of-length-le}
+use lib.Seq.{drop-cons, drop-drop, sets, length-sets}
+use lib.Dec.{eqb, ltb}
+use lib.IntN.{ℤ}
+use borrow.Author.Tests.{eq-eqb, ne-eqb, lt-ltb, le-ltb}
+use denote.Enum.Declared.{tagOf}
+use types.Run.{OneOf}
+use Rattle.text.proofs.field.Field.{the-type}
+use Rattle.text.specs.declared.field.Rule.{Rule}
+use Rattle.text.specs.declared.field.Rule.the-variants as rule
+use Rattle.text.specs.declared.field.Field.{Field}
+use Rattle.text.specs.declared.field.Field.the-variants as field
+use Rattle.text.specs.declared.pieces.Line.{Line}
+use Rattle.text.specs.Pieces.{split, before, onto}
+use Rattle.text.specs.Cursor.{AtField, IsLine}
+use Rattle.text.specs.Fields.{letter, isSide, fieldOf, faultIn, levelsIn, tablesIn}
+use Rattle.text.proofs.PieceLaws.{at-start, at-here, at-next, at-end, before-le, before-take, split-cut, split-whole, split-first, split-some, split-length}
+use Rattle.sheet.specs.declared.line.Record.{Record}
+use Rattle.sheet.specs.declared.state.State.{State}
+use Rattle.sheet.specs.declared.state.Taken.{Taken}
+use Rattle.sheet.specs.declared.state.Taken.the-variants as taken
+use Rattle.sheet.specs.declared.walk.Walked.{Walked}
+use Rattle.sheet.specs.declared.walk.Walked.the-variants as walked
+use Rattle.sheet.specs.Lines.{headerRules, channelRules, blockRules, endRules, rulesOf, fieldCount, orElse, firstFault, fieldsFault, lineLevels, lineTables, recordOf}
+use Rattle.sheet.specs.Reading.{Outcome, Contents, contents, blank, expectedTag, takenOf, isLast, nothingLeft, onFault, onTaken, lineFault, readFrom, readText}
+use Rattle.sheet.specs.Reading.Outcome.{Gives, Refused}
+use Rattle.sheet.specs.Walk.{Stored, walkedOf, Stores, Walks}
+
+-- Stores one after the other
+
+sets-more : {A : Type 0} (l : List A) (i : ℕ) (us vs : List A) → sets (sets l i us) (i + length us) vs ≡ sets l i (us ++ vs)
+sets-more l i [] vs = let e : i + 0 ≡ i = omega arith in rw e
+sets-more l i (a ∷ us) vs =
+    let e : i + suc (length us) ≡ suc i + length us = omega arith in
+    rw e (sets-more (set l i a) (suc i) us vs)
+
+-- What is left to store, after what was stored
+record Storing {A : Type 0} (l₀ : List A) (n₀ : ℕ) (l : List A) (n : ℕ) (left all : List A) : Type 0 where
+  place : n + length left ≡ n₀ + length all
+  value : sets l n left ≡ sets l₀ n₀ all
+
+storing-more : {A : Type 0} {l₀ : List A} {n₀ : ℕ} {l : List A} {n : ℕ} {all : List A} (vs left : List A) {l' : List A} {n' : ℕ}
+    → Storing l₀ n₀ l n (vs ++ left) all → Stored l l' n n' vs → Storing l₀ n₀ l' n' left all
+storing-more {l = l} {n = n} vs left s d =
+    record {
+      place = omega (arith, s .place, d .next, length-append vs left);
+      value = rw (d .next, d .last) (sets-more l n vs left ∙ s .value);
+    }
+
+storing-end : {A : Type 0} {l₀ : List A} {n₀ : ℕ} {l : List A} {n : ℕ} {all : List A} → Storing l₀ n₀ l n [] all → Stored l₀ l n₀ n all
+storing-end s = record { next = omega (arith, s .place); last = s .value }
+
+storing-length : {A : Type 0} {l₀ : List A} {n₀ : ℕ} {l : List A} {n : ℕ} {left all : List A} → Storing l₀ n₀ l n left all → length l ≡ length l₀
+storing-length {l₀ = l₀} {n₀} {l} {n} {left} {all} s = sym (length-sets l n left) ∙ ap length (s .value) ∙ length-sets l₀ n₀ all
+
+stored-both : {A : Type 0} {l₀ l l' : List A} {n n' : ℕ} {us vs : List A} → Stored l₀ l 0 n us → Stored l l' n n' vs → Stored l₀ l' 0 n' (us ++ vs)
+stored-both {l₀ = l₀} {us = us} {vs} d e =
+    record {
+      next = omega (arith, d .next, e .next, length-append us vs);
+      last = e .last ∙ rw (d .last, d .next) (sets-more l₀ 0 us vs);
+    }
+
+stored-end : {A : Type 0} {l₀ l l' : List A} {n n' : ℕ} {us : List A} → Stored l₀ l 0 n us → Stored l l' n n' [] → Stored l₀ l' 0 n' us
+stored-end d e = record { next = omega (arith, d .next, e .next); last = e .last ∙ d .last }
+
+-- The fields of one line
+
+pub rules-length : (t limit : ℕ) (fs : List (List ℕ)) → length (rulesOf t limit fs) ≡ fieldCount t
+unfolding rulesOf fieldCount
+rules-length t limit fs = three (eqb t 66) (eqb t 67) (eqb t 83)
+  where
+    three : (a b c : Bool) → length (cond a blockRules (cond b channelRules (cond c (headerRules limit fs) endRules))) ≡ cond a 65 (cond b 69 (cond c 16 1))
+    three true b c = refl
+    three false true c = refl
+    three false false true = refl
+    three false false false = refl
+
+-- E adds nothing
+end-levels : (t limit : ℕ) (fs : List (List ℕ)) → t ≡ 69 → lineLevels (rulesOf t limit fs) fs ≡ []
+unfolding rulesOf fieldOf
+end-levels t limit [] e = rw e
+end-levels t limit (f ∷ fs) e = rw e (two (letter 69 f))
+  where
+    two : (b : Bool) → levelsIn (cond b field.Good (field.Bad 1)) ++ [] ≡ []
+    two true = refl
+    two false = refl
+
+end-tables : (t limit : ℕ) (fs : List (List ℕ)) → t ≡ 69 → lineTables (rulesOf t limit fs) fs ≡ []
+unfolding rulesOf fieldOf
+end-tables t limit [] e = rw e
+end-tables t limit (f ∷ fs) e = rw e (two (letter 69 f))
+  where
+    two : (b : Bool) → tablesIn (cond b field.Good (field.Bad 1)) ++ [] ≡ []
+    two true = refl
+    two false = refl
+
+pub good-field : (f : Field) → OneOf (1 ∷ 2 ∷ 3 ∷ []) (tagOf the-type f) → faultIn f ≡ none
+good-field (field.Bad k) h = let y : ⊥ = ⊎-elim (λ e. omega arith) (⊎-elim (λ e. omega arith) (λ e. omega arith)) h in absurd y
+good-field (field.Quantiser q) h = refl
+good-field (field.Level z) h = refl
+good-field field.Good h = refl
+
+-- the fields of a row by the rules rs, from field i on, after those before it
+pub record Checking (rs : List Rule) (row : List ℕ) (count : ℕ) (l₀ : List ℤ) (t₀ : List ℕ) (n₀ m₀ : ℕ) (l : List ℤ) (t : List ℕ) (n m i a : ℕ) : Type 0 where
+  upto : i ≤ count
+  field : i < count → AtField row i a
+  fault : firstFault (drop i rs) (drop i (split 9 row)) ≡ firstFault rs (split 9 row)
+  levels : Storing l₀ n₀ l n (lineLevels (drop i rs) (drop i (split 9 row))) (lineLevels rs (split 9 row))
+  tables : Storing t₀ m₀ t m (lineTables (drop i rs) (drop i (split 9 row))) (lineTables rs (split 9 row))
+  pub held : n ≤ n₀ + i
+  pub listed : m ≤ m₀ + i
+
+pub check-begin : (rs : List Rule) (row : List ℕ) (count : ℕ) (l : List ℤ) (t : List ℕ) (n m : ℕ) → Checking rs row count l t n m l t n m 0 0
+check-begin rs row count l t n m =
+    record {
+      upto = omega arith;
+      field = λ _. at-start row;
+      fault = refl;
+      levels = record { place = refl; value = refl };
+      tables = record { place = refl; value = refl };
+      held = omega arith;
+      listed = omega arith;
+    }
+
+few-levels : (f : Field) → length (levelsIn f) ≤ 1
+few-levels (field.Bad k) = omega arith
+few-levels (field.Quantiser q) = omega arith
+few-levels (field.Level z) = omega arith
+few-levels field.Good = omega arith
+
+few-tables : (f : Field) → length (tablesIn f) ≤ 1
+few-tables (field.Bad k) = omega arith
+few-tables (field.Quantiser q) = omega arith
+few-tables (field.Level z) = omega arith
+few-tables field.Good = omega arith
+
+module _ {rs : List Rule} {row : List ℕ} {count : ℕ} {l₀ : List ℤ} {t₀ : List ℕ} {n₀ m₀ : ℕ} {l : List ℤ} {t : List ℕ} {n m i a : ℕ}
+    (s : Checking rs row count l₀ t₀ n₀ m₀ l t n m i a) where
+  pub check-levels : length l ≡ length l₀
+  check-levels = storing-length (s .levels)
+
+  pub check-tables : length t ≡ length t₀
+  check-tables = storing-length (s .tables)
+
+  module _ (h : i < count) where
+    pub check-at : a ≤ length row
+    check-at = s .field h .inside
+
+    module _ {e : ℕ} (p : e ≡ a + length (before 9 (drop a row))) where
+      pub check-in : e ≤ length row
+      check-in = omega (arith, at-end (s .field h))
+
+      module _ (cr : length rs ≡ count) (cf : length (split 9 row) ≡ count)
+          {r : Rule} (q : r ≡ getD rs i (rule.Tag 0)) {f : Field} (d : f ≡ fieldOf r (take (e - a) (drop a row))) where
+        here : f ≡ fieldOf (getD rs i (rule.Tag 0)) (getD (split 9 row) i [])
+        here =
+            let b = length (before 9 (drop a row)) in
+            let w : (a + b) - a ≡ b = omega arith in
+            d ∙ rw (q, p, w, at-here (s .field h))
+
+        rs-next : drop i rs ≡ getD rs i (rule.Tag 0) ∷ drop (i + 1) rs
+        rs-next = rw (add-one i) (drop-cons rs i (rule.Tag 0) (omega arith))
+
+        fs-next : drop i (split 9 row) ≡ getD (split 9 row) i [] ∷ drop (i + 1) (split 9 row)
+        fs-next = rw (add-one i) (drop-cons (split 9 row) i [] (omega arith))
+
+        pub check-bad : (k : ℕ) → f ≡ field.Bad k → firstFault rs (split 9 row) ≡ some k
+        check-bad k z = sym (s .fault) ∙ rw (rs-next, fs-next, sym here, z)
+
+        pub check-step : faultIn f ≡ none → {l' : List ℤ} {n' : ℕ} → Stored l l' n n' (levelsIn f) → {t' : List ℕ} {m' : ℕ} → Stored t t' m m' (tablesIn f)
+            → Checking rs row count l₀ t₀ n₀ m₀ l' t' n' m' (i + 1) (e + 1)
+        check-step z u v =
+            record {
+              upto = omega arith;
+              field = λ g. rw p (at-next (s .field h) (omega arith));
+              fault = sym (rw (rs-next, fs-next, sym here, z)) ∙ s .fault;
+              levels = storing-more (levelsIn f) (lineLevels (drop (i + 1) rs) (drop (i + 1) (split 9 row))) (rw (rs-next, fs-next, sym here) at (s .levels)) u;
+              tables = storing-more (tablesIn f) (lineTables (drop (i + 1) rs) (drop (i + 1) (split 9 row))) (rw (rs-next, fs-next, sym here) at (s .tables)) v;
+              held = omega (arith, s .held, u .next, few-levels f);
+              listed = omega (arith, s .listed, v .next, few-tables f);
+            }
+
+  module _ (cr : length rs ≡ count) (h : count ≤ i) where
+    none-left : drop i rs ≡ []
+    none-left = drop-of-length-le rs {i = i} (omega arith)
+
+    pub check-good : firstFault rs (split 9 row) ≡ none
+    check-good = sym (rw none-left at (s .fault))
+
+    pub check-held : Stored l₀ l n₀ n (lineLevels rs (split 9 row))
+    check-held = storing-end (rw none-left at (s .levels))
+
+    pub check-listed : Stored t₀ t m₀ m (lineTables rs (split 9 row))
+    check-listed = storing-end (rw none-left at (s .tables))
+
+-- One line of a text with the meaning T, whose pieces from this line on are p and rest
+
+module _ (limit : ℕ) (s : State) (ls : List ℤ) (ts : List ℕ) (k : ℕ) (p : List ℕ) (rest : List (List ℕ)) (T : Outcome Contents)
+    (R : readFrom limit s ls ts k (p ∷ rest) ≡ T) where
+  pub line-long : 1024 < length p → T ≡ Refused 1 k
+  unfolding lineFault
+  line-long h = sym R ∙ rw (lt-ltb 1024 (length p) h)
+
+  pub line-last : length p ≤ 1024 → isLast rest ≡ true → T ≡ Refused 7 k
+  unfolding lineFault
+  line-last h e = sym R ∙ rw (le-ltb 1024 (length p) h, e)
+
+  module _ (tag : ℕ) (g : tag ≡ expectedTag s) (h : length p ≤ 1024) (e : isLast rest ≡ false) where
+    pub line-count : (length (split 9 p) ≡ fieldCount tag → ⊥) → T ≡ Refused 1 k
+    unfolding lineFault fieldsFault
+    line-count n =
+        sym R ∙ rw (sym g, le-ltb 1024 (length p) h, e, ne-eqb (length (split 9 p)) (length (rulesOf tag limit (split 9 p))) (λ q. n (q ∙ rules-length tag limit (split 9 p))))
+
+    module _ (n : length (split 9 p) ≡ fieldCount tag) where
+      same : length (split 9 p) ≡ length (rulesOf tag limit (split 9 p))
+      same = n ∙ sym (rules-length tag limit (split 9 p))
+
+      pub line-fault : (m : ℕ) → firstFault (rulesOf tag limit (split 9 p)) (split 9 p) ≡ some m → T ≡ Refused m k
+      unfolding lineFault fieldsFault
+      line-fault m f = sym R ∙ rw (sym g, le-ltb 1024 (length p) h, e, eq-eqb (length (split 9 p)) (length (rulesOf tag limit (split 9 p))) same, f)
+
+      module _ (f : firstFault (rulesOf tag limit (split 9 p)) (split 9 p) ≡ none) where
+        good : cond (eqb tag 69) (cond (nothingLeft rest) (contents (s .sheet) ls ts) (Refused 7 (k + 1)))
+            (onTaken (takenOf s (recordOf tag (split 9 p))) k
+            (λ t. readFrom limit t (ls ++ lineLevels (rulesOf tag limit (split 9 p)) (split 9 p)) (ts ++ lineTables (rulesOf tag limit (split 9 p)) (split 9 p)) (k + 1) rest)) ≡ T
+        unfolding lineFault fieldsFault
+        good = rw (sym g, le-ltb 1024 (length p) h, e, eq-eqb (length (split 9 p)) (length (rulesOf tag limit (split 9 p))) same, f) at R
+
+        pub line-end : tag ≡ 69 → nothingLeft rest ≡ true → T ≡ contents (s .sheet) ls ts
+        line-end t o = sym good ∙ rw (eq-eqb tag 69 t, o)
+
+        pub line-after : tag ≡ 69 → nothingLeft rest ≡ false → T ≡ Refused 7 (k + 1)
+        line-after t o = sym good ∙ rw (eq-eqb tag 69 t, o)
+
+        module _ (t : tag ≡ 69 → ⊥) where
+          pub line-bad : (m : ℕ) → takenOf s (recordOf tag (split 9 p)) ≡ taken.Bad m → T ≡ Refused m k
+          line-bad m o = sym good ∙ rw (ne-eqb tag 69 t, o)
+
+          pub line-next : (u : State) → takenOf s (recordOf tag (split 9 p)) ≡ taken.Good u
+              → readFrom limit u (ls ++ lineLevels (rulesOf tag limit (split 9 p)) (split 9 p)) (ts ++ lineTables (rulesOf tag limit (split 9 p)) (split 9 p)) (k + 1) rest ≡ T
+          line-next u o = sym (rw (ne-eqb tag 69 t, o)) ∙ good
+
+-- What the pieces of a text say
+
+head-rest : (ps : List (List ℕ)) → 0 < length ps → ps ≡ getD ps 0 [] ∷ drop 1 ps
+head-rest [] h = let z : ⊥ = omega arith in absurd z
+head-rest (p ∷ ps) h = refl
+
+split-head : (b : ℕ) (l : List ℕ) → split b l ≡ before b l ∷ drop 1 (split b l)
+split-head b l = head-rest (split b l) (split-some b l) ∙ ap (λ (p : List ℕ). p ∷ drop 1 (split b l)) (split-first b l)
+
+not-last : (b : ℕ) (l : List ℕ) → isLast (split b l) ≡ false
+not-last b l = by (split b l) (split-some b l)
+  where
+    by : (ps : List (List ℕ)) → 0 < length ps → isLast ps ≡ false
+    by [] h = let z : ⊥ = omega arith in absurd z
+    by (p ∷ ps) h = refl
+
+nothing-after : (b : ℕ) (l : List ℕ) → length l ≡ 0 → nothingLeft (split b l) ≡ true
+nothing-after b [] h = refl
+nothing-after b (x ∷ l) h = let z : ⊥ = omega arith in absurd z
+
+some-after : (b : ℕ) (l : List ℕ) → 0 < length l → nothingLeft (split b l) ≡ false
+some-after b [] h = let z : ⊥ = omega arith in absurd z
+some-after b (x ∷ l) h = two (eqb x b) (split b l) (split-some b l)
+  where
+    two : (t : Bool) (ps : List (List ℕ)) → 0 < length ps → nothingLeft (cond t ([] ∷ ps) (onto x ps)) ≡ false
+    two true [] k = let z : ⊥ = omega arith in absurd z
+    two true (p ∷ ps) k = refl
+    two false [] k = refl
+    two false (p ∷ ps) k = refl
+
+-- The text up to a line
+
+pub record Reading (limit : ℕ) (text : List ℕ) (l₀ : List ℤ) (t₀ : List ℕ) (l : List ℤ) (t : List ℕ) (s : State) (at k n m : ℕ) : Type 0 where
+  ls : List ℤ
+  ts : List ℕ
+  pub inside : at ≤ length text
+  pub lines : k ≤ at + 1
+  pub room : n ≤ at
+  pub space : m ≤ at
+  levels : Stored l₀ l 0 n ls
+  tables : Stored t₀ t 0 m ts
+  rest : readFrom limit s ls ts k (split 10 (drop at text)) ≡ readText limit text
+
+pub read-begin : (limit : ℕ) (text : List ℕ) (l : List ℤ) (t : List ℕ) (s : State) → isSide 512 limit ≡ true → s ≡ blank → Reading limit text l t l t s 0 1 0 0
+unfolding readText
+read-begin limit text l t s h e =
+    record {
+      ls = [];
+      ts = [];
+      inside = omega arith;
+      lines = omega arith;
+      room = omega arith;
+      space = omega arith;
+      levels = record { next = refl; last = refl };
+      tables = record { next = refl; last = refl };
+      rest = rw (e, h);
+    }
+
+refused : (limit : ℕ) (text : List ℕ) (l₀ l : List ℤ) (t₀ t : List ℕ) (m k : ℕ) → readText limit text ≡ Refused m k → Walks limit text l₀ l t₀ t (walked.Refused m k)
+refused limit text l₀ l t₀ t m k e = record { answer = rw e; stored = rw e tt }
+
+pub walk-limit : (limit : ℕ) (text : List ℕ) (l : List ℤ) (t : List ℕ) → isSide 512 limit ≡ false → Walks limit text l l t t (walked.Refused 2 0)
+unfolding readText
+walk-limit limit text l t h = refused limit text l l t t 2 0 (rw h)
+
+-- an ended line of at most 1,024 bytes from at to e, where a tag is due
+pub record OnLine (text : List ℕ) (s : State) (at e tag count : ℕ) : Type 0 where
+  pub ordered : at ≤ e
+  pub ended : e + 1 ≤ length text
+  short : length (take (e - at) (drop at text)) ≤ 1024
+  pub size : length (take (e - at) (drop at text)) ≡ e - at
+  first : before 10 (drop at text) ≡ take (e - at) (drop at text)
+  cut : split 10 (drop at text) ≡ take (e - at) (drop at text) ∷ split 10 (drop (e + 1) text)
+  due : tag ≡ expectedTag s
+  counted : count ≡ fieldCount tag
+
+module _ {limit : ℕ} {text : List ℕ} {l₀ : List ℤ} {t₀ : List ℕ} {l : List ℤ} {t : List ℕ} {s : State} {at k n m : ℕ}
+    (r : Reading limit text l₀ t₀ l t s at k n m) where
+  pub same-levels : length l ≡ length l₀
+  same-levels = ap length (r .levels .last) ∙ length-sets l₀ 0 (r .ls)
+
+  pub same-tables : length t ≡ length t₀
+  same-tables = ap length (r .tables .last) ∙ length-sets t₀ 0 (r .ts)
+
+  module _ {g : Line} (q : IsLine text at g) where
+    pub end-inside : g .end ≤ length text
+    end-inside = omega (arith, q .end, before-le 10 (drop at text), length-drop at text, r .inside)
+
+    row-is : before 10 (drop at text) ≡ take (g .end - at) (drop at text)
+    row-is =
+        let b = length (before 10 (drop at text)) in
+        let w : (at + b) - at ≡ b = omega arith in
+        sym (rw (q .end, w) (before-take 10 (drop at text)))
+
+    pub walk-long : 1024 < g .end - at → Walks limit text l₀ l t₀ t (walked.Refused 1 k)
+    walk-long h =
+        refused limit text l₀ l t₀ t 1 k
+        (line-long limit s (r .ls) (r .ts) k (before 10 (drop at text)) (drop 1 (split 10 (drop at text))) (readText limit text)
+        (rw (split-head 10 (drop at text)) at (r .rest)) (omega (arith, q .end)))
+
+    pub walk-cut : g .end - at ≤ 1024 → g .end ≡ length text → Walks limit text l₀ l t₀ t (walked.Refused 7 k)
+    walk-cut h z =
+        refused limit text l₀ l t₀ t 7 k
+        (line-last limit s (r .ls) (r .ts) k (drop at text) [] (readText limit text)
+        (rw (split-whole 10 (drop at text) (omega (arith, q .end, length-drop at text))) at (r .rest)) (omega (arith, length-drop at text)) refl)
+
+    pub on-line : g .end - at ≤ 1024 → (g .end ≡ length text → ⊥) → {tag count : ℕ} → tag ≡ expectedTag s → count ≡ fieldCount tag → OnLine text s at (g .end) tag count
+    on-line h z d c =
+        let b = length (before 10 (drop at text)) in
+        let w : at + (b + 1) ≡ g .end + 1 = omega (arith, q .end) in
+        let size : length (take (g .end - at) (drop at text)) ≡ g .end - at = ap length (sym row-is) ∙ omega (arith, q .end) in
+        record {
+          ordered = omega (arith, q .end);
+          ended = omega (arith, end-inside);
+          short = omega arith;
+          size = size;
+          first = row-is;
+          cut =
+              split-cut 10 (drop at text) (omega (arith, end-inside, q .end, length-drop at text))
+              ∙ rw (drop-drop (b + 1) at text, w, row-is);
+          due = d;
+          counted = c;
+        }
+
+  module _ {e tag count : ℕ} (o : OnLine text s at e tag count) where
+    this-line : readFrom limit s (r .ls) (r .ts) k (take (e - at) (drop at text) ∷ split 10 (drop (e + 1) text)) ≡ readText limit text
+    this-line = rw (o .cut) at (r .rest)
+
+    pub walk-count : {g : Line} → IsLine text at g → (g .fields ≡ count → ⊥) → Walks limit text l₀ l t₀ t (walked.Refused 1 k)
+    walk-count q z =
+        refused limit text l₀ l t₀ t 1 k
+        (line-count limit s (r .ls) (r .ts) k (take (e - at) (drop at text)) (split 10 (drop (e + 1) text)) (readText limit text) this-line
+        tag (o .due) (o .short) (not-last 10 (drop (e + 1) text)) (λ c. z (q .fields ∙ ap (λ (x : List ℕ). length (split 9 x)) (o .first) ∙ c ∙ sym (o .counted))))
+
+    pub row-count : {g : Line} → IsLine text at g → g .fields ≡ count → length (split 9 (take (e - at) (drop at text))) ≡ count
+    row-count q z = ap (λ (x : List ℕ). length (split 9 x)) (sym (o .first)) ∙ sym (q .fields) ∙ z
+
+    pub rules-count : length (rulesOf tag limit (split 9 (take (e - at) (drop at text)))) ≡ count
+    rules-count = rules-length tag limit (split 9 (take (e - at) (drop at text))) ∙ sym (o .counted)
+
+    module _ (y : length (split 9 (take (e - at) (drop at text))) ≡ count) where
+      -- the next place of either buffer is a number of 64 bits
+      pub level-room : length text < 2 ^ 64 → {i n' : ℕ} → i < count → n' ≤ n + i → n' + 1 < 2 ^ 64
+      level-room z h q = omega (arith, r .room, split-length 9 (take (e - at) (drop at text)), o .size, o .ordered, o .ended)
+
+      pub table-room : length text < 2 ^ 64 → {i m' : ℕ} → i < count → m' ≤ m + i → m' + 1 < 2 ^ 64
+      table-room z h q = omega (arith, r .space, split-length 9 (take (e - at) (drop at text)), o .size, o .ordered, o .ended)
+
+      pub walk-fault : {v : ℕ} {l' : List ℤ} {t' : List ℕ} → firstFault (rulesOf tag limit (split 9 (take (e - at) (drop at text)))) (split 9 (take (e - at) (drop at text))) ≡ some v
+          → Walks limit text l₀ l' t₀ t' (walked.Refused v k)
+      walk-fault {v} {l'} {t'} f =
+          refused limit text l₀ l' t₀ t' v k
+          (line-fault limit s (r .ls) (r .ts) k (take (e - at) (drop at text)) (split 10 (drop (e + 1) text)) (readText limit text) this-line
+          tag (o .due) (o .short) (not-last 10 (drop (e + 1) text)) (y ∙ o .counted) v f)
+
+      module _ {l' : List ℤ} {t' : List ℕ} {n' m' i a : ℕ}
+          (c : Checking (rulesOf tag limit (split 9 (take (e - at) (drop at text)))) (take (e - at) (drop at text)) count l t n m l' t' n' m' i a) (h : count ≤ i) where
+        pub walk-end : tag ≡ 69 → e + 1 ≡ length text → Walks limit text l₀ l' t₀ t' (walked.Sheet (s .sheet) n' m')
+        walk-end x z =
+            let w : readText limit text ≡ contents (s .sheet) (r .ls) (r .ts) =
+            line-end limit s (r .ls) (r .ts) k (take (e - at) (drop at text)) (split 10 (drop (e + 1) text)) (readText limit text) this-line
+            tag (o .due) (o .short) (not-last 10 (drop (e + 1) text)) (y ∙ o .counted) (check-good c rules-count h) x
+            (nothing-after 10 (drop (e + 1) text) (omega (arith, length-drop (e + 1) text))) in
+            let u = stored-end (r .levels) (rw (end-levels tag limit (split 9 (take (e - at) (drop at text))) x) at (check-held c rules-count h)) in
+            let v = stored-end (r .tables) (rw (end-tables tag limit (split 9 (take (e - at) (drop at text))) x) at (check-listed c rules-count h)) in
+            record { answer = rw (w, ← zero-add (length (r .ls)), ← u .next, ← zero-add (length (r .ts)), ← v .next); stored = rw w (u .last, v .last) }
+
+        pub walk-after : tag ≡ 69 → (e + 1 ≡ length text → ⊥) → Walks limit text l₀ l' t₀ t' (walked.Refused 7 (k + 1))
+        walk-after x z =
+            refused limit text l₀ l' t₀ t' 7 (k + 1)
+            (line-after limit s (r .ls) (r .ts) k (take (e - at) (drop at text)) (split 10 (drop (e + 1) text)) (readText limit text) this-line
+            tag (o .due) (o .short) (not-last 10 (drop (e + 1) text)) (y ∙ o .counted) (check-good c rules-count h) x
+            (some-after 10 (drop (e + 1) text) (omega (arith, length-drop (e + 1) text, o .ended))))
+
+        module _ (x : tag ≡ 69 → ⊥) {d : Record} {w : Taken} (u : d ≡ recordOf tag (split 9 (take (e - at) (drop at text)))) (v : w ≡ takenOf s d) where
+          pub walk-bad : {p : ℕ} → w ≡ taken.Bad p → Walks limit text l₀ l' t₀ t' (walked.Refused p k)
+          walk-bad {p} z =
+              refused limit text l₀ l' t₀ t' p k
+              (line-bad limit s (r .ls) (r .ts) k (take (e - at) (drop at text)) (split 10 (drop (e + 1) text)) (readText limit text) this-line
+              tag (o .due) (o .short) (not-last 10 (drop (e + 1) text)) (y ∙ o .counted) (check-good c rules-count h) x p
+              (ap (takenOf s) (sym u) ∙ sym v ∙ z))
+
+          pub walk-next : {s' : State} → w ≡ taken.Good s' → Reading limit text l₀ t₀ l' t' s' (e + 1) (k + 1) n' m'
+          walk-next {s'} z =
+              let row = take (e - at) (drop at text) in
+              record {
+                ls = r .ls ++ lineLevels (rulesOf tag limit (split 9 row)) (split 9 row);
+                ts = r .ts ++ lineTables (rulesOf tag limit (split 9 row)) (split 9 row);
+                inside = o .ended;
+                lines = omega (arith, r .lines, o .ordered);
+                room = omega (arith, c .held, c .upto, r .room, split-length 9 row, o .size, o .ordered);
+                space = omega (arith, c .listed, c .upto, r .space, split-length 9 row, o .size, o .ordered);
+                levels = stored-both (r .levels) (check-held c rules-count h);
+                tables = stored-both (r .tables) (check-listed c rules-count h);
+                rest =
+                    line-next limit s (r .ls) (r .ts) k row (split 10 (drop (e + 1) text)) (readText limit text) this-line
+                    tag (o .due) (o .short) (not-last 10 (drop (e + 1) text)) (y ∙ o .counted) (check-good c rules-count h) x s'
+                    (ap (takenOf s) (sym u) ∙ sym v ∙ z);
+              }

@@ -1,0 +1,14 @@
+-- `sheet::line::channel_of` meets its contract.
+use borrow.Author.Needs.{needs}
+use Rattle.sheet.specs.Lines.{channelOf}
+use Rattle.sheet.proofs.line.channel_of.Statement.{statement}
+use Rattle.sheet.proofs.line.channel_of.Tie as tie
+
+returns : tie.Need-returns
+unfolding channelOf
+returns c = cc
+
+pub channel-of-spec : {M : Type 1} → statement M
+channel-of-spec =
+    tie.close
+    (tie.spec (λ c κs. search needs) (λ c κs. search needs) (λ c κs. search needs) (λ c κs. search needs) returns)

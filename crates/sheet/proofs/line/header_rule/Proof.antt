@@ -1,0 +1,12 @@
+-- `sheet::line::header_rule` meets its contract.
+use borrow.Author.Needs.{needs}
+use Rattle.sheet.proofs.LineLaws.{rules}
+use Rattle.sheet.proofs.line.header_rule.Statement.{statement}
+use Rattle.sheet.proofs.line.header_rule.Tie as tie
+
+pub header-rule-spec : {M : Type 1} → statement M
+header-rule-spec =
+    tie.close
+    (tie.spec (λ c. search rules) (λ c. search rules) (λ c κs. search needs) (λ c. search rules)
+    (λ c κs. search needs) (λ c. search rules) (λ c. search rules) (λ c. search rules) (λ c. search rules)
+    (λ c. search rules))

@@ -1,0 +1,10 @@
+-- `sheet::state::place` meets its contract.
+use borrow.Author.Needs.{needs}
+use Rattle.sheet.proofs.StateLaws.{takes}
+use Rattle.sheet.proofs.state.place.Statement.{statement}
+use Rattle.sheet.proofs.state.place.Tie as tie
+
+pub place-spec : {M : Type 1} → statement M
+place-spec =
+    tie.close
+    (tie.spec (λ c κs. search needs) (λ c κs. search needs) (λ c κs. search needs) (λ c. search takes))

@@ -1,0 +1,177 @@
+-- `sheet::walk::walk` meets its contract: what is left to read, read after what was read, gives the whole answer.
+use Prim.Native.Nat.{_-_}
+use mathlib.Core.Path.{_≡_, sym, _∙_}
+use native.Mathlib.Omega.{arith}
+use borrow.Author.Needs.{needs}
+use borrow.Author.Tests.{not-true, not-false}
+use lib.ListN.{length}
+use Rattle.text.specs.Pieces.{split}
+use Rattle.sheet.specs.Lines.{rulesOf}
+use Rattle.sheet.proofs.WalkLaws.{good-field, Checking, check-begin, check-levels, check-tables, check-at, check-in, check-bad, check-step, Reading, read-begin, walk-limit, OnLine, same-levels, same-tables, end-inside, walk-long, walk-cut, on-line, walk-count, row-count, rules-count, level-room, table-room, walk-fault, walk-end, walk-after, walk-bad, walk-next}
+use Rattle.sheet.proofs.walk.walk.Statement.{statement}
+use Rattle.sheet.proofs.walk.walk.Tie as tie
+
+abbrev Inv-loop : tie.InvT-loop
+Inv-loop text limit levels₀ tables₀ state at line held₀ listed₀ end tag count row i₀ a₀ levels tables held listed i a = OnLine text state at end tag count
+    × (length (split 9 row) ≡ count)
+    × Checking (rulesOf tag limit (split 9 row)) row count levels₀ tables₀ held₀ listed₀ levels tables held listed i a
+
+abbrev μ-loop : tie.MeasureT-loop
+μ-loop text limit levels₀ tables₀ state at line held₀ listed₀ end tag count row i₀ a₀ levels tables held listed i a = count - i
+
+abbrev Inv-lines : tie.InvT-lines
+Inv-lines text limit levels₀ tables₀ state₀ at₀ line₀ held₀ listed₀ levels tables state at line held listed = Reading limit text levels₀ tables₀ levels tables state at line held listed
+
+abbrev μ-lines : tie.MeasureT-lines
+μ-lines text limit levels₀ tables₀ state₀ at₀ line₀ held₀ listed₀ levels tables state at line held listed = length text - at
+
+returns : tie.Need-returns Inv-loop μ-loop Inv-lines μ-lines
+returns c = walk-limit _ _ _ _ (sym (c .before .is-limit .ensures) ∙ not-true (c .before .is-limit .result) (c .if1 .taken))
+
+lines-holds : tie.Need-lines-holds Inv-loop μ-loop Inv-lines μ-lines
+lines-holds c = read-begin _ _ _ _ _ (sym (c .before .before .is-limit .ensures) ∙ not-false (c .before .before .is-limit .result) (c .before .if1 .left)) (c .nothing .ensures)
+
+line-at-requires : tie.Need-line-at-requires Inv-loop μ-loop Inv-lines μ-lines
+line-at-requires c κs = c .lines .inv .inside
+
+sub-if2 : tie.Need-sub-if2 Inv-loop μ-loop Inv-lines μ-lines
+sub-if2 c = omega (arith, c .line-at .ensures .end)
+
+sub-row : tie.Need-sub-row Inv-loop μ-loop Inv-lines μ-lines
+sub-row c = omega (arith, c .before .before .before .before .before .before .line-at .ensures .end)
+
+part-row-start : tie.Need-part-row-start Inv-loop μ-loop Inv-lines μ-lines
+part-row-start c = omega (arith, c .before .before .before .before .before .before .line-at .ensures .end)
+
+part-row-end : tie.Need-part-row-end Inv-loop μ-loop Inv-lines μ-lines
+part-row-end c = end-inside (c .before .before .before .before .before .before .before .lines .inv) (c .before .before .before .before .before .before .line-at .ensures)
+
+loop-holds : tie.Need-loop-holds Inv-loop μ-loop Inv-lines μ-lines
+loop-holds c = let o = on-line (c .before .before .before .before .before .before .before .before .lines .inv) (c .before .before .before .before .before .before .before .line-at .ensures) (c .before .before .before .before .before .before .if2 .left) (c .before .before .before .before .before .if3 .left) (c .before .before .before .before .expected .ensures) (c .before .before .before .field-count .ensures) in (o, row-count (c .before .before .before .before .before .before .before .before .lines .inv) o (c .before .before .before .before .before .before .before .line-at .ensures) (c .before .if4 .left), check-begin _ _ _ _ _ _ _)
+
+field-end-requires : tie.Need-field-end-requires Inv-loop μ-loop Inv-lines μ-lines
+field-end-requires c κs = check-at (c .before .loop .inv .2) (c .loop-test .taken)
+
+rule-at-requires : tie.Need-rule-at-requires Inv-loop μ-loop Inv-lines μ-lines
+rule-at-requires c κs = omega (arith, c .before .before .before .before .before .before .field-count .ensures, c .before .loop-test .taken)
+
+sub-read-field : tie.Need-sub-read-field Inv-loop μ-loop Inv-lines μ-lines
+sub-read-field c = omega (arith, c .before .field-end .ensures)
+
+part-read-field-start : tie.Need-part-read-field-start Inv-loop μ-loop Inv-lines μ-lines
+part-read-field-start c = omega (arith, c .before .field-end .ensures)
+
+part-read-field-end : tie.Need-part-read-field-end Inv-loop μ-loop Inv-lines μ-lines
+part-read-field-end c = check-in (c .before .before .before .loop .inv .2) (c .before .before .loop-test .taken) (c .before .field-end .ensures)
+
+put-level-requires : tie.Need-put-level-requires Inv-loop μ-loop Inv-lines μ-lines
+put-level-requires c κs = level-room (c .before .before .before .before .before .before .before .before .before .before .before .before .before .before .before .before .lines .inv) (c .before .before .before .before .before .before .before .loop .inv .0) (c .before .before .before .before .before .before .before .loop .inv .1) (c .before .before .before .before .before .before .before .before .before .before .before .before .before .before .before .before .before .before .before .before .before .before .good .0 .0) (c .before .before .before .before .before .before .loop-test .taken) (c .before .before .before .before .before .before .before .loop .inv .2 .held)
+
+put-quantiser-requires : tie.Need-put-quantiser-requires Inv-loop μ-loop Inv-lines μ-lines
+put-quantiser-requires c κs = table-room (c .before .before .before .before .before .before .before .before .before .before .before .before .before .before .before .before .before .before .before .lines .inv) (c .before .before .before .before .before .before .before .before .before .before .loop .inv .0) (c .before .before .before .before .before .before .before .before .before .before .loop .inv .1) (c .before .before .before .before .before .before .before .before .before .before .before .before .before .before .before .before .before .before .before .before .before .before .before .before .before .good .0 .0) (c .before .before .before .before .before .before .before .before .before .loop-test .taken) (c .before .before .before .before .before .before .before .before .before .before .loop .inv .2 .listed)
+
+add-a : tie.Need-add-a Inv-loop μ-loop Inv-lines μ-lines
+add-a c = omega (arith, check-in (c .before .before .before .before .before .before .before .before .before .before .before .before .before .loop .inv .2) (c .before .before .before .before .before .before .before .before .before .before .before .before .loop-test .taken) (c .before .before .before .before .before .before .before .before .before .before .before .field-end .ensures), c .before .before .before .before .before .before .before .before .before .before .before .before .before .loop .inv .0 .size, c .before .before .before .before .before .before .before .before .before .before .before .before .before .loop .inv .0 .ended, c .before .before .before .before .before .before .before .before .before .before .before .before .before .before .before .before .before .before .before .before .before .before .before .before .before .before .before .before .good .0 .0)
+
+loop-again : tie.Need-loop-again Inv-loop μ-loop Inv-lines μ-lines
+loop-again c = (
+  c .before .before .before .before .before .before .before .before .before .before .before .before .before .loop .inv .0,
+  c .before .before .before .before .before .before .before .before .before .before .before .before .before .loop .inv .1,
+  check-step (c .before .before .before .before .before .before .before .before .before .before .before .before .before .loop .inv .2) (c .before .before .before .before .before .before .before .before .before .before .before .before .loop-test .taken) (c .before .before .before .before .before .before .before .before .before .before .before .field-end .ensures) (rules-count (c .before .before .before .before .before .before .before .before .before .before .before .before .before .before .before .before .before .before .before .before .before .before .lines .inv) (c .before .before .before .before .before .before .before .before .before .before .before .before .before .loop .inv .0)) (c .before .before .before .before .before .before .before .before .before .before .before .before .before .loop .inv .1) (c .before .before .before .before .before .before .before .before .before .before .rule-at .ensures) (c .before .before .before .before .before .before .before .before .read-field .ensures)
+      (good-field (c .before .before .before .before .before .before .before .before .read-field .result) (c .before .before .before .before .before .before .before .match .keys2)) (c .before .before .before .before .before .put-level .ensures) (c .before .before .put-quantiser .ensures),
+)
+
+add-if6 : tie.Need-add-if6 Inv-loop μ-loop Inv-lines μ-lines
+add-if6 c = omega (arith, c .before .before .loop .inv .0 .ended, c .before .before .before .before .before .before .before .before .before .before .before .before .before .before .before .before .before .good .0 .0)
+
+add-t41 : tie.Need-add-t41 Inv-loop μ-loop Inv-lines μ-lines
+add-t41 c = omega (arith, c .before .before .before .before .before .before .before .before .before .before .before .before .lines .inv .lines, c .before .before .before .before .before .before .before .before .before .before .before .before .lines .inv .inside, c .before .before .before .before .before .before .before .before .before .before .before .before .before .before .before .before .before .before .good .0)
+
+add-at : tie.Need-add-at Inv-loop μ-loop Inv-lines μ-lines
+add-at c = omega (arith, c .before .before .before .before .before .before .before .loop .inv .0 .ended, c .before .before .before .before .before .before .before .before .before .before .before .before .before .before .before .before .before .before .before .before .before .before .good .0 .0)
+
+add-line : tie.Need-add-line Inv-loop μ-loop Inv-lines μ-lines
+add-line c = omega (arith, c .before .before .before .before .before .before .before .before .before .before .before .before .before .before .before .before .lines .inv .lines, c .before .before .before .before .before .before .before .before .before .before .before .before .before .before .before .before .lines .inv .inside, c .before .before .before .before .before .before .before .before .before .before .before .before .before .before .before .before .before .before .before .before .before .before .good .0)
+
+lines-less : tie.Need-lines-less Inv-loop μ-loop Inv-lines μ-lines
+lines-less c = omega (arith, c .before .before .before .before .before .before .before .loop .inv .0 .ended, c .before .before .before .before .before .before .before .loop .inv .0 .ordered)
+
+lines-again : tie.Need-lines-again Inv-loop μ-loop Inv-lines μ-lines
+lines-again c = walk-next (c .before .before .before .before .before .before .before .before .before .before .before .before .before .before .before .before .lines .inv) (c .before .before .before .before .before .before .before .loop .inv .0) (c .before .before .before .before .before .before .before .loop .inv .1) (c .before .before .before .before .before .before .before .loop .inv .2) (c .before .before .before .before .before .before .loop-test .left) (c .before .before .before .before .before .if5 .left) (c .before .before .before .before .record-of .ensures) (c .before .before .before .take-record .ensures) (c .before .next .given .1)
+
+same-length : tie.Need-same-length Inv-loop μ-loop Inv-lines μ-lines
+same-length c = same-levels (c .before .before .lines .inv)
+
+same-length-2 : tie.Need-same-length-2 Inv-loop μ-loop Inv-lines μ-lines
+same-length-2 c = same-tables (c .before .before .lines .inv)
+
+returns-2 : tie.Need-returns-2 Inv-loop μ-loop Inv-lines μ-lines
+returns-2 c = walk-long (c .before .before .lines .inv) (c .before .line-at .ensures) (c .if2 .taken)
+
+same-length-3 : tie.Need-same-length-3 Inv-loop μ-loop Inv-lines μ-lines
+same-length-3 c = same-levels (c .before .before .before .lines .inv)
+
+same-length-4 : tie.Need-same-length-4 Inv-loop μ-loop Inv-lines μ-lines
+same-length-4 c = same-tables (c .before .before .before .lines .inv)
+
+returns-3 : tie.Need-returns-3 Inv-loop μ-loop Inv-lines μ-lines
+returns-3 c = walk-cut (c .before .before .before .lines .inv) (c .before .before .line-at .ensures) (c .before .if2 .left) (c .if3 .taken)
+
+same-length-5 : tie.Need-same-length-5 Inv-loop μ-loop Inv-lines μ-lines
+same-length-5 c = same-levels (c .before .before .before .before .before .before .before .lines .inv)
+
+same-length-6 : tie.Need-same-length-6 Inv-loop μ-loop Inv-lines μ-lines
+same-length-6 c = same-tables (c .before .before .before .before .before .before .before .lines .inv)
+
+returns-4 : tie.Need-returns-4 Inv-loop μ-loop Inv-lines μ-lines
+returns-4 c = walk-count (c .before .before .before .before .before .before .before .lines .inv) (on-line (c .before .before .before .before .before .before .before .lines .inv) (c .before .before .before .before .before .before .line-at .ensures) (c .before .before .before .before .before .if2 .left) (c .before .before .before .before .if3 .left) (c .before .before .before .expected .ensures) (c .before .before .field-count .ensures)) (c .before .before .before .before .before .before .line-at .ensures) (c .if4 .taken)
+
+same-length-7 : tie.Need-same-length-7 Inv-loop μ-loop Inv-lines μ-lines
+same-length-7 c = check-levels (c .before .before .before .before .before .before .before .before .loop .inv .2) ∙ same-levels (c .before .before .before .before .before .before .before .before .before .before .before .before .before .before .before .before .before .lines .inv)
+
+same-length-8 : tie.Need-same-length-8 Inv-loop μ-loop Inv-lines μ-lines
+same-length-8 c = check-tables (c .before .before .before .before .before .before .before .before .loop .inv .2) ∙ same-tables (c .before .before .before .before .before .before .before .before .before .before .before .before .before .before .before .before .before .lines .inv)
+
+returns-5 : tie.Need-returns-5 Inv-loop μ-loop Inv-lines μ-lines
+returns-5 c = walk-fault (c .before .before .before .before .before .before .before .before .before .before .before .before .before .before .before .before .before .lines .inv) (c .before .before .before .before .before .before .before .before .loop .inv .0) (c .before .before .before .before .before .before .before .before .loop .inv .1)
+    (check-bad (c .before .before .before .before .before .before .before .before .loop .inv .2) (c .before .before .before .before .before .before .before .loop-test .taken) (c .before .before .before .before .before .before .field-end .ensures) (rules-count (c .before .before .before .before .before .before .before .before .before .before .before .before .before .before .before .before .before .lines .inv) (c .before .before .before .before .before .before .before .before .loop .inv .0)) (c .before .before .before .before .before .before .before .before .loop .inv .1) (c .before .before .before .before .before .rule-at .ensures) (c .before .before .before .read-field .ensures) _ (c .before .f .given .1))
+
+same-length-9 : tie.Need-same-length-9 Inv-loop μ-loop Inv-lines μ-lines
+same-length-9 c = check-levels (c .before .before .before .before .loop .inv .2) ∙ same-levels (c .before .before .before .before .before .before .before .before .before .before .before .before .before .lines .inv)
+
+same-length-10 : tie.Need-same-length-10 Inv-loop μ-loop Inv-lines μ-lines
+same-length-10 c = check-tables (c .before .before .before .before .loop .inv .2) ∙ same-tables (c .before .before .before .before .before .before .before .before .before .before .before .before .before .lines .inv)
+
+returns-6 : tie.Need-returns-6 Inv-loop μ-loop Inv-lines μ-lines
+returns-6 c = walk-end (c .before .before .before .before .before .before .before .before .before .before .before .before .before .lines .inv) (c .before .before .before .before .loop .inv .0) (c .before .before .before .before .loop .inv .1) (c .before .before .before .before .loop .inv .2) (c .before .before .before .loop-test .left) (c .before .before .if5 .taken) (c .before .if6 .taken)
+
+same-length-11 : tie.Need-same-length-11 Inv-loop μ-loop Inv-lines μ-lines
+same-length-11 c = check-levels (c .before .before .before .loop .inv .2) ∙ same-levels (c .before .before .before .before .before .before .before .before .before .before .before .before .lines .inv)
+
+same-length-12 : tie.Need-same-length-12 Inv-loop μ-loop Inv-lines μ-lines
+same-length-12 c = check-tables (c .before .before .before .loop .inv .2) ∙ same-tables (c .before .before .before .before .before .before .before .before .before .before .before .before .lines .inv)
+
+returns-7 : tie.Need-returns-7 Inv-loop μ-loop Inv-lines μ-lines
+returns-7 c = walk-after (c .before .before .before .before .before .before .before .before .before .before .before .before .lines .inv) (c .before .before .before .loop .inv .0) (c .before .before .before .loop .inv .1) (c .before .before .before .loop .inv .2) (c .before .before .loop-test .left) (c .before .if5 .taken) (c .if6 .left)
+
+same-length-13 : tie.Need-same-length-13 Inv-loop μ-loop Inv-lines μ-lines
+same-length-13 c = check-levels (c .before .before .before .before .before .before .before .loop .inv .2) ∙ same-levels (c .before .before .before .before .before .before .before .before .before .before .before .before .before .before .before .before .lines .inv)
+
+same-length-14 : tie.Need-same-length-14 Inv-loop μ-loop Inv-lines μ-lines
+same-length-14 c = check-tables (c .before .before .before .before .before .before .before .loop .inv .2) ∙ same-tables (c .before .before .before .before .before .before .before .before .before .before .before .before .before .before .before .before .lines .inv)
+
+returns-8 : tie.Need-returns-8 Inv-loop μ-loop Inv-lines μ-lines
+returns-8 c = walk-bad (c .before .before .before .before .before .before .before .before .before .before .before .before .before .before .before .before .lines .inv) (c .before .before .before .before .before .before .before .loop .inv .0) (c .before .before .before .before .before .before .before .loop .inv .1) (c .before .before .before .before .before .before .before .loop .inv .2) (c .before .before .before .before .before .before .loop-test .left) (c .before .before .before .before .before .if5 .left) (c .before .before .before .before .record-of .ensures) (c .before .before .before .take-record .ensures) (c .before .number .given .1)
+
+pub walk-spec : {M : Type 1} → statement M
+walk-spec =
+    tie.close
+    (tie.spec Inv-loop μ-loop Inv-lines μ-lines (λ c κs. search needs) returns (λ c κs. search needs) lines-holds
+    line-at-requires sub-if2 (λ c κs. search needs) (λ c κs. search needs) sub-row part-row-start part-row-end
+    loop-holds field-end-requires rule-at-requires sub-read-field part-read-field-start part-read-field-end
+    (λ c κs. search needs) (λ c. search needs) put-level-requires put-quantiser-requires add-a (λ c. omega arith)
+    (λ c. omega arith) loop-again add-if6 add-t41 (λ c κs. search needs) (λ c κs. search needs)
+    (λ c. search needs) (λ c. search needs) add-at add-line lines-less lines-again same-length same-length-2
+    returns-2 same-length-3 same-length-4 returns-3 same-length-5 same-length-6 returns-4 same-length-7
+    same-length-8 returns-5 same-length-9 same-length-10 returns-6 same-length-11 same-length-12 returns-7
+    same-length-13 same-length-14 returns-8)

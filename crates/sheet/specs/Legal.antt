@@ -1,0 +1,65 @@
+-- What holds of every sheet that is read: document 01's rules as facts. A theorem, `legal` of proofs/LegalLaws.antt.
+use Prim.Native.Nat.{ℕ, zero, suc, _+_, _*_, _≤_, _<_}
+use mathlib.Core.Path.{_≡_}
+use mathlib.Core.List.{List, [], _∷_}
+use mathlib.Core.Bool.{cond}
+use mathlib.Core.Logic.{_⊎_}
+use lib.ListN.{length}
+use lib.Dec.{eqb}
+use lib.IntN.{ℤ}
+use Rattle.text.specs.Legal.{Between, LegalSide, LegalWeight, LegalLevel}
+use Rattle.sheet.specs.declared.Header.{Header}
+use Rattle.sheet.specs.declared.Channel.{Channel}
+use Rattle.sheet.specs.declared.Sheet.{Sheet}
+use Rattle.sheet.specs.Lines.{noChannel}
+
+pub record LegalHeader (limit : ℕ) (h : Header) : Type 0 where
+  pub width : LegalSide limit (h .width)
+  pub height : LegalSide limit (h .height)
+  pub shown-width : Between 1 (h .width) (h .«picture_width»)
+  pub shown-height : Between 1 (h .height) (h .«picture_height»)
+  pub channels : (h .channels ≡ 1) ⊎ (h .channels ≡ 3)
+  pub iterations0 : h .iterations0 ≤ 1000
+  pub iterations1 : h .iterations1 ≤ 1000
+  pub iterations2 : h .iterations2 ≤ 1000
+  pub smoothing0 : LegalWeight (h .smoothing0)
+  pub smoothing1 : LegalWeight (h .smoothing1)
+  pub smoothing2 : LegalWeight (h .smoothing2)
+  pub data0 : LegalWeight (h .data0)
+  pub data1 : LegalWeight (h .data1)
+  pub data2 : LegalWeight (h .data2)
+
+pub record LegalChannel (h : Header) (c : Channel) : Type 0 where
+  pub width : LegalSide 999999 (c .width)
+  pub height : LegalSide 999999 (c .height)
+  pub across : Between 1 4 (c .across)
+  pub down : Between 1 4 (c .down)
+  pub wide : c .width * c .across ≤ h .width
+  pub high : c .height * c .down ≤ h .height
+
+-- channel j of a sheet
+abbrev pub channelAt : Sheet → ℕ → Channel
+channelAt s j = cond (eqb j 0) (s .first) (cond (eqb j 1) (s .second) (s .third))
+
+-- the levels of the first j channels
+abbrev pub levelsTo : Sheet → ℕ → ℕ
+levelsTo s zero = 0
+levelsTo s (suc j) = levelsTo s j + channelAt s j .width * channelAt s j .height
+
+abbrev pub LegalQuantisers : List ℕ → Type 0
+LegalQuantisers [] = Unit {0}
+LegalQuantisers (q ∷ qs) = Between 1 255 q × LegalQuantisers qs
+
+abbrev pub LegalLevels : List ℤ → Type 0
+LegalLevels [] = Unit {0}
+LegalLevels (z ∷ zs) = LegalLevel z × LegalLevels zs
+
+pub record LegalSheet (limit : ℕ) (s : Sheet) (ls : List ℤ) (ts : List ℕ) : Type 0 where
+  pub most : LegalSide 512 limit
+  pub header : LegalHeader limit (s .header)
+  pub channel : (j : ℕ) → j < s .header .channels → LegalChannel (s .header) (channelAt s j)
+  pub spare : (j : ℕ) → s .header .channels ≤ j → j < 3 → channelAt s j ≡ noChannel
+  pub levels-count : length ls ≡ levelsTo s (s .header .channels)
+  pub tables-count : length ts ≡ 64 * s .header .channels
+  pub levels : LegalLevels ls
+  pub tables : LegalQuantisers ts

@@ -1,0 +1,6 @@
+-- What a sheet text means. Document 01, "Sheet records".
+pub mod Lines
+pub mod Reading
+pub mod Calls
+pub mod Legal
+pub mod Walk

@@ -1,0 +1,139 @@
+-- The lines of a sheet: the rule of each field, left to right, and what a good line says.
+-- Tags are S (83), C (67), B (66) and E (69).
+use Prim.Native.Nat.{ℕ}
+use mathlib.Core.List.{List, [], _∷_, _++_}
+use mathlib.Core.Bool.{false, cond}
+use mathlib.Core.Option.{Option, none, some}
+use lib.ListN.{length, getD, replicate}
+use lib.Dec.{eqb}
+use lib.IntN.{ℤ}
+use Rattle.text.specs.declared.weight.Weight.the-variants as weight
+use Rattle.text.specs.declared.field.Rule.{Rule}
+use Rattle.text.specs.declared.field.Rule.the-variants as rule
+use Rattle.text.specs.Numbers.{numberAt}
+use Rattle.text.specs.Weights.{weightAt}
+use Rattle.text.specs.Fields.{letter, fieldOf, faultIn, levelsIn, tablesIn}
+use Rattle.sheet.specs.declared.Header.{Header}
+use Rattle.sheet.specs.declared.Channel.{Channel}
+use Rattle.sheet.specs.declared.line.Record.{Record}
+use Rattle.sheet.specs.declared.line.Record.the-variants as line
+
+-- "three iteration counts (0 to 1,000)", else 2
+abbrev pub count : Rule
+count = rule.Range 2 0 1000
+
+-- "across and down factors (1 to 4)", else 3
+abbrev pub factor : Rule
+factor = rule.Range 3 1 4
+
+-- "own width w and height h (multiples of 8, at least 8)", else 2: a number has at most six digits, so 999,999 is no bound
+abbrev pub ownSide : Rule
+ownSide = rule.Side 999999
+
+-- "`S`, full width W, full height H (multiples of 8, 8 to 512), picture width and height (1 to W, 1 to H), channels (1 or 3),
+-- mode `j` joint or `s` separate, three iteration counts (0 to 1,000), three smoothing weights, three data weights." The
+-- limit stands for 512. Spare fields have their rule too: "spare fields must be legal".
+abbrev pub headerRules : ℕ → List (List ℕ) → List Rule
+headerRules limit fs =
+    rule.Tag 83
+    ∷ rule.Side limit ∷ rule.Side limit
+    ∷ rule.Range 2 1 (numberAt fs 1) ∷ rule.Range 2 1 (numberAt fs 2)
+    ∷ rule.Channels ∷ rule.Mode
+    ∷ count ∷ count ∷ count
+    ∷ replicate 6 rule.Weight
+
+-- "`C`, own width w and height h, across and down factors, 64 quantisers"
+abbrev pub channelRules : List Rule
+channelRules = rule.Tag 67 ∷ ownSide ∷ ownSide ∷ factor ∷ factor ∷ replicate 64 rule.Quantiser
+
+-- "lines `B` with 64 levels"
+abbrev pub blockRules : List Rule
+blockRules = rule.Tag 66 ∷ replicate 64 rule.Level
+
+-- "`E` alone ends it."
+abbrev pub endRules : List Rule
+endRules = rule.Tag 69 ∷ []
+
+-- the rules of a line with the fields fs where this tag is due
+unfoldable pub rulesOf : ℕ → ℕ → List (List ℕ) → List Rule
+rulesOf tag limit fs = cond (eqb tag 66) blockRules (cond (eqb tag 67) channelRules (cond (eqb tag 83) (headerRules limit fs) endRules))
+
+-- how many fields that line must have
+unfoldable pub fieldCount : ℕ → ℕ
+fieldCount tag = cond (eqb tag 66) 65 (cond (eqb tag 67) 69 (cond (eqb tag 83) 16 1))
+
+-- "fields left to right": the fault of the first bad field, if there is one
+abbrev pub orElse : Option ℕ → Option ℕ → Option ℕ
+orElse (some k) later = some k
+orElse none later = later
+
+abbrev pub firstFault : List Rule → List (List ℕ) → Option ℕ
+firstFault [] fs = none
+firstFault (r ∷ rs) [] = none
+firstFault (r ∷ rs) (f ∷ fs) = orElse (faultIn (fieldOf r f)) (firstFault rs fs)
+
+-- "then tag and field count (1), then fields left to right": a tag is its line's first field, so both are 1
+unfoldable pub fieldsFault : List Rule → List (List ℕ) → Option ℕ
+fieldsFault rs fs = cond (eqb (length fs) (length rs)) (firstFault rs fs) (some 1)
+
+-- What a line adds to the levels, "values row by row", and to the tables
+abbrev pub lineLevels : List Rule → List (List ℕ) → List ℤ
+lineLevels [] fs = []
+lineLevels (r ∷ rs) [] = []
+lineLevels (r ∷ rs) (f ∷ fs) = levelsIn (fieldOf r f) ++ lineLevels rs fs
+
+abbrev pub lineTables : List Rule → List (List ℕ) → List ℕ
+lineTables [] fs = []
+lineTables (r ∷ rs) [] = []
+lineTables (r ∷ rs) (f ∷ fs) = tablesIn (fieldOf r f) ++ lineTables rs fs
+
+-- "A record is a header, channel or block line": what a good line holds besides
+unfoldable pub headerOf : List (List ℕ) → Header
+headerOf fs =
+    record {
+      width = numberAt fs 1;
+      height = numberAt fs 2;
+      «picture_width» = numberAt fs 3;
+      «picture_height» = numberAt fs 4;
+      channels = numberAt fs 5;
+      joint = letter 106 (getD fs 6 []);
+      iterations0 = numberAt fs 7;
+      iterations1 = numberAt fs 8;
+      iterations2 = numberAt fs 9;
+      smoothing0 = weightAt fs 10;
+      smoothing1 = weightAt fs 11;
+      smoothing2 = weightAt fs 12;
+      data0 = weightAt fs 13;
+      data1 = weightAt fs 14;
+      data2 = weightAt fs 15;
+    }
+
+unfoldable pub channelOf : List (List ℕ) → Channel
+channelOf fs = record { width = numberAt fs 1; height = numberAt fs 2; across = numberAt fs 3; down = numberAt fs 4 }
+
+unfoldable pub recordOf : ℕ → List (List ℕ) → Record
+recordOf tag fs = cond (eqb tag 83) (line.Header (headerOf fs)) (cond (eqb tag 67) (line.Channel (channelOf fs)) line.Block)
+
+-- no header, no channel
+abbrev pub noHeader : Header
+noHeader =
+    record {
+      width = 0;
+      height = 0;
+      «picture_width» = 0;
+      «picture_height» = 0;
+      channels = 0;
+      joint = false;
+      iterations0 = 0;
+      iterations1 = 0;
+      iterations2 = 0;
+      smoothing0 = weight.Whole 0;
+      smoothing1 = weight.Whole 0;
+      smoothing2 = weight.Whole 0;
+      data0 = weight.Whole 0;
+      data1 = weight.Whole 0;
+      data2 = weight.Whole 0;
+    }
+
+abbrev pub noChannel : Channel
+noChannel = record { width = 0; height = 0; across = 0; down = 0 }

@@ -1,0 +1,118 @@
+-- What a whole text means: the sheet with its levels and tables, or the first refusal with its line.
+use Prim.Native.Nat.{ℕ, _+_, _-_, _*_, _/_}
+use mathlib.Core.List.{List, [], _∷_, _++_}
+use mathlib.Core.Bool.{Bool, true, false, cond, _&&_}
+use mathlib.Core.Option.{Option, none, some}
+use lib.ListN.{length}
+use lib.Dec.{eqb, leb, ltb}
+use lib.IntN.{ℤ}
+use Rattle.text.specs.Pieces.{split}
+use Rattle.text.specs.Fields.{isSide}
+use Rattle.sheet.specs.declared.Header.{Header}
+use Rattle.sheet.specs.declared.Channel.{Channel}
+use Rattle.sheet.specs.declared.Sheet.{Sheet}
+use Rattle.sheet.specs.declared.line.Record.{Record}
+use Rattle.sheet.specs.declared.line.Record.the-variants as line
+use Rattle.sheet.specs.declared.state.State.{State}
+use Rattle.sheet.specs.declared.state.Taken.{Taken}
+use Rattle.sheet.specs.declared.state.Taken.the-variants as taken
+use Rattle.sheet.specs.Lines.{rulesOf, fieldsFault, lineLevels, lineTables, recordOf, noHeader, noChannel}
+
+-- What a call or a text gives: its values, or a number of the paper's table and the line, counted from 1
+pub data Outcome (A : Type 0) : Type 0 where
+  Gives : A → Outcome A
+  Refused : ℕ → ℕ → Outcome A
+
+-- What a legal text holds
+pub record Contents : Type 0 where
+  pub sheet : Sheet
+  pub levels : List ℤ
+  pub tables : List ℕ
+
+abbrev pub contents : Sheet → List ℤ → List ℕ → Outcome Contents
+contents s ls ts = Gives (record { sheet = s; levels = ls; tables = ts })
+
+-- a header, no channel yet
+abbrev pub headed : Header → Sheet
+headed h = record { header = h; first = noChannel; second = noChannel; third = noChannel }
+
+-- Nothing read yet
+unfoldable pub blank : State
+blank = record { begun = false; sheet = headed noHeader; read = 0; left = 0 }
+
+-- The tag that is due: first S; "Then w × h / 64 lines `B`" while blocks of the channel are left; "Per channel `C`" while
+-- channels are left; then E
+unfoldable pub expectedTag : State → ℕ
+expectedTag s = cond (s .begun) (cond (ltb 0 (s .left)) 66 (cond (ltb (s .read) (s .sheet .header .channels)) 67 69)) 83
+
+-- channel j
+abbrev pub placed : Sheet → ℕ → Channel → Sheet
+placed s j c =
+    record {
+      header = s .header;
+      first = cond (eqb j 0) c (s .first);
+      second = cond (eqb j 1) c (s .second);
+      third = cond (eqb j 2) c (s .third);
+    }
+
+-- the next channel, with its blocks still to come
+abbrev pub opened : State → Channel → State
+opened s c = record { begun = true; sheet = placed (s .sheet) (s .read) c; read = s .read + 1; left = c .width * c .height / 64 }
+
+-- "w × across ≤ W, h × down ≤ H", else 2
+abbrev pub covers : Header → Channel → Bool
+covers h c = leb (c .width * c .across) (h .width) && leb (c .height * c .down) (h .height)
+
+-- The state after a line whose fields are good, or its fault: "then cover (2)". (Where no channel or block is due no such
+-- line is, so the two 1s are never given.)
+unfoldable pub takenOf : State → Record → Taken
+takenOf s (line.Header h) = taken.Good (record { begun = true; sheet = headed h; read = 0; left = 0 })
+takenOf s (line.Channel c) =
+    cond (ltb (s .read) (s .sheet .header .channels)) (cond (covers (s .sheet .header) c) (taken.Good (opened s c)) (taken.Bad 2)) (taken.Bad 1)
+takenOf s line.Block =
+    cond (ltb 0 (s .left)) (taken.Good (record { begun = s .begun; sheet = s .sheet; read = s .read; left = s .left - 1 })) (taken.Bad 1)
+
+-- The line p is the last piece: unended, or nothing at all
+abbrev pub isLast : List (List ℕ) → Bool
+isLast [] = true
+isLast (p ∷ ps) = false
+
+-- "In any other line: 1 if over 1,024 bytes, 7 if unended, then tag and field count (1), then fields left to right": the
+-- fault of the line p, before those in rest, where this tag is due. "7 .. for the one after the last when `E` is missing":
+-- that one is the last piece too.
+unfoldable pub lineFault : ℕ → ℕ → List ℕ → List (List ℕ) → Option ℕ
+lineFault limit tag p rest =
+    cond (ltb 1024 (length p)) (some 1) (cond (isLast rest) (some 7) (fieldsFault (rulesOf tag limit (split 9 p)) (split 9 p)))
+
+-- "A byte after `E` is 7", at "the one after `E`"
+abbrev pub nothingLeft : List (List ℕ) → Bool
+nothingLeft [] = true
+nothingLeft ([] ∷ []) = true
+nothingLeft ([] ∷ (q ∷ qs)) = false
+nothingLeft ((x ∷ p) ∷ qs) = false
+
+-- "Reading stops at the first bad field of the first bad line"
+abbrev pub onFault : {A : Type 0} → Option ℕ → ℕ → Outcome A → Outcome A
+onFault none at more = more
+onFault (some k) at more = Refused k at
+
+abbrev pub onTaken : {A : Type 0} → Taken → ℕ → (State → Outcome A) → Outcome A
+onTaken (taken.Good s) at more = more s
+onTaken (taken.Bad k) at more = Refused k at
+
+-- The text from line `at` on, as its pieces, after what was read so far
+abbrev pub readFrom : ℕ → State → List ℤ → List ℕ → ℕ → List (List ℕ) → Outcome Contents
+readFrom limit s ls ts at [] = Refused 7 at
+readFrom limit s ls ts at (p ∷ rest) =
+    let tag = expectedTag s in
+    let fs = split 9 p in
+    let rs = rulesOf tag limit fs in
+    onFault (lineFault limit tag p rest) at
+    (cond (eqb tag 69)
+    (cond (nothingLeft rest) (contents (s .sheet) ls ts) (Refused 7 (at + 1)))
+    (onTaken (takenOf s (recordOf tag fs)) at (λ t. readFrom limit t (ls ++ lineLevels rs fs) (ts ++ lineTables rs fs) (at + 1) rest)))
+
+-- A text at a side limit, 512 in the library and 32 in `smooth`. A limit that could not be a side is 2 at line 0, before the
+-- text is read: document 01 has no such limit, and this is M-106's answer to a bad parameter.
+unfoldable pub readText : ℕ → List ℕ → Outcome Contents
+readText limit text = cond (isSide 512 limit) (readFrom limit blank [] [] 1 (split 10 text)) (Refused 2 0)

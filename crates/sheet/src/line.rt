@@ -1,0 +1,171 @@
+// The lines: the rule of each field, and what a good line holds.
+use crate::Channel;
+use crate::Header;
+use text::field;
+use text::field::Rule;
+use text::number;
+use text::weight;
+ghost use mathlib.Core.Path.{_≡_};
+ghost use Prim.Native.Nat.{_<_};
+ghost use lib.ListN.{getD};
+ghost use Rattle.text.specs.Pieces.{split};
+ghost use Rattle.sheet.specs.Lines.{headerRules, channelRules, blockRules, rulesOf, fieldCount, headerOf, channelOf, recordOf};
+
+// A line as read. Quantisers and levels go to the buffers.
+pub enum Record {
+    Header(Header),
+    Channel(Channel),
+    Block,
+}
+
+// How many fields a line has.
+pub fn field_count(tag: u8) -> usize
+    ensures { λ r. ⌜ r ≡ fieldCount tag ⌝ }
+{
+    if tag == 83 {
+        return 16;
+    }
+    if tag == 67 {
+        return 69;
+    }
+    if tag == 66 {
+        return 65;
+    }
+    1
+}
+
+fn header_rule(i: usize, limit: u32, row: &[u8]) -> Rule
+    requires { ⌜ i < 16 ⌝ }
+    ensures { λ r. ⌜ r ≡ getD (headerRules limit (split 9 (now (row .entry)))) i (Rule.Tag 0) ⌝ }
+{
+    if i == 0 {
+        return Rule::Tag(83);
+    }
+    if i <= 2 {
+        return Rule::Side(limit);
+    }
+    if i == 3 {
+        return Rule::Range {
+            fault: 2,
+            low: 1,
+            high: number::number_at(row, 1),
+        };
+    }
+    if i == 4 {
+        return Rule::Range {
+            fault: 2,
+            low: 1,
+            high: number::number_at(row, 2),
+        };
+    }
+    if i == 5 {
+        return Rule::Channels;
+    }
+    if i == 6 {
+        return Rule::Mode;
+    }
+    if i <= 9 {
+        return Rule::Range {
+            fault: 2,
+            low: 0,
+            high: 1000,
+        };
+    }
+    Rule::Weight
+}
+
+fn channel_rule(i: usize) -> Rule
+    requires { ⌜ i < 69 ⌝ }
+    ensures { λ r. ⌜ r ≡ getD channelRules i (Rule.Tag 0) ⌝ }
+{
+    if i == 0 {
+        return Rule::Tag(67);
+    }
+    if i <= 2 {
+        return Rule::Side(999999);
+    }
+    if i <= 4 {
+        return Rule::Range {
+            fault: 3,
+            low: 1,
+            high: 4,
+        };
+    }
+    Rule::Quantiser
+}
+
+fn block_rule(i: usize) -> Rule
+    requires { ⌜ i < 65 ⌝ }
+    ensures { λ r. ⌜ r ≡ getD blockRules i (Rule.Tag 0) ⌝ }
+{
+    if i == 0 { Rule::Tag(66) } else { Rule::Level }
+}
+
+// The rule of field i of a line.
+pub fn rule_at(tag: u8, i: usize, limit: u32, row: &[u8]) -> Rule
+    requires { ⌜ i < fieldCount tag ⌝ }
+    ensures { λ r. ⌜ r ≡ getD (rulesOf tag limit (split 9 (now (row .entry)))) i (Rule.Tag 0) ⌝ }
+{
+    if tag == 66 {
+        return block_rule(i);
+    }
+    if tag == 67 {
+        return channel_rule(i);
+    }
+    if tag == 83 {
+        return header_rule(i, limit, row);
+    }
+    Rule::Tag(69)
+}
+
+fn header_of(row: &[u8]) -> Header
+    ensures { λ r. ⌜ r ≡ headerOf (split 9 (now (row .entry))) ⌝ }
+{
+    let smoothing0 = weight::weight_at(row, 10);
+    let smoothing1 = weight::weight_at(row, 11);
+    let smoothing2 = weight::weight_at(row, 12);
+    let data0 = weight::weight_at(row, 13);
+    let data1 = weight::weight_at(row, 14);
+    let data2 = weight::weight_at(row, 15);
+    Header {
+        width: number::number_at(row, 1),
+        height: number::number_at(row, 2),
+        picture_width: number::number_at(row, 3),
+        picture_height: number::number_at(row, 4),
+        channels: number::number_at(row, 5),
+        joint: field::letter_at(row, 6, 106),
+        iterations0: number::number_at(row, 7),
+        iterations1: number::number_at(row, 8),
+        iterations2: number::number_at(row, 9),
+        smoothing0,
+        smoothing1,
+        smoothing2,
+        data0,
+        data1,
+        data2,
+    }
+}
+
+fn channel_of(row: &[u8]) -> Channel
+    ensures { λ r. ⌜ r ≡ channelOf (split 9 (now (row .entry))) ⌝ }
+{
+    Channel {
+        width: number::number_at(row, 1),
+        height: number::number_at(row, 2),
+        across: number::number_at(row, 3),
+        down: number::number_at(row, 4),
+    }
+}
+
+// What a good line holds.
+pub fn record_of(tag: u8, row: &[u8]) -> Record
+    ensures { λ r. ⌜ r ≡ recordOf tag (split 9 (now (row .entry))) ⌝ }
+{
+    if tag == 83 {
+        return Record::Header(header_of(row));
+    }
+    if tag == 67 {
+        return Record::Channel(channel_of(row));
+    }
+    Record::Block
+}

@@ -1,0 +1,181 @@
+// What was read so far, and what the next line adds to it.
+use crate::Channel;
+use crate::Header;
+use crate::Sheet;
+use crate::line::Record;
+use text::weight::Weight;
+ghost use mathlib.Core.Path.{_≡_};
+ghost use mathlib.Core.Bool.{cond};
+ghost use Rattle.sheet.specs.Lines.{noHeader, noChannel};
+ghost use Rattle.sheet.specs.Reading.{blank, headed, placed, expectedTag, takenOf};
+
+// The sheet so far: whether the header was read, how many channels were, and how many blocks of the last are still to come.
+pub struct State {
+    pub begun: bool,
+    pub sheet: Sheet,
+    pub read: u32,
+    pub left: u64,
+}
+
+// The state after a good line, or the number of its fault.
+pub enum Taken {
+    Good(State),
+    Bad(u8),
+}
+
+fn no_channel() -> Channel
+    ensures { λ r. ⌜ r ≡ noChannel ⌝ }
+{
+    Channel {
+        width: 0,
+        height: 0,
+        across: 0,
+        down: 0,
+    }
+}
+
+fn no_header() -> Header
+    ensures { λ r. ⌜ r ≡ noHeader ⌝ }
+{
+    let none = Weight::Whole(0);
+    Header {
+        width: 0,
+        height: 0,
+        picture_width: 0,
+        picture_height: 0,
+        channels: 0,
+        joint: false,
+        iterations0: 0,
+        iterations1: 0,
+        iterations2: 0,
+        smoothing0: none,
+        smoothing1: none,
+        smoothing2: none,
+        data0: none,
+        data1: none,
+        data2: none,
+    }
+}
+
+// A header with no channel read yet.
+fn no_channels(header: Header) -> Sheet
+    ensures { λ r. ⌜ r ≡ headed header ⌝ }
+{
+    let none = no_channel();
+    Sheet {
+        header,
+        first: none,
+        second: none,
+        third: none,
+    }
+}
+
+// Nothing read yet.
+pub fn nothing() -> State
+    ensures { λ r. ⌜ r ≡ blank ⌝ }
+{
+    let sheet = no_channels(no_header());
+    State {
+        begun: false,
+        sheet,
+        read: 0,
+        left: 0,
+    }
+}
+
+// The tag that the next line must have.
+pub fn expected(s: State) -> u8
+    ensures { λ r. ⌜ r ≡ expectedTag s ⌝ }
+{
+    let sheet = s.sheet;
+    let h = sheet.header;
+    if s.begun {
+        if 0 < s.left {
+            return 66;
+        }
+        if s.read < h.channels {
+            return 67;
+        }
+        return 69;
+    }
+    83
+}
+
+fn channel_if(new: bool, c: Channel, old: Channel) -> Channel
+    ensures { λ r. ⌜ r ≡ cond new c old ⌝ }
+{
+    if new { c } else { old }
+}
+
+// A channel's line at its place.
+fn place(sheet: Sheet, j: u32, c: Channel) -> Sheet
+    ensures { λ r. ⌜ r ≡ placed sheet j c ⌝ }
+{
+    let header = sheet.header;
+    let first = sheet.first;
+    let second = sheet.second;
+    let third = sheet.third;
+    let first = channel_if(j == 0, c, first);
+    let second = channel_if(j == 1, c, second);
+    let third = channel_if(j == 2, c, third);
+    Sheet {
+        header,
+        first,
+        second,
+        third,
+    }
+}
+
+// The next channel's line. Blocks and cover are products of 64 bits, which hold every product of two u32.
+fn take_channel(s: State, c: Channel) -> Taken
+    ensures { λ r. ⌜ r ≡ takenOf s (Record.Channel c) ⌝ }
+{
+    let sheet = s.sheet;
+    let h = sheet.header;
+    let read = s.read;
+    if h.channels <= read {
+        return Taken::Bad(1);
+    }
+    let w = c.width as u64;
+    let v = c.height as u64;
+    if (h.width as u64) < w * (c.across as u64) {
+        return Taken::Bad(2);
+    }
+    if (h.height as u64) < v * (c.down as u64) {
+        return Taken::Bad(2);
+    }
+    let left = w * v / 64;
+    let sheet = place(sheet, read, c);
+    Taken::Good(State {
+        begun: true,
+        sheet,
+        read: read + 1,
+        left,
+    })
+}
+
+// The state after a good line, or the number of its fault.
+pub fn take_record(s: State, rec: Record) -> Taken
+    ensures { λ r. ⌜ r ≡ takenOf s rec ⌝ }
+{
+    match rec {
+        Record::Header(h) => {
+            let sheet = no_channels(h);
+            Taken::Good(State {
+                begun: true,
+                sheet,
+                read: 0,
+                left: 0,
+            })
+        }
+        Record::Channel(c) => take_channel(s, c),
+        Record::Block => {
+            if s.left < 1 {
+                return Taken::Bad(1);
+            }
+            let mut t = s;
+            t.left = s.left - 1;
+            Taken::Good(t)
+        }
+    }
+}

@@ -1,0 +1,69 @@
+-- From the enums of the reading calls to numbers.
+use mathlib.Core.Path.{_≡_, refl, sym, ap, _∙_, subst}
+use Prim.Native.Nat.{ℕ}
+use native.Mathlib.Omega.{arith}
+use mathlib.Core.Bool.{Bool, true, false, cond, _&&_}
+use mathlib.Core.List.{List}
+use lib.ListN.{length}
+use lib.Dec.{eqb}
+use lib.IntN.{ℤ}
+use borrow.Author.Tests.{eq-eqb, ne-eqb}
+use Rattle.sheet.specs.declared.Sheet.{Sheet}
+use Rattle.sheet.specs.declared.Measured.{Measured}
+use Rattle.sheet.specs.declared.Measured.the-variants as measured
+use Rattle.sheet.specs.declared.Answer.{Answer}
+use Rattle.sheet.specs.declared.Answer.the-variants as answer
+use Rattle.sheet.specs.Reading.{Outcome, Contents, readText}
+use Rattle.sheet.specs.Reading.Outcome.{Gives, Refused}
+use Rattle.sheet.specs.Calls.{Lengths, measuredSays, answerSays, sheetIn, lengthsOf, measuring, fitted, reading, levelsAfter, tablesAfter}
+use Rattle.smoother.specs.Sheets.{Measures, ReadsNumbers, numbersOf, withRecord}
+
+pub measured-lengths : (o : Outcome Lengths) (r : Measured) (n m n₀ m₀ : ℕ) → measuredSays r ≡ o → r ≡ measured.Lengths n m → Measures o n₀ n m₀ m 0 0
+measured-lengths o r n m n₀ m₀ e p =
+    subst (λ (z : Outcome Lengths). Measures z n₀ n m₀ m 0 0) (sym (ap measuredSays p) ∙ e) (record { number = refl; line = refl; levels = refl; tables = refl })
+
+pub measured-refused : (o : Outcome Lengths) (r : Measured) (k l n₀ m₀ : ℕ) → measuredSays r ≡ o → r ≡ measured.Refused k l → Measures o n₀ n₀ m₀ m₀ l k
+measured-refused o r k l n₀ m₀ e p =
+    subst (λ (z : Outcome Lengths). Measures z n₀ n₀ m₀ m₀ l k) (sym (ap measuredSays p) ∙ e) (record { number = refl; line = refl; levels = refl; tables = refl })
+
+-- ---- reading into three buffers
+module _ (l₀ l : List ℤ) (t₀ t n₀ n : List ℕ) where
+  pub read-given : (o : Outcome Contents) (r : Answer) (s : Sheet) → length n₀ ≡ 27 → answerSays r ≡ sheetIn o → r ≡ answer.Sheet s → l ≡ levelsAfter o l₀ → t ≡ tablesAfter o t₀ → n ≡ numbersOf s
+      → ReadsNumbers (withRecord (length n₀) o) l₀ l t₀ t n₀ n 0 0
+  read-given (Gives c) r s h e w p q m =
+      let v = sym (ap answerSays w) ∙ e in
+      let same : s ≡ c .sheet = cc in
+      subst (λ (b : Bool). ReadsNumbers (cond b (Gives c) (Refused 8 0)) l₀ l t₀ t n₀ n 0 0) (sym (eq-eqb (length n₀) 27 h))
+      (record { number = refl; line = refl; levels = p; tables = q; numbers = m ∙ ap numbersOf same })
+  read-given (Refused k a) r s h e w p q m = absurd (let v = sym (ap answerSays w) ∙ e in let z : _≡_ {A = ℕ} 0 1 = cc in omega arith)
+
+  pub read-refused : (o : Outcome Contents) (r : Answer) (k a : ℕ) → answerSays r ≡ sheetIn o → r ≡ answer.Refused k a → l ≡ levelsAfter o l₀ → t ≡ tablesAfter o t₀
+      → ReadsNumbers (withRecord (length n₀) o) l₀ l t₀ t n₀ n₀ a k
+  read-refused (Gives c) r k a e w p q = absurd (let v = sym (ap answerSays w) ∙ e in let z : _≡_ {A = ℕ} 0 1 = cc in omega arith)
+  read-refused (Refused k′ a′) r k a e w p q =
+      let v = sym (ap answerSays w) ∙ e in
+      let number : k ≡ k′ = cc in
+      let line : a ≡ a′ = cc in
+      record { number = number; line = line; levels = p; tables = q; numbers = refl }
+
+-- ---- no room for the record
+module _ (l₀ : List ℤ) (t₀ n₀ : List ℕ) (h : length n₀ ≡ 27 → ⊥) where
+  eight : (b : Bool) (c : Contents) → ReadsNumbers (withRecord (length n₀) (cond b (Gives c) (Refused 8 0))) l₀ l₀ t₀ t₀ n₀ n₀ 0 8
+  eight true c =
+      subst (λ (x : Bool). ReadsNumbers (cond x (Gives c) (Refused 8 0)) l₀ l₀ t₀ t₀ n₀ n₀ 0 8) (sym (ne-eqb (length n₀) 27 h))
+      (record { number = refl; line = refl; levels = refl; tables = refl; numbers = refl })
+  eight false c = record { number = refl; line = refl; levels = refl; tables = refl; numbers = refl }
+
+  pub short : (o : Outcome Contents) (r : Measured) (i j : ℕ) → measuredSays r ≡ lengthsOf o → r ≡ measured.Lengths i j
+      → ReadsNumbers (withRecord (length n₀) (fitted (length l₀) (length t₀) o)) l₀ l₀ t₀ t₀ n₀ n₀ 0 8
+  short (Gives c) r i j e p = eight (eqb (length (c .levels)) (length l₀) && eqb (length (c .tables)) (length t₀)) c
+  short (Refused k a) r i j e p = absurd (let q = sym (ap measuredSays p) ∙ e in let z : _≡_ {A = ℕ} 0 1 = cc in omega arith)
+
+  pub short-refused : (o : Outcome Contents) (r : Measured) (k a : ℕ) → measuredSays r ≡ lengthsOf o → r ≡ measured.Refused k a
+      → ReadsNumbers (withRecord (length n₀) (fitted (length l₀) (length t₀) o)) l₀ l₀ t₀ t₀ n₀ n₀ a k
+  short-refused (Gives c) r k a e p = absurd (let q = sym (ap measuredSays p) ∙ e in let z : _≡_ {A = ℕ} 0 1 = cc in omega arith)
+  short-refused (Refused k′ a′) r k a e p =
+      let q = sym (ap measuredSays p) ∙ e in
+      let number : k ≡ k′ = cc in
+      let line : a ≡ a′ = cc in
+      record { number = number; line = line; levels = refl; tables = refl; numbers = refl }

@@ -1,0 +1,11 @@
+use Rattle.smoother.proofs.mode_number.Statement.{statement}
+use Rattle.smoother.proofs.mode_number.Tie as tie
+
+returns : tie.Need-returns
+returns c = rw (c .if1 .taken)
+
+returns-2 : tie.Need-returns-2
+returns-2 c = rw (c .if1 .left)
+
+pub mode-number-spec : {M : Type 1} → statement M
+mode-number-spec = tie.close (tie.spec returns returns-2)

@@ -1,0 +1,76 @@
+-- The exported reading calls: what they answer and what they leave behind the pointers that they are lent.
+use Prim.Native.Nat.{ℕ}
+use mathlib.Core.Path.{_≡_}
+use mathlib.Core.List.{List, [], _∷_, _++_}
+use mathlib.Core.Bool.{cond}
+use lib.ListN.{length}
+use lib.Dec.{eqb}
+use lib.IntN.{ℤ}
+use lib.Ieee.{binary32, toBits}
+use Rattle.text.specs.declared.weight.Weight.{Weight}
+use Rattle.text.specs.Weights.{valueOf}
+use Rattle.sheet.specs.declared.Sheet.{Sheet}
+use Rattle.sheet.specs.declared.Header.{Header}
+use Rattle.sheet.specs.declared.Channel.{Channel}
+use Rattle.sheet.specs.Reading.{Outcome, Contents}
+use Rattle.sheet.specs.Reading.Outcome.{Gives, Refused}
+use Rattle.sheet.specs.Calls.{Lengths, levelsAfter, tablesAfter}
+
+-- the number of a refusal and its line; 0 and 0 where there is none
+abbrev pub numberIn : {A : Type 0} → Outcome A → ℕ
+numberIn (Gives a) = 0
+numberIn (Refused k line) = k
+
+abbrev pub lineIn : {A : Type 0} → Outcome A → ℕ
+lineIn (Gives a) = 0
+lineIn (Refused k line) = line
+
+-- both lengths, or what stood there
+abbrev pub levelCount : Outcome Lengths → ℕ → ℕ
+levelCount (Gives n) old = n .levels
+levelCount (Refused k line) old = old
+
+abbrev pub tableCount : Outcome Lengths → ℕ → ℕ
+tableCount (Gives n) old = n .tables
+tableCount (Refused k line) old = old
+
+pub record Measures (o : Outcome Lengths) (n₀ n m₀ m l r : ℕ) : Type 0 where
+  pub number : r ≡ numberIn o
+  pub line : l ≡ lineIn o
+  pub levels : n ≡ levelCount o n₀
+  pub tables : m ≡ tableCount o m₀
+
+-- A sheet's record as 27 numbers: the header's fields in the order of the S line, 1 for joint mode and 0 for separate, weights as
+-- the bits of their f32; then own sides and factors of three channels, zeros where there is none.
+abbrev pub weightBits : Weight → ℕ
+weightBits w = toBits binary32 (valueOf w)
+
+abbrev pub channelNumbers : Channel → List ℕ
+channelNumbers c = c .width ∷ c .height ∷ c .across ∷ c .down ∷ []
+
+abbrev pub headerNumbers : Header → List ℕ
+headerNumbers h =
+    h .width ∷ h .height ∷ h .«picture_width» ∷ h .«picture_height» ∷ h .channels ∷ cond (h .joint) 1 0
+    ∷ h .iterations0 ∷ h .iterations1 ∷ h .iterations2
+    ∷ weightBits (h .smoothing0) ∷ weightBits (h .smoothing1) ∷ weightBits (h .smoothing2)
+    ∷ weightBits (h .data0) ∷ weightBits (h .data1) ∷ weightBits (h .data2)
+    ∷ []
+
+unfoldable pub numbersOf : Sheet → List ℕ
+numbersOf s = headerNumbers (s .header) ++ (channelNumbers (s .first) ++ (channelNumbers (s .second) ++ channelNumbers (s .third)))
+
+-- "a lent buffer's length differs" (8), last: the record's numbers have a buffer too
+abbrev pub withRecord : ℕ → Outcome Contents → Outcome Contents
+withRecord n (Gives c) = cond (eqb n 27) (Gives c) (Refused 8 0)
+withRecord n (Refused k line) = Refused k line
+
+abbrev pub numbersAfter : Outcome Contents → List ℕ → List ℕ
+numbersAfter (Gives c) old = numbersOf (c .sheet)
+numbersAfter (Refused k line) old = old
+
+pub record ReadsNumbers (o : Outcome Contents) (l₀ l : List ℤ) (t₀ t n₀ n : List ℕ) (at r : ℕ) : Type 0 where
+  pub number : r ≡ numberIn o
+  pub line : at ≡ lineIn o
+  pub levels : l ≡ levelsAfter o l₀
+  pub tables : t ≡ tablesAfter o t₀
+  pub numbers : n ≡ numbersAfter o n₀

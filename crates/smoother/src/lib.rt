@@ -1,0 +1,154 @@
+// The library for C and Rust: each public call as a C function. A call answers the number of document 01's table, 0 where nothing is refused.
+use sheet::Answer;
+use sheet::Measured;
+use sheet::Sheet;
+use text::weight::Weight;
+ghost use mathlib.Core.Path.{_≡_};
+ghost use mathlib.Core.Bool.{cond};
+ghost use lib.ListN.{length};
+ghost use Rattle.sheet.specs.Calls.{measuring, reading};
+ghost use Rattle.smoother.specs.Sheets.{Measures, ReadsNumbers, numbersOf, weightBits, withRecord};
+
+// The lengths of the levels and tables buffers that a text needs, or its refusal with the line. A refusal leaves both lengths as they are.
+// Ruled out: lengths of a text that reading refuses; the line of a later fault.
+#[no_mangle]
+pub extern "C" fn smoother_measure(
+    text: &[u8],
+    limit: u32,
+    levels: &mut usize,
+    tables: &mut usize,
+    line: &mut usize,
+) -> u32
+    ensures { λ r. ⌜ Measures (measuring limit (now (text .entry))) (now (levels .entry)) (now (levels .exit)) (now (tables .entry)) (now (tables .exit)) (now (line .exit)) r ⌝ }
+{
+    match sheet::measure(text, limit) {
+        Measured::Lengths {
+            levels: n,
+            tables: m,
+        } => {
+            *levels = n;
+            *tables = m;
+            *line = 0;
+            0
+        }
+        Measured::Refused { number, line: l } => {
+            *line = l;
+            number as u32
+        }
+    }
+}
+
+// The bits of a weight's f32.
+fn weight_bits(w: Weight) -> u32
+    ensures { λ r. ⌜ r ≡ weightBits w ⌝ }
+{
+    float::bits::to_bits(text::weight::weight_value(w))
+}
+
+// 1 for joint mode, 0 for separate.
+fn mode_number(joint: bool) -> u32
+    ensures { λ r. ⌜ r ≡ cond joint 1 0 ⌝ }
+{
+    if joint {
+        return 1;
+    }
+    0
+}
+
+// A sheet's record as numbers.
+fn numbers(s: Sheet) -> [u32; 27]
+    ensures { λ r. ⌜ r ≡ numbersOf s ⌝ }
+{
+    let h = s.header;
+    let a = s.first;
+    let b = s.second;
+    let c = s.third;
+    let s0 = h.smoothing0;
+    let s1 = h.smoothing1;
+    let s2 = h.smoothing2;
+    let d0 = h.data0;
+    let d1 = h.data1;
+    let d2 = h.data2;
+    [
+        h.width,
+        h.height,
+        h.picture_width,
+        h.picture_height,
+        h.channels,
+        mode_number(h.joint),
+        h.iterations0,
+        h.iterations1,
+        h.iterations2,
+        weight_bits(s0),
+        weight_bits(s1),
+        weight_bits(s2),
+        weight_bits(d0),
+        weight_bits(d1),
+        weight_bits(d2),
+        a.width,
+        a.height,
+        a.across,
+        a.down,
+        b.width,
+        b.height,
+        b.across,
+        b.down,
+        c.width,
+        c.height,
+        c.across,
+        c.down,
+    ]
+}
+
+// The buffer becomes the array.
+fn put(from: [u32; 27], to: &mut [u32])
+    requires { ⌜ length (now to) ≡ 27 ⌝ }
+    ensures { λ _. ⌜ now (to .exit) ≡ from ⌝ }
+{
+    for k in 0..to.len() {
+        to[k] = from[k];
+    }
+}
+
+// Reads a text into the lent buffers: levels, tables and the record's 27 numbers. A refusal leaves all three as they are.
+// Ruled out: levels of a text whose last line is bad; 8 for a text that is itself refused.
+#[no_mangle]
+pub extern "C" fn smoother_read(
+    text: &[u8],
+    limit: u32,
+    levels: &mut [i16],
+    tables: &mut [u16],
+    header: &mut [u32],
+    line: &mut usize,
+) -> u32
+    ensures { λ r. ⌜ ReadsNumbers (withRecord (length (now (header .entry))) (reading limit (now (text .entry)) (now (levels .entry)) (now (tables .entry))))
+        (now (levels .entry)) (now (levels .exit)) (now (tables .entry)) (now (tables .exit)) (now (header .entry)) (now (header .exit)) (now (line .exit)) r ⌝ }
+{
+    if header.len() == 27 {
+        match sheet::read(text, limit, levels, tables) {
+            Answer::Sheet(s) => {
+                put(numbers(s), header);
+                *line = 0;
+                0
+            }
+            Answer::Refused { number, line: l } => {
+                *line = l;
+                number as u32
+            }
+        }
+    } else {
+        match sheet::measure(text, limit) {
+            Measured::Lengths {
+                levels: _,
+                tables: _,
+            } => {
+                *line = 0;
+                8
+            }
+            Measured::Refused { number, line: l } => {
+                *line = l;
+                number as u32
+            }
+        }
+    }
+}

@@ -1,0 +1,154 @@
+-- Fields by the tests that the code makes. r is what the field was read as.
+use Prim.Native.Nat.{ℕ, _%_, _-_, _<_, _≤_}
+use mathlib.Core.Path.{_≡_, refl, sym, ap, _∙_}
+use mathlib.Core.List.{List, [], _∷_}
+use mathlib.Core.Bool.{Bool, true, false}
+use native.Mathlib.Omega.{arith}
+use lib.ListN.{length, getD, drop, take}
+use lib.Dec.{eqb}
+use borrow.Author.Tests.{eq-eqb, ne-eqb, le-leb, lt-leb}
+use Rattle.text.specs.declared.number.Number.{Number}
+use Rattle.text.specs.declared.number.Number.the-variants as number
+use Rattle.text.specs.declared.weight.Weight.{Weight}
+use Rattle.text.specs.declared.weight.WeightField.{WeightField}
+use Rattle.text.specs.declared.weight.WeightField.the-variants as weight-field
+use Rattle.text.specs.declared.field.Rule.the-variants as rule
+use Rattle.text.specs.declared.field.Field.the-variants as field
+use Rattle.text.specs.declared.pieces.Span.{Span}
+use Rattle.text.specs.Pieces.{split}
+use Rattle.text.specs.Cursor.{IsField}
+use Rattle.text.specs.Numbers.{numberOf}
+use Rattle.text.specs.Weights.{weightOf}
+use Rattle.text.specs.Fields.{letter, fieldOf}
+
+-- One letter
+
+pub letter-long : (t : ℕ) (s : List ℕ) → (length s ≡ 1 → ⊥) → false ≡ letter t s
+letter-long t [] h = refl
+letter-long t (b ∷ []) h = absurd (h refl)
+letter-long t (b ∷ (d ∷ l)) h = refl
+
+pub letter-one : (t : ℕ) (s : List ℕ) → length s ≡ 1 → eqb (getD s 0 0) t ≡ letter t s
+letter-one t [] h = let z : ⊥ = omega arith in absurd z
+letter-one t (b ∷ []) h = refl
+letter-one t (b ∷ (d ∷ l)) h = let z : ⊥ = omega arith in absurd z
+
+pub letter-in : (s : List ℕ) (i : ℕ) (p : Span) → IsField s i p → (t : ℕ) (b : Bool) → b ≡ letter t (take (p .end - p .start) (drop (p .start) s)) → b ≡ letter t (getD (split 9 s) i [])
+letter-in s i p f t b e = rw (← f .part) e
+
+pub ruleset letters = (letter-long, letter-one, letter-in)
+
+-- Numbers in a range
+
+pub range-not : (f : List ℕ) (r : Number) (k low high : ℕ) → r ≡ numberOf f → r ≡ number.Not → field.Bad 1 ≡ fieldOf (rule.Range k low high) f
+unfolding fieldOf
+range-not f r k low high e p = rw (sym e ∙ p)
+
+module _ (f : List ℕ) (r : Number) (k low high n : ℕ) (e : r ≡ numberOf f) (p : r ≡ number.Is n) where
+  pub range-low : n < low → field.Bad k ≡ fieldOf (rule.Range k low high) f
+  unfolding fieldOf
+  range-low l = rw (sym e ∙ p, lt-leb _ _ l)
+
+  pub range-high : low ≤ n → high < n → field.Bad k ≡ fieldOf (rule.Range k low high) f
+  unfolding fieldOf
+  range-high l u = rw (sym e ∙ p, le-leb _ _ l, lt-leb _ _ u)
+
+  pub range-in : low ≤ n → n ≤ high → field.Good ≡ fieldOf (rule.Range k low high) f
+  unfolding fieldOf
+  range-in l u = rw (sym e ∙ p, le-leb _ _ l, le-leb _ _ u)
+
+-- Sides
+
+pub side-not : (f : List ℕ) (r : Number) (high : ℕ) → r ≡ numberOf f → r ≡ number.Not → field.Bad 1 ≡ fieldOf (rule.Side high) f
+unfolding fieldOf
+side-not f r high e p = rw (sym e ∙ p)
+
+module _ (f : List ℕ) (r : Number) (high n : ℕ) (e : r ≡ numberOf f) (p : r ≡ number.Is n) where
+  pub side-odd : (n % 8 ≡ 0 → ⊥) → field.Bad 2 ≡ fieldOf (rule.Side high) f
+  unfolding fieldOf
+  side-odd o = rw (sym e ∙ p, ne-eqb _ _ o)
+
+  pub side-low : n % 8 ≡ 0 → n < 8 → field.Bad 2 ≡ fieldOf (rule.Side high) f
+  unfolding fieldOf
+  side-low o l = rw (sym e ∙ p, eq-eqb _ _ o, lt-leb _ _ l)
+
+  pub side-high : n % 8 ≡ 0 → 8 ≤ n → high < n → field.Bad 2 ≡ fieldOf (rule.Side high) f
+  unfolding fieldOf
+  side-high o l u = rw (sym e ∙ p, eq-eqb _ _ o, le-leb _ _ l, lt-leb _ _ u)
+
+  pub side-in : n % 8 ≡ 0 → 8 ≤ n → n ≤ high → field.Good ≡ fieldOf (rule.Side high) f
+  unfolding fieldOf
+  side-in o l u = rw (sym e ∙ p, eq-eqb _ _ o, le-leb _ _ l, le-leb _ _ u)
+
+-- Channels and quantisers
+
+module _ (f : List ℕ) (r : Number) (e : r ≡ numberOf f) where
+  pub channels-not : r ≡ number.Not → field.Bad 1 ≡ fieldOf rule.Channels f
+  unfolding fieldOf
+  channels-not p = rw (sym e ∙ p)
+
+  pub quantiser-not : r ≡ number.Not → field.Bad 1 ≡ fieldOf rule.Quantiser f
+  unfolding fieldOf
+  quantiser-not p = rw (sym e ∙ p)
+
+  module _ (n : ℕ) (p : r ≡ number.Is n) where
+    pub channels-one : n ≡ 1 → field.Good ≡ fieldOf rule.Channels f
+    unfolding fieldOf
+    channels-one o = rw (sym e ∙ p, eq-eqb _ _ o)
+
+    pub channels-three : (n ≡ 1 → ⊥) → n ≡ 3 → field.Good ≡ fieldOf rule.Channels f
+    unfolding fieldOf
+    channels-three o q = rw (sym e ∙ p, ne-eqb _ _ o, eq-eqb _ _ q)
+
+    pub channels-other : (n ≡ 1 → ⊥) → (n ≡ 3 → ⊥) → field.Bad 2 ≡ fieldOf rule.Channels f
+    unfolding fieldOf
+    channels-other o q = rw (sym e ∙ p, ne-eqb _ _ o, ne-eqb _ _ q)
+
+    pub quantiser-low : n < 1 → field.Bad 4 ≡ fieldOf rule.Quantiser f
+    unfolding fieldOf
+    quantiser-low l = rw (sym e ∙ p, lt-leb _ _ l)
+
+    pub quantiser-high : 1 ≤ n → 255 < n → field.Bad 4 ≡ fieldOf rule.Quantiser f
+    unfolding fieldOf
+    quantiser-high l u = rw (sym e ∙ p, le-leb _ _ l, lt-leb _ _ u)
+
+    pub quantiser-in : 1 ≤ n → n ≤ 255 → field.Quantiser n ≡ fieldOf rule.Quantiser f
+    unfolding fieldOf
+    quantiser-in l u = rw (sym e ∙ p, le-leb _ _ l, le-leb _ _ u)
+
+-- Tags and modes
+
+module _ (f : List ℕ) (t : ℕ) (b : Bool) (e : b ≡ letter t f) where
+  pub tag-is : b ≡ true → field.Good ≡ fieldOf (rule.Tag t) f
+  unfolding fieldOf
+  tag-is p = rw (sym e ∙ p)
+
+  pub tag-not : b ≡ false → field.Bad 1 ≡ fieldOf (rule.Tag t) f
+  unfolding fieldOf
+  tag-not p = rw (sym e ∙ p)
+
+module _ (f : List ℕ) (b : Bool) (e : b ≡ letter 106 f) where
+  pub mode-joint : b ≡ true → field.Good ≡ fieldOf rule.Mode f
+  unfolding fieldOf
+  mode-joint p = rw (sym e ∙ p)
+
+  pub mode-separate : b ≡ false → (d : Bool) → d ≡ letter 115 f → d ≡ true → field.Good ≡ fieldOf rule.Mode f
+  unfolding fieldOf
+  mode-separate p d q o = rw (sym e ∙ p, sym q ∙ o)
+
+  pub mode-not : b ≡ false → (d : Bool) → d ≡ letter 115 f → d ≡ false → field.Bad 1 ≡ fieldOf rule.Mode f
+  unfolding fieldOf
+  mode-not p d q o = rw (sym e ∙ p, sym q ∙ o)
+
+-- Weights
+
+module _ (f : List ℕ) (r : WeightField) (e : r ≡ weightOf f) where
+  pub weight-is : (w : Weight) → r ≡ weight-field.Is w → field.Good ≡ fieldOf rule.Weight f
+  unfolding fieldOf
+  weight-is w p = rw (sym e ∙ p)
+
+  pub weight-bad : (k : ℕ) → r ≡ weight-field.Bad k → field.Bad k ≡ fieldOf rule.Weight f
+  unfolding fieldOf
+  weight-bad k p = rw (sym e ∙ p)
+
+pub ruleset fields = (range-not, range-low, range-high, range-in, side-not, side-odd, side-low, side-high, side-in, channels-not, channels-one, channels-three, channels-other, quantiser-not, quantiser-low, quantiser-high, quantiser-in, tag-is, tag-not, mode-joint, mode-separate, mode-not, weight-is, weight-bad)

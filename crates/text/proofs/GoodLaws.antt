@@ -1,0 +1,260 @@
+-- What a field with no fault says, and which fields add nothing to the levels or the tables.
+use Prim.Native.Nat.{ℕ, zero, suc, _%_, _<_, _≤_}
+use mathlib.Core.Path.{_≡_, refl, sym, ap, _∙_}
+use mathlib.Core.List.{List, [], _∷_}
+use mathlib.Core.Bool.{Bool, true, false, not, cond, _&&_, _||_}
+use mathlib.Core.Logic.{_⊎_, inl, inr}
+use mathlib.Core.Option.{Option, none, some}
+use native.Mathlib.Omega.{arith}
+use lib.Dec.{eqb, leb, ltb}
+use lib.IntN.{ℤ, pos, negsuc, negℤ}
+use borrow.Author.Tests.{eqb-true, leb-true, ltb-true}
+use Rattle.text.specs.declared.number.Number.{Number}
+use Rattle.text.specs.declared.number.Number.the-variants as number
+use Rattle.text.specs.declared.weight.Weight.the-variants as weight
+use Rattle.text.specs.declared.weight.WeightField.{WeightField}
+use Rattle.text.specs.declared.weight.WeightField.the-variants as weight-field
+use Rattle.text.specs.declared.field.Rule.{Rule}
+use Rattle.text.specs.declared.field.Rule.the-variants as rule
+use Rattle.text.specs.declared.field.Field.{Field}
+use Rattle.text.specs.declared.field.Field.the-variants as field
+use Rattle.text.specs.Numbers.{numberOf, numberValue}
+use Rattle.text.specs.Weights.{bitForm, bitsWeight, wholeWeight, orWhole, afterLetter, weightOf, weightIn}
+use Rattle.text.specs.Legal.{Between, LegalSide, LegalWeight, LegalLevel}
+use Rattle.text.specs.Levels.{fromZero, belowZero, levelOf}
+use Rattle.text.specs.Fields.{letter, isSide, numberField, quantiserField, weightField, fieldOf, faultIn, levelsIn, tablesIn}
+
+-- Tests
+
+pub both-left : (a b : Bool) → (a && b) ≡ true → a ≡ true
+both-left true b e = refl
+both-left false b e = e
+
+pub both-right : (a b : Bool) → (a && b) ≡ true → b ≡ true
+both-right true b e = e
+both-right false b e = let z : _≡_ {A = ℕ} 0 1 = cc in let y : ⊥ = omega arith in absurd y
+
+either : (a b : Bool) → (a || b) ≡ true → (a ≡ true) ⊎ (b ≡ true)
+either true b e = inl refl
+either false b e = inr e
+
+never : {k : ℕ} {A : Type 0} → some k ≡ none → A
+never e = let z : _≡_ {A = ℕ} 0 1 = cc in let y : ⊥ = omega arith in absurd y
+
+no-fault : (b : Bool) (k : ℕ) → faultIn (cond b field.Good (field.Bad k)) ≡ none → b ≡ true
+no-fault true k e = refl
+no-fault false k e = never e
+
+-- a side by its test
+pub side-is : (most n : ℕ) → isSide most n ≡ true → LegalSide most n
+side-is most n e =
+    let l = both-left (eqb (n % 8) 0 && leb 8 n) (leb n most) e in
+    record {
+      whole = eqb-true (n % 8) 0 (both-left (eqb (n % 8) 0) (leb 8 n) l);
+      low = leb-true 8 n (both-right (eqb (n % 8) 0) (leb 8 n) l);
+      top = leb-true n most (both-right (eqb (n % 8) 0 && leb 8 n) (leb n most) e);
+    }
+
+-- Numbers
+
+number-good : (k : ℕ) (ok : ℕ → Bool) (r : Number) → faultIn (numberField k ok r) ≡ none → ok (numberValue r) ≡ true
+number-good k ok (number.Is n) e = no-fault (ok n) k e
+number-good k ok number.Not e = never e
+
+module _ (f : List ℕ) where
+  pub range-good : (k low high : ℕ) → faultIn (fieldOf (rule.Range k low high) f) ≡ none → Between low high (numberValue (numberOf f))
+  unfolding fieldOf
+  range-good k low high e =
+      let n = numberValue (numberOf f) in
+      let g : (leb low n && leb n high) ≡ true = number-good k (λ n. leb low n && leb n high) (numberOf f) e in
+      record { low = leb-true low n (both-left (leb low n) (leb n high) g); top = leb-true n high (both-right (leb low n) (leb n high) g) }
+
+  pub side-good : (most : ℕ) → faultIn (fieldOf (rule.Side most) f) ≡ none → LegalSide most (numberValue (numberOf f))
+  unfolding fieldOf
+  side-good most e = side-is most (numberValue (numberOf f)) (number-good 2 (isSide most) (numberOf f) e)
+
+  pub channels-good : faultIn (fieldOf rule.Channels f) ≡ none → (numberValue (numberOf f) ≡ 1) ⊎ (numberValue (numberOf f) ≡ 3)
+  unfolding fieldOf
+  channels-good e = by (either (eqb n 1) (eqb n 3) (number-good 2 (λ n. eqb n 1 || eqb n 3) (numberOf f) e))
+    where
+      n : ℕ
+      n = numberValue (numberOf f)
+
+      by : (eqb n 1 ≡ true) ⊎ (eqb n 3 ≡ true) → (n ≡ 1) ⊎ (n ≡ 3)
+      by (inl q) = inl (eqb-true n 1 q)
+      by (inr q) = inr (eqb-true n 3 q)
+
+  -- Weights
+
+  pub weight-good : faultIn (fieldOf rule.Weight f) ≡ none → LegalWeight (weightIn (weightOf f))
+  unfolding fieldOf weightOf
+  weight-good e = either-form (bitForm f) e
+    where
+      bits : (n : ℕ) (b : Bool) → ltb n 0x7f800000 ≡ b
+          → faultIn (weightField (cond b (weight-field.Is (weight.Bits n)) (weight-field.Bad 6))) ≡ none
+          → LegalWeight (weightIn (cond b (weight-field.Is (weight.Bits n)) (weight-field.Bad 6)))
+      bits n true p o = ltb-true n 0x7f800000 p
+      bits n false p o = never o
+
+      whole : (n : ℕ) (b : Bool) → leb n 255 ≡ b
+          → faultIn (weightField (cond b (weight-field.Is (weight.Whole n)) (weight-field.Bad 6))) ≡ none
+          → LegalWeight (weightIn (cond b (weight-field.Is (weight.Whole n)) (weight-field.Bad 6)))
+      whole n true p o = leb-true n 255 p
+      whole n false p o = never o
+
+      whole-form : (r : Number) → faultIn (weightField (wholeWeight r)) ≡ none → LegalWeight (weightIn (wholeWeight r))
+      whole-form (number.Is n) o = whole n (leb n 255) refl o
+      whole-form number.Not o = never o
+
+      either-form : (b : Number) → faultIn (weightField (orWhole f b)) ≡ none → LegalWeight (weightIn (orWhole f b))
+      either-form (number.Is n) o = bits n (ltb n 0x7f800000) refl o
+      either-form number.Not o = whole-form (numberOf (afterLetter 119 f)) o
+
+-- Quantisers and levels
+
+-- one quantiser from 1 to 255
+abbrev OneTable : Field → Type 0
+OneTable x = (q : ℕ) × (x ≡ field.Quantiser q) × Between 1 255 q
+
+table-good : (r : Number) → faultIn (quantiserField r) ≡ none → OneTable (quantiserField r)
+table-good (number.Is n) e = two (leb 1 n) (leb n 255) refl refl e
+  where
+    two : (a b : Bool) → leb 1 n ≡ a → leb n 255 ≡ b → faultIn (cond (a && b) (field.Quantiser n) (field.Bad 4)) ≡ none → OneTable (cond (a && b) (field.Quantiser n) (field.Bad 4))
+    two true true p q o = (n, refl, record { low = leb-true 1 n p; top = leb-true n 255 q })
+    two true false p q o = never o
+    two false b p q o = never o
+table-good number.Not e = never e
+
+pub quantiser-good : (f : List ℕ) → faultIn (fieldOf rule.Quantiser f) ≡ none → (q : ℕ) × (fieldOf rule.Quantiser f ≡ field.Quantiser q) × Between 1 255 q
+unfolding fieldOf
+quantiser-good f e = table-good (numberOf f) e
+
+abbrev OneLevel : Field → Type 0
+OneLevel x = (z : ℤ) × (x ≡ field.Level z) × LegalLevel z
+
+from-zero : (r : Number) → faultIn (fromZero r) ≡ none → OneLevel (fromZero r)
+from-zero (number.Is n) e = two (leb n 2047) refl e
+  where
+    two : (a : Bool) → leb n 2047 ≡ a → faultIn (cond a (field.Level (pos n)) (field.Bad 5)) ≡ none → OneLevel (cond a (field.Level (pos n)) (field.Bad 5))
+    two true p o = (pos n, refl, leb-true n 2047 p)
+    two false p o = never o
+from-zero number.Not e = never e
+
+minus : (n : ℕ) → n ≤ 2047 → LegalLevel (negℤ (pos n))
+minus zero h = omega arith
+minus (suc n) h = omega arith
+
+below-zero : (r : Number) → faultIn (belowZero r) ≡ none → OneLevel (belowZero r)
+below-zero (number.Is n) e = two (eqb n 0) (leb n 2047) refl e
+  where
+    two : (a b : Bool) → leb n 2047 ≡ b
+        → faultIn (cond a (field.Bad 1) (cond b (field.Level (negℤ (pos n))) (field.Bad 5))) ≡ none
+        → OneLevel (cond a (field.Bad 1) (cond b (field.Level (negℤ (pos n))) (field.Bad 5)))
+    two true b p o = never o
+    two false true p o = (negℤ (pos n), refl, minus n (leb-true n 2047 p))
+    two false false p o = never o
+below-zero number.Not e = never e
+
+pub level-good : (f : List ℕ) → faultIn (fieldOf rule.Level f) ≡ none → (z : ℤ) × (fieldOf rule.Level f ≡ field.Level z) × LegalLevel z
+unfolding fieldOf levelOf
+level-good [] e = never e
+level-good (b ∷ l) e = two (eqb b 45) e
+  where
+    two : (a : Bool) → faultIn (cond a (belowZero (numberOf l)) (fromZero (numberOf (b ∷ l)))) ≡ none
+        → OneLevel (cond a (belowZero (numberOf l)) (fromZero (numberOf (b ∷ l))))
+    two true o = below-zero (numberOf l) o
+    two false o = from-zero (numberOf (b ∷ l)) o
+
+-- Only a quantiser adds to the tables, only a level to the levels
+
+abbrev pub addsTable : Rule → Bool
+addsTable (rule.Tag t) = false
+addsTable (rule.Range k low high) = false
+addsTable (rule.Side most) = false
+addsTable rule.Channels = false
+addsTable rule.Mode = false
+addsTable rule.Weight = false
+addsTable rule.Quantiser = true
+addsTable rule.Level = false
+
+abbrev pub addsLevel : Rule → Bool
+addsLevel (rule.Tag t) = false
+addsLevel (rule.Range k low high) = false
+addsLevel (rule.Side most) = false
+addsLevel rule.Channels = false
+addsLevel rule.Mode = false
+addsLevel rule.Weight = false
+addsLevel rule.Quantiser = false
+addsLevel rule.Level = true
+
+-- a field that is good or bad and holds nothing
+abbrev Bare : Field → Type 0
+Bare x = (tablesIn x ≡ []) × (levelsIn x ≡ [])
+
+bare-cond : (b : Bool) (k : ℕ) → Bare (cond b field.Good (field.Bad k))
+bare-cond true k = (refl, refl)
+bare-cond false k = (refl, refl)
+
+bare-number : (k : ℕ) (ok : ℕ → Bool) (r : Number) → Bare (numberField k ok r)
+bare-number k ok (number.Is n) = bare-cond (ok n) k
+bare-number k ok number.Not = (refl, refl)
+
+bare-weight : (r : WeightField) → Bare (weightField r)
+bare-weight (weight-field.Is w) = (refl, refl)
+bare-weight (weight-field.Bad k) = (refl, refl)
+
+no-level : (r : Number) → levelsIn (quantiserField r) ≡ []
+no-level (number.Is n) = two (leb 1 n && leb n 255)
+  where
+    two : (b : Bool) → levelsIn (cond b (field.Quantiser n) (field.Bad 4)) ≡ []
+    two true = refl
+    two false = refl
+no-level number.Not = refl
+
+no-table : (f : List ℕ) → tablesIn (levelOf f) ≡ []
+unfolding levelOf
+no-table [] = refl
+no-table (b ∷ l) = two (eqb b 45)
+  where
+    zero-up : (r : Number) → tablesIn (fromZero r) ≡ []
+    zero-up (number.Is n) = by (leb n 2047)
+      where
+        by : (c : Bool) → tablesIn (cond c (field.Level (pos n)) (field.Bad 5)) ≡ []
+        by true = refl
+        by false = refl
+    zero-up number.Not = refl
+
+    zero-down : (r : Number) → tablesIn (belowZero r) ≡ []
+    zero-down (number.Is n) = by (eqb n 0) (leb n 2047)
+      where
+        by : (a c : Bool) → tablesIn (cond a (field.Bad 1) (cond c (field.Level (negℤ (pos n))) (field.Bad 5))) ≡ []
+        by true c = refl
+        by false true = refl
+        by false false = refl
+    zero-down number.Not = refl
+
+    two : (c : Bool) → tablesIn (cond c (belowZero (numberOf l)) (fromZero (numberOf (b ∷ l)))) ≡ []
+    two true = zero-down (numberOf l)
+    two false = zero-up (numberOf (b ∷ l))
+
+pub tables-none : (r : Rule) (f : List ℕ) → addsTable r ≡ false → tablesIn (fieldOf r f) ≡ []
+unfolding fieldOf
+tables-none (rule.Tag t) f e = bare-cond (letter t f) 1 .0
+tables-none (rule.Range k low high) f e = bare-number k (λ n. leb low n && leb n high) (numberOf f) .0
+tables-none (rule.Side most) f e = bare-number 2 (isSide most) (numberOf f) .0
+tables-none rule.Channels f e = bare-number 2 (λ n. eqb n 1 || eqb n 3) (numberOf f) .0
+tables-none rule.Mode f e = bare-cond (letter 106 f || letter 115 f) 1 .0
+tables-none rule.Weight f e = bare-weight (weightOf f) .0
+tables-none rule.Quantiser f e = let z : _≡_ {A = ℕ} 0 1 = cc in let y : ⊥ = omega arith in absurd y
+tables-none rule.Level f e = no-table f
+
+pub levels-none : (r : Rule) (f : List ℕ) → addsLevel r ≡ false → levelsIn (fieldOf r f) ≡ []
+unfolding fieldOf
+levels-none (rule.Tag t) f e = bare-cond (letter t f) 1 .1
+levels-none (rule.Range k low high) f e = bare-number k (λ n. leb low n && leb n high) (numberOf f) .1
+levels-none (rule.Side most) f e = bare-number 2 (isSide most) (numberOf f) .1
+levels-none rule.Channels f e = bare-number 2 (λ n. eqb n 1 || eqb n 3) (numberOf f) .1
+levels-none rule.Mode f e = bare-cond (letter 106 f || letter 115 f) 1 .1
+levels-none rule.Weight f e = bare-weight (weightOf f) .1
+levels-none rule.Quantiser f e = no-level (numberOf f)
+levels-none rule.Level f e = let z : _≡_ {A = ℕ} 0 1 = cc in let y : ⊥ = omega arith in absurd y

@@ -1,0 +1,74 @@
+-- What a field says under the rule of its place: its fault, by the number of the paper's table, or its value.
+-- "spelling (1) before range".
+use Prim.Native.Nat.{ℕ, _%_}
+use mathlib.Core.List.{List, [], _∷_}
+use mathlib.Core.Bool.{Bool, false, cond, _&&_, _||_}
+use mathlib.Core.Option.{Option, none, some}
+use lib.Dec.{eqb, leb}
+use lib.IntN.{ℤ}
+use Rattle.text.specs.declared.number.Number.{Number}
+use Rattle.text.specs.declared.number.Number.the-variants as number
+use Rattle.text.specs.declared.weight.WeightField.{WeightField}
+use Rattle.text.specs.declared.weight.WeightField.the-variants as weight-field
+use Rattle.text.specs.declared.field.Rule.{Rule}
+use Rattle.text.specs.declared.field.Rule.the-variants as rule
+use Rattle.text.specs.declared.field.Field.{Field}
+use Rattle.text.specs.declared.field.Field.the-variants as field
+use Rattle.text.specs.Numbers.{numberOf}
+use Rattle.text.specs.Weights.{weightOf}
+use Rattle.text.specs.Levels.{levelOf}
+
+-- just the letter t
+abbrev pub letter : ℕ → List ℕ → Bool
+letter t [] = false
+letter t (b ∷ []) = eqb b t
+letter t (b ∷ (d ∷ l)) = false
+
+-- "multiples of 8, 8 to 512", with the most in place of 512
+abbrev pub isSide : ℕ → ℕ → Bool
+isSide most n = (eqb (n % 8) 0 && leb 8 n) && leb n most
+
+-- a number: 1 where it is misspelt, k where it is out of range
+abbrev pub numberField : ℕ → (ℕ → Bool) → Number → Field
+numberField k ok (number.Is n) = cond (ok n) field.Good (field.Bad k)
+numberField k ok number.Not = field.Bad 1
+
+-- "quantiser not 1 to 255" is 4
+abbrev pub quantiserField : Number → Field
+quantiserField (number.Is n) = cond (leb 1 n && leb n 255) (field.Quantiser n) (field.Bad 4)
+quantiserField number.Not = field.Bad 1
+
+abbrev pub weightField : WeightField → Field
+weightField (weight-field.Is w) = field.Good
+weightField (weight-field.Bad k) = field.Bad k
+
+-- "a bad mode letter is 1"; "side, channel count, iterations" out of range are 2; "factor not 1 to 4" is 3
+unfoldable pub fieldOf : Rule → List ℕ → Field
+fieldOf (rule.Tag t) f = cond (letter t f) field.Good (field.Bad 1)
+fieldOf (rule.Range k low high) f = numberField k (λ n. leb low n && leb n high) (numberOf f)
+fieldOf (rule.Side most) f = numberField 2 (isSide most) (numberOf f)
+fieldOf rule.Channels f = numberField 2 (λ n. eqb n 1 || eqb n 3) (numberOf f)
+fieldOf rule.Mode f = cond (letter 106 f || letter 115 f) field.Good (field.Bad 1)
+fieldOf rule.Weight f = weightField (weightOf f)
+fieldOf rule.Quantiser f = quantiserField (numberOf f)
+fieldOf rule.Level f = levelOf f
+
+-- The number of a field's fault, if it has one
+abbrev pub faultIn : Field → Option ℕ
+faultIn (field.Bad k) = some k
+faultIn (field.Quantiser n) = none
+faultIn (field.Level z) = none
+faultIn field.Good = none
+
+-- What a field adds to the tables, and to the levels
+abbrev pub tablesIn : Field → List ℕ
+tablesIn (field.Bad k) = []
+tablesIn (field.Quantiser n) = n ∷ []
+tablesIn (field.Level z) = []
+tablesIn field.Good = []
+
+abbrev pub levelsIn : Field → List ℤ
+levelsIn (field.Bad k) = []
+levelsIn (field.Quantiser n) = []
+levelsIn (field.Level z) = z ∷ []
+levelsIn field.Good = []
