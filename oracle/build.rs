@@ -1,24 +1,31 @@
-//! Links the proved library where its archive has been made. PROBE_LIB names the folder that holds libprobe.a.
+//! Links the proved libraries where their archives have been made. PROVED_LIB names the folder that holds libprobe.a and libsmoother.a.
 use std::{env, fs, path::Path};
 
-/// A setting for each group of exports in src/probe.rs, and an export that tells whether the archive has the group.
-const GROUPS: [(&str, &str); 2] = [("probe_float", "probe_mul_add"), ("probe_utils", "probe_upsample_pixels")];
+/// The archives, and for each group of exports in src/probe.rs the archive and an export that tells whether it has the group.
+const ARCHIVES: [&str; 2] = ["probe", "smoother"];
+const GROUPS: [(&str, &str, &str); 3] = [
+    ("probe_float", "probe", "probe_mul_add"),
+    ("probe_utils", "probe", "probe_upsample_pixels"),
+    ("smoother_sheet", "smoother", "smoother_read"),
+];
 
 fn main() {
-    let folder = env::var("PROBE_LIB").unwrap_or_else(|_| "../target/staticlib".into());
+    let folder = env::var("PROVED_LIB").unwrap_or_else(|_| "../target/staticlib".into());
     let folder = Path::new(&env::var("CARGO_MANIFEST_DIR").expect("set by cargo")).join(folder);
-    let archive = folder.join("libprobe.a");
-    println!("cargo::rerun-if-env-changed=PROBE_LIB");
-    println!("cargo::rerun-if-changed={}", archive.display());
-    let bytes = fs::read(&archive).unwrap_or_default();
-    for (group, export) in GROUPS {
-        println!("cargo::rustc-check-cfg=cfg({group})");
-        if bytes.windows(export.len()).any(|name| name == export.as_bytes()) {
-            println!("cargo::rustc-cfg={group}");
+    println!("cargo::rerun-if-env-changed=PROVED_LIB");
+    for name in ARCHIVES {
+        let archive = folder.join(format!("lib{name}.a"));
+        println!("cargo::rerun-if-changed={}", archive.display());
+        let bytes = fs::read(&archive).unwrap_or_default();
+        for (group, of, export) in GROUPS {
+            println!("cargo::rustc-check-cfg=cfg({group})");
+            if of == name && bytes.windows(export.len()).any(|word| word == export.as_bytes()) {
+                println!("cargo::rustc-cfg={group}");
+            }
         }
-    }
-    if !bytes.is_empty() {
-        println!("cargo::rustc-link-search=native={}", folder.display());
-        println!("cargo::rustc-link-lib=static=probe");
+        if !bytes.is_empty() {
+            println!("cargo::rustc-link-search=native={}", folder.display());
+            println!("cargo::rustc-link-lib=static={name}");
+        }
     }
 }

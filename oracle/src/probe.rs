@@ -1,4 +1,4 @@
-//! The exports of the proved library `probe` that the programs here call. All sizes are usize; a slice is a pointer
+//! The exports of the proved libraries `probe` and `smoother` that the programs here call. All sizes are usize; a slice is a pointer
 //! and a length. Where a group of exports was missing at build time, a call ends the program.
 
 macro_rules! exports {
@@ -46,8 +46,26 @@ exports! { probe_utils:
     );
 }
 
+exports! { smoother_sheet:
+    fn smoother_measure(text: *const u8, len: usize, limit: u32, levels: *mut usize, tables: *mut usize, line: *mut usize) -> u32;
+    fn smoother_read(
+        text: *const u8,
+        text_len: usize,
+        limit: u32,
+        levels: *mut i16,
+        levels_len: usize,
+        tables: *mut u16,
+        tables_len: usize,
+        header: *mut u32,
+        header_len: usize,
+        line: *mut usize,
+    ) -> u32;
+}
+
 #[allow(dead_code)]
 fn missing() -> ! {
-    eprintln!("built without these proved functions: run `rt staticlib probe` in the repository, then build again");
+    eprintln!(
+        "built without these proved functions: run `rt staticlib probe` and `rt staticlib smoother` in the repository, then build again"
+    );
     std::process::exit(2)
 }

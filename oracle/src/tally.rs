@@ -11,6 +11,13 @@ impl Tally {
         self.rows.push((name.into(), 0, 0));
     }
 
+    /// Starts a kind, unless it is the one that was started last.
+    pub fn start(&mut self, name: &str) {
+        if self.rows.last().is_none_or(|row| row.0 != name) {
+            self.kind(name);
+        }
+    }
+
     /// Counts one comparison; `show` describes a difference, and the first few of each kind are printed.
     pub fn count(&mut self, equal: bool, show: impl FnOnce() -> String) {
         let row = self.rows.last_mut().expect("a kind was started");

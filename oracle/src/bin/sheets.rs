@@ -2,16 +2,19 @@
 //!
 //!     sheets --make N SEED DIR [LIMIT]    DIR/00001.tsv .. and DIR/answers, a line per text
 //!     sheets --pack N SEED DIR [LIMIT]    DIR/texts, each text after its length in five digits, and DIR/answers
-//!     sheets --bench [ROUNDS]             times the reader on a sheet of 512 by 512 with three channels
+//!     sheets --compare [N [SEED]]         the proved reader beside the oracle's, on N texts at each of the limits 32 and 512
+//!     sheets --bench [ROUNDS]             times both readers on a sheet of 512 by 512 with three channels
 use oracle::{
     bench::best,
+    probe::*,
     random::Random,
     sheet::{Channel, Refusal, Sheet, Weight, joined, read},
+    tally::Tally,
     texts,
 };
-use std::{collections::BTreeMap, fs, path::Path};
+use std::{collections::BTreeMap, fs, path::Path, process::ExitCode};
 
-fn main() {
+fn main() -> ExitCode {
     let args: Vec<String> = std::env::args().skip(1).collect();
     let number = |i: usize, default: u64| args.get(i).map_or(default, |a| a.parse().expect("a whole number"));
     match args.first().map(String::as_str) {
@@ -19,9 +22,107 @@ fn main() {
             let folder = args.get(3).expect("a folder");
             make(form == "--pack", number(1, 0), number(2, 1), Path::new(folder), number(4, 32) as u32);
         }
+        Some("--compare") => return compare(number(1, 100_000), number(2, 1)),
         Some("--bench") => bench(number(1, 20) as usize),
-        _ => eprintln!("sheets --make N SEED DIR [LIMIT] | --pack N SEED DIR [LIMIT] | --bench [ROUNDS]"),
+        _ => eprintln!(
+            "sheets --make N SEED DIR [LIMIT] | --pack N SEED DIR [LIMIT] | --compare [N [SEED]] | --bench [ROUNDS]"
+        ),
     }
+    ExitCode::SUCCESS
+}
+
+/// What a reader gives: the refusal, or levels, tables and the record's 27 numbers.
+#[derive(Debug, PartialEq)]
+enum Given {
+    Refused(u32, usize),
+    Sheet(Vec<i16>, Vec<u16>, Vec<u32>),
+}
+
+fn expected(text: &[u8], limit: u32) -> Given {
+    let sheet = match read(text, limit) {
+        Err((number, line)) => return Given::Refused(number, line),
+        Ok(sheet) => sheet,
+    };
+    let c = &sheet.channels;
+    let sides = [sheet.w, sheet.h, sheet.picture_w, sheet.picture_h, c.len() as u32, u32::from(sheet.joint)];
+    let weights = sheet.weights().map(|weight| weight.value().to_bits());
+    let owns = c.iter().flat_map(|c| [c.w, c.h, c.across, c.down]).chain([0; 8]).take(12);
+    Given::Sheet(
+        c.iter().flat_map(|c| &c.levels).map(|level| *level as i16).collect(),
+        c.iter().flat_map(|c| &c.table).map(|quantiser| *quantiser as u16).collect(),
+        sides.into_iter().chain(sheet.counts).chain(weights).chain(owns).collect(),
+    )
+}
+
+/// The proved reader: measuring, then reading into buffers of `spare` more values than it asks for. Buffers start as 7s, and a
+/// refusal must leave them so.
+fn proved(text: &[u8], limit: u32, spare: (usize, usize, usize)) -> Given {
+    let (mut n, mut m, mut line) = (7, 7, 7);
+    let measured = unsafe { smoother_measure(text.as_ptr(), text.len(), limit, &mut n, &mut m, &mut line) };
+    let measured_line = line;
+    if measured != 0 {
+        assert_eq!((n, m), (7, 7), "a refusal leaves both lengths");
+    }
+    let mut levels = vec![7i16; n + spare.0];
+    let mut tables = vec![7u16; m + spare.1];
+    let mut header = vec![7u32; 27 + spare.2];
+    let number = unsafe {
+        smoother_read(
+            text.as_ptr(),
+            text.len(),
+            limit,
+            levels.as_mut_ptr(),
+            levels.len(),
+            tables.as_mut_ptr(),
+            tables.len(),
+            header.as_mut_ptr(),
+            header.len(),
+            &mut line,
+        )
+    };
+    if number == 0 {
+        assert_eq!((measured, line), (0, 0), "measuring accepts what reading accepts");
+        return Given::Sheet(levels, tables, header);
+    }
+    if measured != 0 {
+        assert_eq!((measured, measured_line), (number, line), "measuring refuses as reading does");
+    }
+    let untouched = levels.iter().all(|x| *x == 7) && tables.iter().all(|x| *x == 7) && header.iter().all(|x| *x == 7);
+    assert!(untouched, "a refusal leaves the buffers");
+    Given::Refused(number, line)
+}
+
+fn compare(count: u64, seed: u64) -> ExitCode {
+    let mut tally = Tally::default();
+    println!("seed {seed}");
+    for limit in [32, 512] {
+        for (kind, text) in texts::all(seed, count, limit, 1000) {
+            tally.start(&format!("{kind}, limit {limit}"));
+            let rust = expected(&text, limit);
+            tally.count(rust == proved(&text, limit, (0, 0, 0)), || String::from_utf8_lossy(&text).into_owned());
+            for spare in [(1, 0, 0), (0, 1, 0), (0, 0, 1)] {
+                if let Given::Sheet(..) = rust {
+                    let eight = proved(&text, limit, spare) == Given::Refused(8, 0);
+                    tally.count(eight, || format!("a buffer too long: {spare:?}"));
+                }
+            }
+        }
+    }
+    tally.kind("limits that are no side");
+    for limit in [0, 1, 4, 7, 9, 31, 33, 513, 520, 1024, u32::MAX] {
+        let answer = proved(&texts::example(), limit, (0, 0, 0));
+        tally.count(answer == Given::Refused(2, 0), || format!("{limit}: {answer:?}"));
+    }
+    tally.kind("fixed texts, answers as written down");
+    for (name, text, refusal) in texts::fixed() {
+        let answer = proved(&text, 32, (0, 0, 0));
+        let right = match refusal {
+            Some((number, line)) => answer == Given::Refused(number, line),
+            None => matches!(answer, Given::Sheet(..)),
+        };
+        tally.count(right, || format!("{name}: {answer:?}"));
+    }
+    tally.close()
 }
 
 /// `X number line`, or `M`, both lengths, the header's fields, four numbers of each of three channels (0 where there is none),
@@ -97,5 +198,13 @@ fn bench(rounds: usize) {
     let text = sheet.text();
     assert_eq!(read(&text, 512).as_ref(), Ok(&sheet));
     let time = best(rounds, 1, || read(&text, 512));
-    println!("{} bytes read in {:.2} ms, {:.2} ns a byte", text.len(), time / 1e6, time / text.len() as f64);
+    let each = |time: f64| format!("{:.2} ms, {:.2} ns a byte", time / 1e6, time / text.len() as f64);
+    println!("{} bytes read in {} by the oracle", text.len(), each(time));
+    let (mut levels, mut tables) = (vec![0i16; 3 * 512 * 512], vec![0u16; 192]);
+    let (mut header, mut line) = ([0u32; 27], 0);
+    let time = best(rounds, 1, || unsafe {
+        let (l, t, h) = (levels.as_mut_ptr(), tables.as_mut_ptr(), header.as_mut_ptr());
+        smoother_read(text.as_ptr(), text.len(), 512, l, 3 * 512 * 512, t, 192, h, 27, &mut line)
+    });
+    println!("{} by the proved reader", each(time));
 }
