@@ -1,0 +1,5 @@
+-- What the contracts of the two gradients and of blend cite.
+pub mod Grid
+pub mod Tv
+pub mod Tgv
+pub mod Blend

@@ -1,0 +1,32 @@
+// The gradients of tv.rs and tgv.rs over all channels of a run, and blend, which is both.
+pub mod grid;
+pub mod tgv;
+pub mod tv;
+
+use grid::Grid;
+use steps::solve::Constants;
+ghost use mathlib.Core.Path.{_≡_};
+ghost use Prim.Native.Nat.{_≤_};
+ghost use lib.ListN.{length};
+ghost use Rattle.gradients.specs.Grid.{Fills};
+ghost use Rattle.gradients.specs.Blend.{blended};
+
+// Job 3: the first-order term, then the second-order term, on the buffers of all channels. The plane is only read.
+// Rules out: the second-order term of the differences before this step's, and the divisor √n left out.
+pub fn blend(
+    plane: &[f32],
+    gradient: &mut [f32],
+    across: &mut [f32],
+    down: &mut [f32],
+    g: Grid,
+    k: Constants,
+)
+    requires { ⌜ (g .n ≤ 3) × Fills g (length (now plane)) × Fills g (length (now gradient))
+        × Fills g (length (now across)) × Fills g (length (now down)) ⌝ }
+    ensures { λ _. ⌜ record { gradient = now (gradient .exit); across = now (across .exit); down = now (down .exit) }
+        ≡ blended (g .w) (g .h) (g .n) (k .second) (now (plane .entry))
+        (record { gradient = now (gradient .entry); across = now (across .entry); down = now (down .entry) }) ⌝ }
+{
+    tv::tv_gradient(plane, gradient, across, down, g);
+    tgv::tgv_gradient(&across[..], &down[..], gradient, g, k.second);
+}

@@ -1,0 +1,5 @@
+-- Laws of intervals.
+pub mod Ends
+pub mod Clamp
+pub mod Scaled
+pub mod Examples

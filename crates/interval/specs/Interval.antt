@@ -1,0 +1,57 @@
+-- A coefficient's interval (document 01, demand 3 and "Arithmetic below the Rust"): for levels from `low` to `high` and quantiser q,
+-- twice the value lies from (2 low − 1) × q to (2 high + 1) × q. Both sides are taken times 2 ^ 149, so that whole numbers are compared.
+-- A level of document 01 stands in both places: low and high are equal.
+use Prim.Native.Nat.{ℕ, _*_, _/_, _^_}
+use mathlib.Core.Bool.{Bool, true, false}
+use lib.IntN.{ℤ, pos, negsuc, negℤ, _+ℤ_, _-ℤ_, _*ℤ_}
+use lib.Signed.{_≤ℤ_}
+use lib.Ieee.{Float, nan, inf, fin, up, down, binary32, ofInt}
+use Rattle.float.specs.Ops.{clamp}
+use Rattle.float.specs.Names.{_⊕_, _⊖_, _⊗_, float}
+
+abbrev pub signed : Bool → ℕ → ℤ
+signed false n = pos n
+signed true n = negℤ (pos n)
+
+-- ±m × 2 ^ e, times 2 ^ 149: a whole number for each finite f32
+abbrev pub scaled : Bool → ℕ → ℤ → ℤ
+scaled s m e = signed s (m * up e * 2 ^ 149 / down e)
+
+-- twice the ends
+abbrev pub lowEnd : ℤ → ℕ → ℤ
+lowEnd low q = (pos 2 *ℤ low -ℤ pos 1) *ℤ pos q
+
+abbrev pub highEnd : ℤ → ℕ → ℤ
+highEnd high q = (pos 2 *ℤ high +ℤ pos 1) *ℤ pos q
+
+-- no NaN and no infinity is in an interval
+unfoldable pub InInterval : ℤ → ℤ → ℕ → Float → Type 0
+InInterval low high q nan = ⊥
+InInterval low high q (inf s) = ⊥
+InInterval low high q (fin s m e) =
+    ((lowEnd low q *ℤ pos (2 ^ 149)) ≤ℤ (pos 2 *ℤ scaled s m e))
+    × ((pos 2 *ℤ scaled s m e) ≤ℤ (highEnd high q *ℤ pos (2 ^ 149)))
+
+-- ---- the Rust's arithmetic of an interval (projection.rs, coef.rs)
+
+-- a level as f32, and 0.5
+abbrev pub whole : ℤ → Float
+whole d = ofInt binary32 d
+
+abbrev pub f½ : Float
+f½ = fin false 1 (negsuc 0)
+
+-- min = (dct_coefs - 0.5) * quant_table, max = (dct_coefs + 0.5) * quant_table
+unfoldable pub lowest : ℤ → ℕ → Float
+lowest low q = (whole low ⊖ f½) ⊗ float q
+
+unfoldable pub highest : ℤ → ℕ → Float
+highest high q = (whole high ⊕ f½) ⊗ float q
+
+-- level × quantiser: dct_coefs * quant_table
+unfoldable pub dequantised : ℤ → ℕ → Float
+dequantised d q = whole d ⊗ float q
+
+-- x.clamp(min, max)
+abbrev pub clampTo : ℤ → ℤ → ℕ → Float → Float
+clampTo low high q x = clamp x (lowest low q) (highest high q)

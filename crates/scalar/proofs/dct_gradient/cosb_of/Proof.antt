@@ -1,0 +1,15 @@
+use mir.Syntax.{w16}
+use mir.ValLaws.{toZ-ofZ}
+use Rattle.scalar.specs.DctGradient.{cosbOf}
+use borrow.Author.Needs.{needs}
+use Rattle.scalar.proofs.dct_gradient.cosb_of.Statement.{statement}
+use Rattle.scalar.proofs.dct_gradient.cosb_of.Tie as tie
+
+returns : tie.Need-returns
+unfolding cosbOf
+returns c = rw (c .before .mul-add .ensures, c .before .before .whole .ensures, c .powi2 .ensures, toZ-ofZ w16 (c .before .before .before .before .args .level) (c .before .before .before .before .fits .level))
+
+pub cosb-of-spec : {M : Type 1} → statement M
+cosb-of-spec =
+    tie.close
+    (tie.spec (λ c. search needs) (λ c κs. search needs) (λ c κs. search needs) (λ c κs. search needs) returns)

@@ -1,0 +1,19 @@
+use Rattle.scalar.specs.Projection.{projectOntoBox}
+use borrow.Author.Needs.{needs}
+use Rattle.scalar.proofs.projection.project_onto_box.Statement.{statement}
+use Rattle.scalar.proofs.projection.project_onto_box.Tie as tie
+
+returns : tie.Need-returns
+unfolding projectOntoBox
+returns c = rw (← c .before .before .before .before .before .before .before .before .before .before .before .before .before .before .resample .ensures, c .before .before .before .before .before .before .before .before .before .before .before .before .before .if1 .taken) (c .before .before .before .before .before .before .before .before .project-means .ensures)
+
+returns-2 : tie.Need-returns-2
+unfolding projectOntoBox
+returns-2 c = rw (← c .before .before .before .before .before .before .before .before .before .before .before .resample .ensures, c .before .before .before .before .before .before .before .before .before .before .if1 .left) (c .before .before .before .before .before .before .project-full .ensures _)
+
+pub project-onto-box-spec : {M : Type 1} → statement M
+project-onto-box-spec =
+    tie.close
+    (tie.spec (λ c κs. search needs) (λ c κs. search needs) (λ c. search needs) (λ c. search needs)
+    (λ c. search needs) (λ c. search needs) returns (λ c κs. search needs) (λ c. search needs) (λ c. search needs)
+    (λ c. search needs) returns-2)

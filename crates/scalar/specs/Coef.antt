@@ -1,0 +1,86 @@
+-- coef.rs: a channel's coefficients, the pixels that its conversion makes of them, and the saved coefficients at the start.
+use mathlib.Core.Path.{_≡_}
+use mathlib.Core.List.{List}
+use Prim.Native.Nat.{ℕ, _+_, _*_, _/_, _%_, _<_, _≤_}
+use lib.IntN.{ℤ, pos}
+use lib.ListN.{length, getD, set, replicate}
+use lib.Ieee.{Float}
+use Rattle.fold.specs.Fold.{upto}
+use Rattle.float.specs.Names.{f0}
+use Rattle.utils.specs.Blocks.{fromBlocks, onBlock}
+use Rattle.utils.specs.Dct.{idct8x8}
+use Rattle.interval.specs.Interval.{dequantised}
+use Rattle.scalar.specs.declared.coef.Own.{Own}
+
+-- ScalarCoef: own sides (rounded_px_w, rounded_px_h) and factors (horizontal, vertical), levels (dct_coefs) and quantisers (quant_table) as
+-- whole numbers
+pub record Coef : Type 0 where
+  pub own : Own
+  pub levels : List ℤ
+  pub table : List ℕ
+
+abbrev pub coef : Own → List ℤ → List ℕ → Coef
+coef o levels table = record { own = o; levels = levels; table = table }
+
+-- block_w, block_h, block_count, rounded_px_count
+abbrev pub blockW : Own → ℕ
+blockW o = o .width / 8
+
+abbrev pub blockH : Own → ℕ
+blockH o = o .height / 8
+
+abbrev pub blockCount : Own → ℕ
+blockCount o = blockW o * blockH o
+
+abbrev pub pxCount : Own → ℕ
+pxCount o = o .width * o .height
+
+abbrev pub levelAt : List ℤ → ℕ → ℤ
+levelAt levels k = getD levels k (pos 0)
+
+abbrev pub quantAt : List ℕ → ℕ → ℕ
+quantAt table j = getD table j 0
+
+-- out[i * 64 + j] = dct_coefs[i * 64 + j] * quant_table[j], for each j
+abbrev pub dequantiseAt : List ℤ → List ℕ → ℕ → ℕ → List Float → List Float
+dequantiseAt levels table i j out = set out (i * 64 + j) (dequantised (levelAt levels (i * 64 + j)) (quantAt table j))
+
+unfoldable pub dequantise : List ℤ → List ℕ → ℕ → List Float → List Float
+dequantise levels table i out = upto (dequantiseAt levels table i) 64 out
+
+-- From<Coefficient>, block i: dequantised, transformed, and then the whole plane is reordered
+unfoldable pub imageBlock : Coef → ℕ → List Float → List Float
+imageBlock C i image =
+    let x = onBlock idct8x8 i (dequantise (C .levels) (C .table) i image) in
+    fromBlocks (C .own .width) (blockW (C .own)) (blockH (C .own)) x x
+
+unfoldable pub imageData : Coef → List Float
+imageData C = upto (imageBlock C) (blockCount (C .own)) (replicate (pxCount (C .own)) f0)
+
+-- init_dct_target_into
+unfoldable pub initDctTarget : Coef → List Float → List Float
+initDctTarget C out = upto (dequantise (C .levels) (C .table)) (blockCount (C .own)) out
+
+-- ---- what the functions ask of a channel
+
+-- own sides that are multiples of 8
+abbrev pub Eights : Own → Type 0
+Eights o = (o .width % 8 ≡ 0) × (o .height % 8 ≡ 0)
+
+-- the channel's levels, and its 64 quantisers
+abbrev pub Lent : Own → List ℤ → List ℕ → Type 0
+Lent o levels table = (length levels ≡ o .width * o .height) × (length table ≡ 64)
+
+-- factors 1 to 4, and cover of full sides W and H up to 512
+pub record Covers (o : Own) (W H : ℕ) : Type 0 where
+  pub eights : Eights o
+  pub width-some : 0 < o .width
+  pub height-some : 0 < o .height
+  pub across-some : 0 < o .across
+  pub down-some : 0 < o .down
+  pub across-most : o .across ≤ 4
+  pub down-most : o .down ≤ 4
+  pub across-cover : o .width * o .across ≤ W
+  pub down-cover : o .height * o .down ≤ H
+  pub width-most : W ≤ 512
+  pub height-most : H ≤ 512

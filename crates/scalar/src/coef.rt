@@ -1,0 +1,90 @@
+// coef.rs: the pixels and the saved coefficients that a channel starts with.
+ghost use mathlib.Core.Path.{_≡_};
+ghost use Prim.Native.Nat.{_+_, _*_, _/_, _^_, _<_, _≤_};
+ghost use lib.ListN.{length};
+ghost use Rattle.scalar.specs.Coef.{Covers, Eights, Lent, coef, dequantise, imageBlock, imageData, initDctTarget};
+
+// A channel's own sides and its factors.
+pub struct Own {
+    pub width: usize,
+    pub height: usize,
+    pub across: usize,
+    pub down: usize,
+}
+
+// The blocks of a channel: 64 values each, as many as its own plane has.
+pub fn block_count(o: Own) -> usize
+    requires { ⌜ Eights o × (o .width * o .height < 2 ^ 63) ⌝ }
+    ensures { λ r. ⌜ (r ≡ o .width / 8 * (o .height / 8)) × (r * 64 ≡ o .width * o .height) ⌝ }
+{
+    let w = o.width;
+    let h = o.height;
+    w / 8 * (h / 8)
+}
+
+// The values of the own plane, which are no more than those of the full plane.
+pub fn px_count(o: Own, w: usize, h: usize) -> usize
+    requires { ⌜ Covers o w h ⌝ }
+    ensures { λ r. ⌜ (r ≡ o .width * o .height) × (r ≤ w * h) ⌝ }
+{
+    let width = o.width;
+    let height = o.height;
+    width * height
+}
+
+// The values of the levels of block i.
+fn dequantise(out: &mut [f32], levels: &[i16], table: &[u16], i: usize)
+    requires { ⌜ (i * 64 + 64 ≤ length (now levels)) × (length (now table) ≡ 64) × (i * 64 + 64 ≤ length (now out)) ⌝ }
+    ensures { λ _. ⌜ now (out .exit) ≡ dequantise (now (levels .entry)) (now (table .entry)) i (now (out .entry)) ⌝ }
+{
+    for j in 0..64 {
+        let k = i * 64 + j;
+        let level = levels[k];
+        out[k] = interval::dequantised(level, table[j]);
+    }
+}
+
+// Block i of the image, and then the whole image reordered. The Rust's clone of the image goes to `scratch`.
+fn image_block(
+    image: &mut [f32],
+    scratch: &mut [f32],
+    o: Own,
+    levels: &[i16],
+    table: &[u16],
+    i: usize,
+)
+    requires { ⌜ Eights o × Lent o (now levels) (now table) × (i < o .width / 8 * (o .height / 8))
+        × (length (now image) ≡ o .width * o .height) × (length (now scratch) ≡ o .width * o .height) ⌝ }
+    ensures { λ _. ⌜ now (image .exit) ≡ imageBlock (coef o (now (levels .entry)) (now (table .entry))) i (now (image .entry)) ⌝ }
+{
+    let w = o.width;
+    let h = o.height;
+    dequantise(image, levels, table, i);
+    utils::dct::idct_block(image, i);
+    utils::slices::copy(&image[..], scratch);
+    utils::blocks::from_blocks(&scratch[..], image, w, h, w / 8, h / 8);
+}
+
+// The channel's pixels in its own sides. Above width 8 the image is reordered after each block.
+pub fn image_data(image: &mut [f32], scratch: &mut [f32], o: Own, levels: &[i16], table: &[u16])
+    requires { ⌜ Eights o × Lent o (now levels) (now table)
+        × (length (now image) ≡ o .width * o .height) × (length (now scratch) ≡ o .width * o .height) ⌝ }
+    ensures { λ _. ⌜ now (image .exit) ≡ imageData (coef o (now (levels .entry)) (now (table .entry))) ⌝ }
+{
+    let n = block_count(o);
+    utils::slices::zero(image);
+    for i in 0..n {
+        image_block(image, scratch, o, levels, table, i);
+    }
+}
+
+// The saved coefficients at the start: level × quantiser.
+pub fn init_dct_target(out: &mut [f32], o: Own, levels: &[i16], table: &[u16])
+    requires { ⌜ Eights o × Lent o (now levels) (now table) × (o .width * o .height ≤ length (now out)) ⌝ }
+    ensures { λ _. ⌜ now (out .exit) ≡ initDctTarget (coef o (now (levels .entry)) (now (table .entry))) (now (out .entry)) ⌝ }
+{
+    let n = block_count(o);
+    for i in 0..n {
+        dequantise(out, levels, table, i);
+    }
+}

@@ -1,0 +1,153 @@
+// dct_gradient.rs: the gradient of the distance of the saved coefficients from the quantised ones.
+use crate::auxiliary;
+use crate::coef::Own;
+ghost use mathlib.Core.Path.{_≡_};
+ghost use Prim.Native.Nat.{_+_, _*_, _/_, _≤_, _<_, _^_};
+ghost use lib.ListN.{length};
+ghost use Rattle.scalar.specs.Coef.{Covers, Eights, Lent, coef};
+ghost use Rattle.scalar.specs.DctGradient.{cosbOf, cosbsOf, spot, spread, spreadBlock, dctGradient, dataGradient};
+
+// A coefficient's difference from level × quantiser, over the quantiser's square.
+fn cosb_of(level: i16, q: u16, cosb: f32) -> f32
+    ensures { λ r. ⌜ r ≡ cosbOf level q cosb ⌝ }
+{
+    let quant = q as f32;
+    float::mul_add(interval::whole(level), -quant, cosb) / float::powi2(quant)
+}
+
+// A copy of block i of the saved coefficients, differenced and transformed.
+fn cosbs_of(cos: &[f32], levels: &[i16], table: &[u16], i: usize) -> [f32; 64]
+    requires { ⌜ (i * 64 + 64 ≤ length (now cos)) × (i * 64 + 64 ≤ length (now levels)) × (length (now table) ≡ 64) ⌝ }
+    ensures { λ r. ⌜ r ≡ cosbsOf (now (levels .entry)) (now (table .entry)) (now (cos .entry)) i ⌝ }
+{
+    let at = i * 64;
+    let end = at + 64;
+    let mut cosbs = [0.0f32; 64];
+    utils::slices::copy(&cos[at..end], &mut cosbs);
+    for j in 0..64 {
+        let level = levels[at + j];
+        cosbs[j] = cosb_of(level, table[j], cosbs[j]);
+    }
+    utils::dct::idct8x8(&mut cosbs);
+    cosbs
+}
+
+// The place in the full plane of the subsample (sx, sy) of the own sample (cx, cy).
+pub fn spot(o: Own, w: usize, h: usize, cy: usize, cx: usize, sy: usize, sx: usize) -> usize
+    requires { ⌜ Covers o w h × (cy < o .height) × (cx < o .width) × (sy < o .down) × (sx < o .across) ⌝ }
+    ensures { λ r. ⌜ (r ≡ spot o w cy cx sy sx) × (r < w * h) ⌝ }
+{
+    let across = o.across;
+    let down = o.down;
+    (cy * down + sy) * w + (cx * across + sx)
+}
+
+// v, times alpha, is added at the places of the own sample (cx, cy).
+fn spread(
+    gradient: &mut [f32],
+    o: Own,
+    w: usize,
+    h: usize,
+    alpha: f32,
+    v: f32,
+    cy: usize,
+    cx: usize,
+)
+    requires { ⌜ Covers o w h × (cy < o .height) × (cx < o .width) × (length (now gradient) ≡ w * h) ⌝ }
+    ensures { λ _. ⌜ now (gradient .exit) ≡ spread o w alpha v cy cx (now (gradient .entry)) ⌝ }
+{
+    let across = o.across;
+    let down = o.down;
+    for sy in 0..down {
+        for sx in 0..across {
+            let k = spot(o, w, h, cy, cx, sy, sx);
+            gradient[k] = float::mul_add(alpha, v, gradient[k]);
+        }
+    }
+}
+
+// The same for the 64 values of the block (bx, by).
+fn spread_block(
+    gradient: &mut [f32],
+    o: Own,
+    w: usize,
+    h: usize,
+    alpha: f32,
+    cosbs: &[f32],
+    by: usize,
+    bx: usize,
+)
+    requires { ⌜ Covers o w h × (by < o .height / 8) × (bx < o .width / 8) × (length (now cosbs) ≡ 64) × (length (now gradient) ≡ w * h) ⌝ }
+    ensures { λ _. ⌜ now (gradient .exit) ≡ spreadBlock o w alpha (now (cosbs .entry)) by bx (now (gradient .entry)) ⌝ }
+{
+    for y in 0..8 {
+        for x in 0..8 {
+            spread(
+                gradient,
+                o,
+                w,
+                h,
+                alpha,
+                cosbs[y * 8 + x],
+                by * 8 + y,
+                bx * 8 + x,
+            );
+        }
+    }
+}
+
+// The number of the block (bx, by), whose values lie within the own plane's.
+fn block_index(o: Own, by: usize, bx: usize) -> usize
+    requires { ⌜ Eights o × (by < o .height / 8) × (bx < o .width / 8) × (o .width * o .height < 2 ^ 63) ⌝ }
+    ensures { λ r. ⌜ (r ≡ by * (o .width / 8) + bx) × (r * 64 + 64 ≤ o .width * o .height) ⌝ }
+{
+    let width = o.width;
+    by * (width / 8) + bx
+}
+
+// alpha times the gradient of the distance is added, block by block. Saved (cos) is only read: the block that is changed is a copy.
+pub fn dct_gradient(
+    cos: &[f32],
+    gradient: &mut [f32],
+    o: Own,
+    w: usize,
+    h: usize,
+    alpha: f32,
+    levels: &[i16],
+    table: &[u16],
+)
+    requires { ⌜ Covers o w h × Lent o (now levels) (now table) × (length (now cos) ≡ w * h) × (length (now gradient) ≡ w * h) ⌝ }
+    ensures { λ _. ⌜ now (gradient .exit) ≡ dctGradient (coef o (now (levels .entry)) (now (table .entry))) w alpha (now (cos .entry)) (now (gradient .entry)) ⌝ }
+{
+    let bw = o.width / 8;
+    let bh = o.height / 8;
+    for by in 0..bh {
+        for bx in 0..bw {
+            let i = block_index(o, by, bx);
+            let cosbs = cosbs_of(cos, levels, table, i);
+            spread_block(gradient, o, w, h, alpha, &cosbs, by, bx);
+        }
+    }
+}
+
+// Job 2: the gradient zeroed, then the data gradient if the data weight isn't 0.
+// Rules out: alpha tested in the weight's place, and saved coefficients changed.
+pub fn data(
+    saved: &[f32],
+    gradient: &mut [f32],
+    o: Own,
+    w: usize,
+    h: usize,
+    weight: f32,
+    levels: &[i16],
+    table: &[u16],
+)
+    requires { ⌜ Covers o w h × Lent o (now levels) (now table) × (length (now saved) ≡ w * h) × (length (now gradient) ≡ w * h) ⌝ }
+    ensures { λ _. ⌜ now (gradient .exit) ≡ dataGradient (coef o (now (levels .entry)) (now (table .entry))) w h weight (now (saved .entry)) ⌝ }
+{
+    auxiliary::zeros(gradient, w * h);
+    if weight != 0.0 {
+        let alpha = steps::step::data_alpha(weight);
+        dct_gradient(saved, gradient, o, w, h, alpha, levels, table);
+    }
+}

@@ -1,0 +1,32 @@
+use Prim.Native.Nat.{_-_, _≤_}
+use borrow.Author.Needs.{needs}
+use mathlib.Core.Path.{_≡_}
+use native.Mathlib.Omega.{arith}
+use Rattle.fold.proofs.Loops.{upto-call, upto-end}
+use Rattle.fold.specs.Fold.{upto}
+use Rattle.steps.specs.Solve.{termAt, termOf}
+use Rattle.steps.proofs.solve.term_of.Statement.{statement}
+use Rattle.steps.proofs.solve.term_of.Tie as tie
+
+abbrev Inv-loop : tie.InvT-loop
+Inv-loop step t₀ k₀ t k = (k ≤ step) × (t ≡ upto termAt k t₀)
+
+abbrev μ-loop : tie.MeasureT-loop
+μ-loop step t₀ k₀ t k = step - k
+
+loop-holds : tie.Need-loop-holds Inv-loop μ-loop
+unfolding upto
+loop-holds c = search needs
+
+loop-again : tie.Need-loop-again Inv-loop μ-loop
+loop-again c = (search needs, upto-call _ _ _ (c .before .before .loop .inv .1) (c .next-term .ensures))
+
+returns : tie.Need-returns Inv-loop μ-loop
+unfolding termOf
+returns c = upto-end _ _ _ _ (c .before .loop .inv .1) (omega arith)
+
+pub term-of-spec : {M : Type 1} → statement M
+term-of-spec =
+    tie.close
+    (tie.spec Inv-loop μ-loop loop-holds (λ c κs. search needs) (λ c. search needs) (λ c. search needs) loop-again
+    returns)

@@ -1,0 +1,85 @@
+// scalar/mod.rs, `solve`: the constants of a step, and push.
+ghost use mathlib.Core.Path.{_≡_};
+ghost use Prim.Native.Nat.{_+_, _*_, _≤_};
+ghost use lib.ListN.{length};
+ghost use Rattle.float.specs.Ops.{root};
+ghost use Rattle.float.specs.Names.{float};
+ghost use Rattle.steps.specs.Solve.{nextTerm, termOf, constants, pushed, pushedPart};
+
+// The constants of a step: term, factor, step size, second-order weight.
+pub struct Constants {
+    pub term: f32,
+    pub factor: f32,
+    pub step: f32,
+    pub second: f32,
+}
+
+// The term of the next step.
+fn next_term(t: f32) -> f32
+    ensures { λ r. ⌜ r ≡ nextTerm t ⌝ }
+{
+    float::midpoint(
+        1.0,
+        float::sqrt(float::mul_add_rounded(4.0, float::powi2(t), 1.0)),
+    )
+}
+
+// The term of a step, counted from 0: as many turns as the step has steps before it.
+fn term_of(step: u32) -> f32
+    ensures { λ r. ⌜ r ≡ termOf step ⌝ }
+{
+    let mut t = 1.0f32;
+    for k in 0..step {
+        t = next_term(t);
+    }
+    t
+}
+
+// √n of a whole number.
+fn root_of(n: u32) -> f32
+    ensures { λ r. ⌜ r ≡ root (float n) ⌝ }
+{
+    float::sqrt(std::num::nearest_u32_to_f32(n))
+}
+
+// The constants of a step, from the sheet and the step's number alone. Rules out: a term carried one step too far, and a step size of the own sides.
+pub fn step_constants(w: u32, h: u32, iterations: u32, weight: f32, step: u32) -> Constants
+    requires { ⌜ (w ≤ 512) × (h ≤ 512) ⌝ }
+    ensures { λ r. ⌜ r ≡ constants w h iterations weight step ⌝ }
+{
+    let term = term_of(step);
+    let radius = root_of(w * h) / 2.0;
+    let rest = float::sqrt(1.0 + std::num::nearest_u32_to_f32(iterations));
+    Constants {
+        term: term,
+        factor: (term - 1.0) / next_term(term),
+        step: radius / rest,
+        second: weight / float::sqrt(2.0),
+    }
+}
+
+// Job 1: new plane = mul_add!(factor, plane - prior, plane), new prior = old plane, place by place in one pass.
+// Rules out: the product and sum rounded once, and a prior that is the old prior.
+pub fn push(plane: &mut [f32], prior: &mut [f32], k: Constants)
+    requires { ⌜ length (now plane) ≡ length (now prior) ⌝ }
+    ensures { λ _. ⌜ record { plane = now (plane .exit); prior = now (prior .exit) }
+        ≡ pushed (k .factor) (record { plane = now (plane .entry); prior = now (prior .entry) }) ⌝ }
+{
+    let factor = k.factor;
+    for i in 0..plane.len() {
+        let p = plane[i];
+        plane[i] = float::mul_add_rounded(factor, p - prior[i], p);
+        prior[i] = p;
+    }
+}
+
+// Job 1 on the part of channel c, of n values.
+pub fn push_channel(plane: &mut [f32], prior: &mut [f32], k: Constants, c: usize, n: usize)
+    requires { ⌜ (c * n + n ≤ length (now plane)) × (length (now plane) ≡ length (now prior)) ⌝ }
+    ensures { λ _. ⌜ record { plane = now (plane .exit); prior = now (prior .exit) }
+        ≡ pushedPart (k .factor) (c * n) (c * n + n) (record { plane = now (plane .entry); prior = now (prior .entry) }) ⌝ }
+{
+    let from = c * n;
+    let to = from + n;
+    push(&mut plane[from..to], &mut prior[from..to], k);
+}
