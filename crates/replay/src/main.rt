@@ -1,6 +1,7 @@
 // Replays the oracle's answers: each line of standard input has an operation, its operands and the answer of the Rust.
 // Writes how many of the lines have the answer that the proved code gives, and how many have another.
 mod arith;
+mod sheets;
 mod transforms;
 
 use words::Tally;
@@ -27,6 +28,9 @@ fn same_line(s: &[u8], at: usize) -> bool
     }
     if first == b'u' {
         return transforms::same_up(s, at);
+    }
+    if first == b'r' {
+        return sheets::same_read(s, at);
     }
     if second == b'r' {
         return transforms::same_from(s, at);

@@ -33,7 +33,7 @@ use Rattle.sheet.proofs.GoodLines.{fault-at, fault-drop, tables-without
 
 -- Good lines
 
-header-is-legal : (limit : ℕ) (fs : List (List ℕ)) → length fs ≡ 16 → firstFault (headerRules limit fs) fs ≡ none → LegalHeader limit (headerOf fs)
+pub header-is-legal : (limit : ℕ) (fs : List (List ℕ)) → length fs ≡ 16 → firstFault (headerRules limit fs) fs ≡ none → LegalHeader limit (headerOf fs)
 unfolding headerOf numberAt weightAt
 header-is-legal limit fs n e =
     record {
@@ -56,7 +56,7 @@ header-is-legal limit fs n e =
     at : (i : ℕ) → i < 16 → faultIn (fieldOf (getD (headerRules limit fs) i (rule.Tag 0)) (getD fs i [])) ≡ none
     at i h = fault-at (headerRules limit fs) fs i e h (omega arith)
 
-channel-is-legal : (h : Header) (fs : List (List ℕ)) → length fs ≡ 69 → firstFault channelRules fs ≡ none → covers h (channelOf fs) ≡ true → LegalChannel h (channelOf fs)
+pub channel-is-legal : (h : Header) (fs : List (List ℕ)) → length fs ≡ 69 → firstFault channelRules fs ≡ none → covers h (channelOf fs) ≡ true → LegalChannel h (channelOf fs)
 unfolding channelOf numberAt
 channel-is-legal h fs n e v =
     let c = channelOf fs in
@@ -95,7 +95,7 @@ record Begun (limit : ℕ) (s : State) (ls : List ℤ) (ts : List ℕ) : Type 0 
   levels : LegalLevels ls
   tables : LegalQuantisers ts
 
-few : (limit : ℕ) (h : Header) → LegalHeader limit h → h .channels ≤ 3
+pub few : (limit : ℕ) (h : Header) → LegalHeader limit h → h .channels ≤ 3
 few limit h l = ⊎-elim (λ e. omega arith) (λ e. omega arith) (l .channels)
 
 -- a channel at its place leaves the others
@@ -115,7 +115,7 @@ levels-same : (s t : Sheet) (n : ℕ) → ((j : ℕ) → j < n → channelAt t j
 levels-same s t zero f = refl
 levels-same s t (suc n) f = rw (levels-same s t n (λ j h. f j (omega arith)), f n (omega arith))
 
-blocks : (w h : ℕ) → w % 8 ≡ 0 → h % 8 ≡ 0 → 64 * (w * h / 64) ≡ w * h
+pub blocks : (w h : ℕ) → w % 8 ≡ 0 → h % 8 ≡ 0 → 64 * (w * h / 64) ≡ w * h
 blocks w h p q =
     let a : w ≡ 8 * (w / 8) = omega arith in
     let b : h ≡ 8 * (h / 8) = omega arith in
@@ -125,19 +125,19 @@ blocks w h p q =
 
 -- A line that is no refusal
 
-record Line (tag limit : ℕ) (fs : List (List ℕ)) (X T : Outcome Contents) : Type 0 where
-  count : length fs ≡ length (rulesOf tag limit fs)
-  fault : firstFault (rulesOf tag limit fs) fs ≡ none
-  more : X ≡ T
+pub record Line (tag limit : ℕ) (fs : List (List ℕ)) (X T : Outcome Contents) : Type 0 where
+  pub count : length fs ≡ length (rulesOf tag limit fs)
+  pub fault : firstFault (rulesOf tag limit fs) fs ≡ none
+  pub more : X ≡ T
 
-fields-count : (a b : ℕ) (m : Option ℕ) → cond (eqb a b) m (some 1) ≡ none → (a ≡ b) × (m ≡ none)
+pub fields-count : (a b : ℕ) (m : Option ℕ) → cond (eqb a b) m (some 1) ≡ none → (a ≡ b) × (m ≡ none)
 fields-count a b m e = two (eqb a b) refl e
   where
     two : (t : Bool) → eqb a b ≡ t → cond t m (some 1) ≡ none → (a ≡ b) × (m ≡ none)
     two true p o = (eqb-true a b p, o)
     two false p o = let z : _≡_ {A = ℕ} 0 1 = cc in let y : ⊥ = omega arith in absurd y
 
-line-fields : (u v : Bool) (m : Option ℕ) → cond u (some 1) (cond v (some 7) m) ≡ none → m ≡ none
+pub line-fields : (u v : Bool) (m : Option ℕ) → cond u (some 1) (cond v (some 7) m) ≡ none → m ≡ none
 line-fields true v m e = let z : _≡_ {A = ℕ} 0 1 = cc in let y : ⊥ = omega arith in absurd y
 line-fields false true m e = let z : _≡_ {A = ℕ} 0 1 = cc in let y : ⊥ = omega arith in absurd y
 line-fields false false m e = e
@@ -146,7 +146,7 @@ no-fault : (m : Option ℕ) (k : ℕ) (X : Outcome Contents) (c : Contents) → 
 no-fault none k X c e = (refl, e)
 no-fault (some j) k X c e = let z : _≡_ {A = ℕ} 0 1 = cc in let y : ⊥ = omega arith in absurd y
 
-line-is : (tag limit k : ℕ) (p : List ℕ) (rest : List (List ℕ)) (X : Outcome Contents) (c : Contents)
+pub line-is : (tag limit k : ℕ) (p : List ℕ) (rest : List (List ℕ)) (X : Outcome Contents) (c : Contents)
     → onFault (lineFault limit tag p rest) k X ≡ Gives c → Line tag limit (split 9 p) X (Gives c)
 unfolding lineFault fieldsFault
 line-is tag limit k p rest X c e =
@@ -303,7 +303,7 @@ module _ (limit : ℕ) (most : LegalSide 512 limit) (p : List ℕ) (rest : List 
         two false true p q = channel-line p q e
         two false false p q = end-line p q e
 
-refusal : (k j : ℕ) (C : Contents) {A : Type 0} → Refused k j ≡ Gives C → A
+pub refusal : (k j : ℕ) (C : Contents) {A : Type 0} → Refused k j ≡ Gives C → A
 refusal k j C e = let z : _≡_ {A = ℕ} 0 1 = cc in let y : ⊥ = omega arith in absurd y
 
 legal-from : (limit : ℕ) → LegalSide 512 limit → (ps : List (List ℕ)) (C : Contents) (s : State) (ls : List ℤ) (ts : List ℕ) (k : ℕ)

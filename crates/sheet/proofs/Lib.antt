@@ -6,3 +6,6 @@ pub mod WalkLaws
 pub mod ReadLaws
 pub mod GoodLines
 pub mod LegalLaws
+pub mod RowLaws
+pub mod RoundTrip
+pub mod PrefixLaws

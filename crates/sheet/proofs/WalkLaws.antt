@@ -256,10 +256,10 @@ head-rest : (ps : List (List ℕ)) → 0 < length ps → ps ≡ getD ps 0 [] ∷
 head-rest [] h = let z : ⊥ = omega arith in absurd z
 head-rest (p ∷ ps) h = refl
 
-split-head : (b : ℕ) (l : List ℕ) → split b l ≡ before b l ∷ drop 1 (split b l)
+pub split-head : (b : ℕ) (l : List ℕ) → split b l ≡ before b l ∷ drop 1 (split b l)
 split-head b l = head-rest (split b l) (split-some b l) ∙ ap (λ (p : List ℕ). p ∷ drop 1 (split b l)) (split-first b l)
 
-not-last : (b : ℕ) (l : List ℕ) → isLast (split b l) ≡ false
+pub not-last : (b : ℕ) (l : List ℕ) → isLast (split b l) ≡ false
 not-last b l = by (split b l) (split-some b l)
   where
     by : (ps : List (List ℕ)) → 0 < length ps → isLast ps ≡ false
@@ -270,7 +270,7 @@ nothing-after : (b : ℕ) (l : List ℕ) → length l ≡ 0 → nothingLeft (spl
 nothing-after b [] h = refl
 nothing-after b (x ∷ l) h = let z : ⊥ = omega arith in absurd z
 
-some-after : (b : ℕ) (l : List ℕ) → 0 < length l → nothingLeft (split b l) ≡ false
+pub some-after : (b : ℕ) (l : List ℕ) → 0 < length l → nothingLeft (split b l) ≡ false
 some-after b [] h = let z : ⊥ = omega arith in absurd z
 some-after b (x ∷ l) h = two (eqb x b) (split b l) (split-some b l)
   where

@@ -4,3 +4,5 @@ pub mod Reading
 pub mod Calls
 pub mod Legal
 pub mod Walk
+pub mod Written
+pub mod Longest

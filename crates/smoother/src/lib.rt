@@ -56,7 +56,7 @@ fn mode_number(joint: bool) -> u32
 }
 
 // A sheet's record as numbers.
-fn numbers(s: Sheet) -> [u32; 27]
+pub fn numbers(s: Sheet) -> [u32; 27]
     ensures { λ r. ⌜ r ≡ numbersOf s ⌝ }
 {
     let h = s.header;

@@ -11,7 +11,7 @@ use borrow.Author.Tests.{eq-eqb, ne-eqb, le-leb, leb-true, eqb-true, ltb-true, l
 use Rattle.text.specs.declared.weight.Weight.{Weight}
 use Rattle.text.specs.declared.weight.Weight.the-variants as weight
 use Rattle.text.specs.Pieces.{onto, split}
-use Rattle.text.specs.Written.{digitsOf, decimal, hexByte, hexOf, weightText, levelText, joined, ended}
+use Rattle.text.specs.Written.{digitsOf, decimal, hexByte, hexOf, weightText, levelText, joined, ended, rowBytes}
 use Rattle.text.proofs.PieceLaws.{split-some}
 use Rattle.text.proofs.GoodLaws.{both-left, both-right}
 
@@ -156,12 +156,7 @@ Within [] (m ∷ ms) = ⊥
 Within (f ∷ fs) [] = ⊥
 Within (f ∷ fs) (m ∷ ms) = (length f ≤ m) × Within fs ms
 
--- the fields and the byte after each
-abbrev pub total : List ℕ → ℕ
-total [] = 0
-total (m ∷ ms) = m + 1 + total ms
-
-pub joined-length : (fs : List (List ℕ)) (ms : List ℕ) → 1 ≤ length fs → Within fs ms → length (joined fs) + 1 ≤ total ms
+pub joined-length : (fs : List (List ℕ)) (ms : List ℕ) → 1 ≤ length fs → Within fs ms → length (joined fs) + 1 ≤ rowBytes ms
 joined-length [] ms h w = let y : ⊥ = omega arith in absurd y
 joined-length (f ∷ fs) [] h w = absurd w
 joined-length (f ∷ []) (m ∷ []) h w = omega (arith, w .0)

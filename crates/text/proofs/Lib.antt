@@ -9,3 +9,4 @@ pub mod GoodLaws
 pub mod DecimalLaws
 pub mod JoinLaws
 pub mod SpellingLaws
+pub mod SizeLaws

@@ -27,7 +27,7 @@ use Rattle.text.specs.Written.{decimal, hexByte, hexOf, weightText, leve
 use Rattle.text.proofs.WeightLaws.{bits-letter}
 use Rattle.text.proofs.LevelLaws.{level-plus}
 use Rattle.text.proofs.JoinLaws.{above-head, above-decimal}
-use Rattle.text.proofs.DecimalLaws.{is-not, is-inj, init-last, decimal-some, number-written, number-canonical}
+use Rattle.text.proofs.DecimalLaws.{is-not, is-inj, init-last, decimal-some, decimal-length, number-written, number-canonical}
 
 -- Hexadecimal digits
 
@@ -209,3 +209,15 @@ level-canonical (b ∷ l) z e = two (eqb b 45) refl e
     two : (t : Bool) → eqb b 45 ≡ t → cond t (belowZero (numberOf l)) (fromZero (numberOf (b ∷ l))) ≡ field.Level z → levelText z ≡ b ∷ l
     two true q o = below (numberOf l) q refl o
     two false q o = from (numberOf (b ∷ l)) refl o
+
+-- Lengths
+
+pub weight-length : (w : Weight) → LegalWeight w → length (weightText w) ≤ 9
+unfolding weightText
+weight-length (weight.Bits n) h = omega (arith, hex-length 8 n)
+weight-length (weight.Whole n) h = omega (arith, decimal-length 2 n (omega arith))
+
+pub level-length : (z : ℤ) → LegalLevel z → length (levelText z) ≤ 5
+unfolding levelText
+level-length (pos n) h = omega (arith, decimal-length 3 n (omega arith))
+level-length (negsuc n) h = omega (arith, decimal-length 3 (suc n) (omega arith))

@@ -43,3 +43,8 @@ joined (f ∷ (g ∷ fs)) = f ++ 9 ∷ joined (g ∷ fs)
 abbrev pub ended : List (List ℕ) → List ℕ
 ended [] = []
 ended (l ∷ ls) = l ++ 10 ∷ ended ls
+
+-- the bytes of a line whose fields have these lengths: each field and the byte after it
+abbrev pub rowBytes : List ℕ → ℕ
+rowBytes [] = 0
+rowBytes (m ∷ ms) = m + 1 + rowBytes ms

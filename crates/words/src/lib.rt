@@ -118,6 +118,26 @@ pub fn number(s: &[u8], at: usize) -> u32
     (v % 4294967296) as u32
 }
 
+// The bytes that the word at `at` spells, two digits each, as far as there is room. Answers how many.
+pub fn bytes(s: &[u8], at: usize, out: &mut [u8]) -> usize
+    requires { ⌜ at ≤ length (now s) ⌝ }
+    ensures { λ r. ⌜ (length (now (out .exit)) ≡ length (now (out .entry))) × (r ≤ length (now (out .entry))) ⌝ }
+{
+    let e = word_end(s, at);
+    let mut i = at;
+    let mut n = 0;
+    while n < out.len() {
+        if e - i < 2 {
+            return n;
+        }
+        let v = digit(s[i]) % 16 * 16 + digit(s[i + 1]) % 16;
+        out[n] = (v % 256) as u8;
+        n += 1;
+        i += 2;
+    }
+    n
+}
+
 // Moves what stands from `from` to `to` to the front of the buffer, reads standard input behind it until the buffer is full or the
 // input ends, and answers where what was read ends.
 pub fn refill(buf: &mut [u8], from: usize, to: usize) -> usize

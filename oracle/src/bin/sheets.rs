@@ -3,6 +3,7 @@
 //!     sheets --make N SEED DIR [LIMIT]    DIR/00001.tsv .. and DIR/answers, a line per text
 //!     sheets --pack N SEED DIR [LIMIT]    DIR/texts, each text after its length in five digits, and DIR/answers
 //!     sheets --compare [N [SEED]]         the proved reader beside the oracle's, on N texts at each of the limits 32 and 512
+//!     sheets --list N SEED                lines for replay: the fixed texts and N at random that are not long
 //!     sheets --bench [ROUNDS]             times both readers on a sheet of 512 by 512 with three channels
 use oracle::{
     bench::best,
@@ -22,10 +23,11 @@ fn main() -> ExitCode {
             let folder = args.get(3).expect("a folder");
             make(form == "--pack", number(1, 0), number(2, 1), Path::new(folder), number(4, 32) as u32);
         }
+        Some("--list") => list(number(1, 100), number(2, 1)),
         Some("--compare") => return compare(number(1, 100_000), number(2, 1)),
         Some("--bench") => bench(number(1, 20) as usize),
         _ => eprintln!(
-            "sheets --make N SEED DIR [LIMIT] | --pack N SEED DIR [LIMIT] | --compare [N [SEED]] | --bench [ROUNDS]"
+            "sheets --make N SEED DIR [LIMIT] | --pack N SEED DIR [LIMIT] | --list N SEED | --compare [N [SEED]] | --bench [ROUNDS]"
         ),
     }
     ExitCode::SUCCESS
@@ -90,6 +92,30 @@ fn proved(text: &[u8], limit: u32, spare: (usize, usize, usize)) -> Given {
     let untouched = levels.iter().all(|x| *x == 7) && tables.iter().all(|x| *x == 7) && header.iter().all(|x| *x == 7);
     assert!(untouched, "a refusal leaves the buffers");
     Given::Refused(number, line)
+}
+
+/// `read`, the limit, the refusal's number and line, a digest of what was read, all in hexadecimal, and the text's bytes.
+fn list(count: u64, seed: u64) {
+    let texts = texts::all(seed, 8 * count, 32, 1000);
+    let fixed = texts.iter().filter(|(kind, _)| kind.starts_with("fixed"));
+    let random = texts.iter().filter(|(kind, _)| !kind.starts_with("fixed"));
+    let random = random.filter(|(_, text)| text.len() < 1000).step_by(3).take(count as usize);
+    for (_, text) in fixed.filter(|(_, text)| text.len() < 4000).chain(random) {
+        let (number, line, digest) = match expected(text, 32) {
+            Given::Refused(number, line) => (number, line, 0),
+            Given::Sheet(levels, tables, header) => (0, 0, digest(&levels, &tables, &header)),
+        };
+        let bytes: String = text.iter().map(|byte| format!("{byte:02x}")).collect();
+        println!("read 20 {number:x} {line:x} {digest:x} {bytes}");
+    }
+}
+
+/// Of the record's numbers, the bits of the levels as f32, and the tables: each is added to 31 times what was there, modulo 2^32.
+fn digest(levels: &[i16], tables: &[u16], header: &[u32]) -> u64 {
+    let levels = levels.iter().map(|level| u64::from(f32::from(*level).to_bits()));
+    let tables = tables.iter().map(|quantiser| u64::from(*quantiser));
+    let all = header.iter().map(|number| u64::from(*number)).chain(levels).chain(tables);
+    all.fold(0, |digest, number| (digest * 31 + number) % (1 << 32))
 }
 
 fn compare(count: u64, seed: u64) -> ExitCode {

@@ -1,0 +1,371 @@
+-- The written rows: their fields are good, they say what was written, and they are short and free of tabs and line ends.
+use Prim.Native.Nat.{ℕ, zero, suc, _+_, _*_, _/_, _<_, _≤_}
+use mathlib.Core.Path.{_≡_, refl, sym, ap, _∙_}
+use mathlib.Core.List.{List, [], _∷_, _++_, map}
+use mathlib.Core.Bool.{Bool, true, false, cond, _&&_}
+use mathlib.Core.Logic.{_⊎_, inl, inr}
+use mathlib.Core.Option.{Option, none, some}
+use native.Mathlib.Omega.{arith}
+use lib.ListN.{length, getD, take, drop, replicate, length-map}
+use lib.IntN.{ℤ, pos, negsuc}
+use borrow.Author.Tests.{eq-eqb}
+use Rattle.text.specs.declared.number.Number.the-variants as number
+use Rattle.text.specs.declared.weight.Weight.{Weight}
+use Rattle.text.specs.declared.weight.WeightField.the-variants as weight-field
+use Rattle.text.specs.declared.field.Rule.{Rule}
+use Rattle.text.specs.declared.field.Rule.the-variants as rule
+use Rattle.text.specs.declared.field.Field.{Field}
+use Rattle.text.specs.declared.field.Field.the-variants as field
+use Rattle.text.specs.Numbers.{numberOf, numberValue, numberAt}
+use Rattle.text.specs.Weights.{weightOf, weightIn, weightAt}
+use Rattle.text.specs.Levels.{levelOf}
+use Rattle.text.specs.Fields.{letter, fieldOf, faultIn, levelsIn, tablesIn}
+use Rattle.text.specs.Legal.{Between, LegalSide, LegalWeight, LegalLevel}
+use Rattle.text.specs.Written.{decimal, hexOf, weightText, levelText, joined}
+use Rattle.text.proofs.FieldLaws.{range-in, side-in, channels-one, channels-three, quantiser-in, weight-is}
+use Rattle.text.proofs.DecimalLaws.{number-written, decimal-length}
+use Rattle.text.proofs.SpellingLaws.{weight-written, level-written, weight-length, level-length}
+use Rattle.text.proofs.JoinLaws.{above, above-free, above-less, above-decimal, above-weight, above-level, free, allFree, Within, joined-length}
+use Rattle.sheet.specs.declared.Header.{Header}
+use Rattle.sheet.specs.declared.Channel.{Channel}
+use Rattle.sheet.specs.Lines.{count, factor, ownSide, headerRules, channelRules, blockRules, orElse, firstFault, lineLevels, lineTables, headerOf, channelOf}
+use Rattle.sheet.specs.Legal.{LegalHeader, LegalChannel, LegalQuantisers, LegalLevels}
+use Rattle.sheet.specs.Written.{headerFields, channelFields, blockFields, endFields}
+
+-- Good fields
+
+range-written : (k low high n : ℕ) → Between low high n → n ≤ 999999 → faultIn (fieldOf (rule.Range k low high) (decimal n)) ≡ none
+range-written k low high n b h = rw (← range-in (decimal n) (number.Is n) k low high n (sym (number-written n h)) refl (b .low) (b .top))
+
+side-written : (most n : ℕ) → LegalSide most n → n ≤ 999999 → faultIn (fieldOf (rule.Side most) (decimal n)) ≡ none
+side-written most n b h = rw (← side-in (decimal n) (number.Is n) most n (sym (number-written n h)) refl (b .whole) (b .low) (b .top))
+
+channels-written : (n : ℕ) → (n ≡ 1) ⊎ (n ≡ 3) → faultIn (fieldOf rule.Channels (decimal n)) ≡ none
+channels-written n (inl e) = rw (← channels-one (decimal n) (number.Is n) (sym (number-written n (omega arith))) n refl e)
+channels-written n (inr e) = rw (← channels-three (decimal n) (number.Is n) (sym (number-written n (omega arith))) n refl (λ q. omega arith) e)
+
+weight-field-written : (w : Weight) → LegalWeight w → faultIn (fieldOf rule.Weight (weightText w)) ≡ none
+weight-field-written w h = rw (← weight-is (weightText w) (weight-field.Is w) (sym (weight-written w h)) w refl)
+
+quantiser-written : (q : ℕ) → Between 1 255 q → fieldOf rule.Quantiser (decimal q) ≡ field.Quantiser q
+quantiser-written q b = sym (quantiser-in (decimal q) (number.Is q) (sym (number-written q (omega (arith, b .top)))) q refl (b .low) (b .top))
+
+level-field-written : (z : ℤ) → LegalLevel z → fieldOf rule.Level (levelText z) ≡ field.Level z
+unfolding fieldOf
+level-field-written z h = level-written z h
+
+tag-written : (t : ℕ) → faultIn (fieldOf (rule.Tag t) (t ∷ [])) ≡ none
+unfolding fieldOf
+tag-written t = rw (eq-eqb t t refl)
+
+mode-written : (j : Bool) → faultIn (fieldOf rule.Mode (cond j 106 115 ∷ [])) ≡ none
+unfolding fieldOf
+mode-written true = refl
+mode-written false = refl
+
+-- every field is good
+abbrev Goods : List Rule → List (List ℕ) → Type 0
+Goods [] fs = Unit {0}
+Goods (r ∷ rs) [] = Unit {0}
+Goods (r ∷ rs) (f ∷ fs) = (faultIn (fieldOf r f) ≡ none) × Goods rs fs
+
+goods : (rs : List Rule) (fs : List (List ℕ)) → Goods rs fs → firstFault rs fs ≡ none
+goods [] fs g = refl
+goods (r ∷ rs) [] g = refl
+goods (r ∷ rs) (f ∷ fs) g = rw (g .0) (goods rs fs (g .1))
+
+-- The header
+
+number-back : (n : ℕ) → n ≤ 999999 → numberValue (numberOf (decimal n)) ≡ n
+number-back n h = rw (number-written n h)
+
+weight-back : (w : Weight) → LegalWeight w → weightIn (weightOf (weightText w)) ≡ w
+weight-back w h = rw (weight-written w h)
+
+mode-back : (j : Bool) → letter 106 (cond j 106 115 ∷ []) ≡ j
+mode-back true = refl
+mode-back false = refl
+
+module _ (limit : ℕ) (most : limit ≤ 512) (h : Header) (l : LegalHeader limit h) where
+  wide : h .width ≤ 999999
+  wide = omega (arith, l .width .top)
+
+  high : h .height ≤ 999999
+  high = omega (arith, l .height .top)
+
+  few : h .channels ≤ 999999
+  few = by (l .channels)
+    where
+      by : (h .channels ≡ 1) ⊎ (h .channels ≡ 3) → h .channels ≤ 999999
+      by (inl e) = omega arith
+      by (inr e) = omega arith
+
+  pub header-good : firstFault (headerRules limit (headerFields h)) (headerFields h) ≡ none
+  unfolding numberAt
+  header-good =
+      goods (headerRules limit (headerFields h)) (headerFields h) (
+        tag-written 83,
+        (
+          side-written limit (h .width) (l .width) wide,
+          (
+            side-written limit (h .height) (l .height) high,
+            (
+              rw (number-back (h .width) wide) (range-written 2 1 (h .width) (h .«picture_width») (l .shown-width) (omega (arith, l .shown-width .top, wide))),
+              (
+                rw (number-back (h .height) high) (range-written 2 1 (h .height) (h .«picture_height») (l .shown-height) (omega (arith, l .shown-height .top, high))),
+                (
+                  channels-written (h .channels) (l .channels),
+                  (
+                    mode-written (h .joint),
+                    (
+                      count-written (h .iterations0) (l .iterations0),
+                      (
+                        count-written (h .iterations1) (l .iterations1),
+                        (
+                          count-written (h .iterations2) (l .iterations2),
+                          (
+                            weight-field-written (h .smoothing0) (l .smoothing0),
+                            (
+                              weight-field-written (h .smoothing1) (l .smoothing1),
+                              (
+                                weight-field-written (h .smoothing2) (l .smoothing2),
+                                (
+                                  weight-field-written (h .data0) (l .data0),
+                                  (
+                                    weight-field-written (h .data1) (l .data1),
+                                    (weight-field-written (h .data2) (l .data2), tt),
+                                  ),
+                                ),
+                              ),
+                            ),
+                          ),
+                        ),
+                      ),
+                    ),
+                  ),
+                ),
+              ),
+            ),
+          ),
+        ),
+      )
+    where
+      count-written : (n : ℕ) → n ≤ 1000 → faultIn (fieldOf count (decimal n)) ≡ none
+      count-written n k = range-written 2 0 1000 n (record { low = omega arith; top = k }) (omega arith)
+
+  pub header-back : headerOf (headerFields h) ≡ h
+  unfolding headerOf numberAt weightAt
+  header-back =
+      rw (
+        number-back (h .width) wide,
+        number-back (h .height) high,
+        number-back (h .«picture_width») (omega (arith, l .shown-width .top, wide)),
+        number-back (h .«picture_height») (omega (arith, l .shown-height .top, high)),
+        number-back (h .channels) few,
+        mode-back (h .joint),
+        number-back (h .iterations0) (omega (arith, l .iterations0)),
+        number-back (h .iterations1) (omega (arith, l .iterations1)),
+        number-back (h .iterations2) (omega (arith, l .iterations2)),
+        weight-back (h .smoothing0) (l .smoothing0),
+        weight-back (h .smoothing1) (l .smoothing1),
+        weight-back (h .smoothing2) (l .smoothing2),
+        weight-back (h .data0) (l .data0),
+        weight-back (h .data1) (l .data1),
+        weight-back (h .data2) (l .data2),
+      )
+
+-- Channels
+
+all-decimal : (qs : List ℕ) → LegalQuantisers qs → (firstFault (replicate (length qs) rule.Quantiser) (map decimal qs) ≡ none) × (lineTables (replicate (length qs) rule.Quantiser) (map decimal qs) ≡ qs)
+all-decimal [] l = (refl, refl)
+all-decimal (q ∷ qs) l =
+    let r = all-decimal qs (l .1) in
+    rw (quantiser-written q (l .0)) (r .0, ap (λ (x : List ℕ). q ∷ x) (r .1))
+
+all-level : (zs : List ℤ) → LegalLevels zs → (firstFault (replicate (length zs) rule.Level) (map levelText zs) ≡ none) × (lineLevels (replicate (length zs) rule.Level) (map levelText zs) ≡ zs)
+all-level [] l = (refl, refl)
+all-level (z ∷ zs) l =
+    let r = all-level zs (l .1) in
+    rw (level-field-written z (l .0)) (r .0, ap (λ (x : List ℤ). z ∷ x) (r .1))
+
+module _ (h : Header) (c : Channel) (l : LegalChannel h c) (qs : List ℕ) (n : length qs ≡ 64) (g : LegalQuantisers qs) where
+  pub channel-good : firstFault channelRules (channelFields c qs) ≡ none
+  channel-good =
+      rw (
+        tag-written 67,
+        side-written 999999 (c .width) (l .width) (l .width .top),
+        side-written 999999 (c .height) (l .height) (l .height .top),
+        range-written 3 1 4 (c .across) (l .across) (omega (arith, l .across .top)),
+        range-written 3 1 4 (c .down) (l .down) (omega (arith, l .down .top)),
+      )
+      (rw n at (all-decimal qs g .0))
+
+  pub channel-said : lineTables (replicate 64 rule.Quantiser) (map decimal qs) ≡ qs
+  channel-said = rw n at (all-decimal qs g .1)
+
+  pub channel-back : channelOf (channelFields c qs) ≡ c
+  unfolding channelOf numberAt
+  channel-back =
+      rw (number-back (c .width) (l .width .top), number-back (c .height) (l .height .top), number-back (c .across) (omega (arith, l .across .top)), number-back (c .down) (omega (arith, l .down .top)))
+
+-- Blocks and the end
+
+module _ (zs : List ℤ) (n : length zs ≡ 64) (g : LegalLevels zs) where
+  pub block-good : firstFault blockRules (blockFields zs) ≡ none
+  block-good = rw (tag-written 66) (rw n at (all-level zs g .0))
+
+  pub block-said : lineLevels (replicate 64 rule.Level) (map levelText zs) ≡ zs
+  block-said = rw n at (all-level zs g .1)
+
+pub end-good : firstFault (rule.Tag 69 ∷ []) endFields ≡ none
+end-good = rw (tag-written 69)
+
+-- No field has a tab or a line end
+
+abbrev Cleans : List (List ℕ) → Type 0
+Cleans [] = Unit {0}
+Cleans (f ∷ fs) = (above 45 f ≡ true) × Cleans fs
+
+cleans-free : (b : ℕ) → b < 45 → (fs : List (List ℕ)) → Cleans fs → allFree b fs ≡ true
+cleans-free b h [] c = refl
+cleans-free b h (f ∷ fs) c = rw (above-free 45 b f h (c .0)) (cleans-free b h fs (c .1))
+
+clean-decimal : (n : ℕ) → above 45 (decimal n) ≡ true
+clean-decimal n = above-less 45 48 (decimal n) (omega arith) (above-decimal n)
+
+clean-decimals : (qs : List ℕ) → Cleans (map decimal qs)
+clean-decimals [] = tt
+clean-decimals (q ∷ qs) = (clean-decimal q, clean-decimals qs)
+
+clean-levels : (zs : List ℤ) → Cleans (map levelText zs)
+clean-levels [] = tt
+clean-levels (z ∷ zs) = (above-level z, clean-levels zs)
+
+clean-mode : (j : Bool) → above 45 (cond j 106 115 ∷ []) ≡ true
+clean-mode true = refl
+clean-mode false = refl
+
+pub header-free : (b : ℕ) → b < 45 → (h : Header) → allFree b (headerFields h) ≡ true
+header-free b k h =
+    cleans-free b k (headerFields h) (
+      refl,
+      (
+        clean-decimal (h .width),
+        (
+          clean-decimal (h .height),
+          (
+            clean-decimal (h .«picture_width»),
+            (
+              clean-decimal (h .«picture_height»),
+              (
+                clean-decimal (h .channels),
+                (
+                  clean-mode (h .joint),
+                  (
+                    clean-decimal (h .iterations0),
+                    (
+                      clean-decimal (h .iterations1),
+                      (
+                        clean-decimal (h .iterations2),
+                        (above-weight (h .smoothing0), (above-weight (h .smoothing1), (above-weight (h .smoothing2), (above-weight (h .data0), (above-weight (h .data1), (above-weight (h .data2), tt)))))),
+                      ),
+                    ),
+                  ),
+                ),
+              ),
+            ),
+          ),
+        ),
+      ),
+    )
+
+pub channel-free : (b : ℕ) → b < 45 → (c : Channel) (qs : List ℕ) → allFree b (channelFields c qs) ≡ true
+channel-free b k c qs =
+    cleans-free b k (channelFields c qs)
+    (refl, (clean-decimal (c .width), (clean-decimal (c .height), (clean-decimal (c .across), (clean-decimal (c .down), clean-decimals qs)))))
+
+pub block-free : (b : ℕ) → b < 45 → (zs : List ℤ) → allFree b (blockFields zs) ≡ true
+block-free b k zs = cleans-free b k (blockFields zs) (refl, clean-levels zs)
+
+pub end-free : (b : ℕ) → b < 45 → allFree b endFields ≡ true
+end-free b k = cleans-free b k endFields (refl, tt)
+
+-- No row is over 1,024 bytes
+
+short-decimal : (n : ℕ) → n ≤ 999999 → length (decimal n) ≤ 6
+short-decimal n h = decimal-length 5 n (omega arith)
+
+all-short : (qs : List ℕ) → LegalQuantisers qs → Within (map decimal qs) (replicate (length qs) 6)
+all-short [] l = tt
+all-short (q ∷ qs) l = (short-decimal q (omega (arith, l .0 .top)), all-short qs (l .1))
+
+all-low : (zs : List ℤ) → LegalLevels zs → Within (map levelText zs) (replicate (length zs) 5)
+all-low [] l = tt
+all-low (z ∷ zs) l = (level-length z (l .0), all-low zs (l .1))
+
+pub header-short : (limit : ℕ) → limit ≤ 512 → (h : Header) → LegalHeader limit h → length (joined (headerFields h)) ≤ 1024
+header-short limit most h l =
+    let w = short-decimal (h .width) (wide limit most h l) in
+    let v = short-decimal (h .height) (high limit most h l) in
+    omega (
+      arith,
+      joined-length (headerFields h) (1 ∷ replicate 5 6 ++ 1 ∷ replicate 3 6 ++ replicate 6 9) (omega arith) (
+        omega arith,
+        (
+          w,
+          (
+            v,
+            (
+              short-decimal (h .«picture_width») (omega (arith, l .shown-width .top, wide limit most h l)),
+              (
+                short-decimal (h .«picture_height») (omega (arith, l .shown-height .top, high limit most h l)),
+                (
+                  short-decimal (h .channels) (few limit most h l),
+                  (
+                    omega arith,
+                    (
+                      short-decimal (h .iterations0) (omega (arith, l .iterations0)),
+                      (
+                        short-decimal (h .iterations1) (omega (arith, l .iterations1)),
+                        (
+                          short-decimal (h .iterations2) (omega (arith, l .iterations2)),
+                          (
+                            weight-length (h .smoothing0) (l .smoothing0),
+                            (
+                              weight-length (h .smoothing1) (l .smoothing1),
+                              (
+                                weight-length (h .smoothing2) (l .smoothing2),
+                                (weight-length (h .data0) (l .data0), (weight-length (h .data1) (l .data1), (weight-length (h .data2) (l .data2), tt))),
+                              ),
+                            ),
+                          ),
+                        ),
+                      ),
+                    ),
+                  ),
+                ),
+              ),
+            ),
+          ),
+        ),
+      ),
+    )
+
+pub channel-short : (h : Header) (c : Channel) → LegalChannel h c → (qs : List ℕ) → length qs ≡ 64 → LegalQuantisers qs → length (joined (channelFields c qs)) ≤ 1024
+channel-short h c l qs n g =
+    omega (
+      arith,
+      joined-length (channelFields c qs) (1 ∷ replicate 4 6 ++ replicate 64 6) (omega arith) (
+        omega arith,
+        (
+          short-decimal (c .width) (l .width .top),
+          (
+            short-decimal (c .height) (l .height .top),
+            (short-decimal (c .across) (omega (arith, l .across .top)), (short-decimal (c .down) (omega (arith, l .down .top)), rw n at (all-short qs g))),
+          ),
+        ),
+      ),
+    )
+
+pub block-short : (zs : List ℤ) → length zs ≡ 64 → LegalLevels zs → length (joined (blockFields zs)) ≤ 1024
+block-short zs n g = omega (arith, joined-length (blockFields zs) (1 ∷ replicate 64 5) (omega arith) (omega arith, rw n at (all-low zs g)))

@@ -1,0 +1,51 @@
+-- A sheet written as text: the text that reads as it, for every legal sheet (proofs/RoundTrip.antt).
+use Prim.Native.Nat.{ℕ, zero, suc, _*_, _/_}
+use mathlib.Core.List.{List, [], _∷_, _++_, map}
+use mathlib.Core.Bool.{Bool, cond}
+use lib.ListN.{take, drop}
+use lib.IntN.{ℤ}
+use Rattle.text.specs.Written.{decimal, weightText, levelText, joined, ended}
+use Rattle.sheet.specs.declared.Header.{Header}
+use Rattle.sheet.specs.declared.Channel.{Channel}
+use Rattle.sheet.specs.declared.Sheet.{Sheet}
+
+-- The fields of each line
+abbrev pub headerFields : Header → List (List ℕ)
+headerFields h =
+    (83 ∷ [])
+    ∷ decimal (h .width) ∷ decimal (h .height)
+    ∷ decimal (h .«picture_width») ∷ decimal (h .«picture_height»)
+    ∷ decimal (h .channels) ∷ (cond (h .joint) 106 115 ∷ [])
+    ∷ decimal (h .iterations0) ∷ decimal (h .iterations1) ∷ decimal (h .iterations2)
+    ∷ weightText (h .smoothing0) ∷ weightText (h .smoothing1) ∷ weightText (h .smoothing2)
+    ∷ weightText (h .data0) ∷ weightText (h .data1) ∷ weightText (h .data2)
+    ∷ []
+
+abbrev pub channelFields : Channel → List ℕ → List (List ℕ)
+channelFields c qs = (67 ∷ []) ∷ decimal (c .width) ∷ decimal (c .height) ∷ decimal (c .across) ∷ decimal (c .down) ∷ map decimal qs
+
+abbrev pub blockFields : List ℤ → List (List ℕ)
+blockFields zs = (66 ∷ []) ∷ map levelText zs
+
+abbrev pub endFields : List (List ℕ)
+endFields = (69 ∷ []) ∷ []
+
+-- n blocks, one after the other
+abbrev pub blockLines : ℕ → List ℤ → List (List ℕ)
+blockLines zero zs = []
+blockLines (suc n) zs = joined (blockFields (take 64 zs)) ∷ blockLines n (drop 64 zs)
+
+-- the channels with their tables and levels, one after the other
+abbrev pub channelLines : List Channel → List ℤ → List ℕ → List (List ℕ)
+channelLines [] ls ts = []
+channelLines (c ∷ cs) ls ts =
+    joined (channelFields c (take 64 ts))
+    ∷ (blockLines (c .width * c .height / 64) ls ++ channelLines cs (drop (c .width * c .height) ls) (drop 64 ts))
+
+-- the channels in use
+abbrev pub channelsOf : Sheet → List Channel
+channelsOf s = take (s .header .channels) (s .first ∷ s .second ∷ s .third ∷ [])
+
+unfoldable pub written : Sheet → List ℤ → List ℕ → List ℕ
+unfolding decimal weightText levelText
+written s ls ts = ended (joined (headerFields (s .header)) ∷ (channelLines (channelsOf s) ls ts ++ joined endFields ∷ []))
