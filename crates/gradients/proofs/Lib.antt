@@ -1,2 +1,4 @@
 -- Lemmas that the proofs of several functions use.
 pub mod Places
+pub mod Laws
+pub mod Examples

@@ -4,3 +4,4 @@ pub mod Coef
 pub mod Auxiliary
 pub mod DctGradient
 pub mod Projection
+pub mod Blown

@@ -140,3 +140,10 @@ projectMeans C W b =
 -- project_onto_box
 unfoldable pub projectOntoBox : Coef → ℕ → ℕ → Box → Box
 projectOntoBox C W H b = cond (resample (C .own) W H) (projectMeans C W b) (projectFull C b)
+
+-- the coefficients before they are clamped: what project transforms the own plane into
+unfoldable pub transformed : Coef → ℕ → ℕ → Box → List Float
+transformed C W H b =
+    let o = C .own in
+    let own = cond (resample o W H) (split o W (record { plane = b .plane; down = b .down }) .down) (b .plane) in
+    upto (onBlock dct8x8) (blockCount o) (toBlocks (o .width) (blockW o) (blockH o) own (b .across))

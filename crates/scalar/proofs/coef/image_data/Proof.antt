@@ -31,5 +31,5 @@ returns c =
 pub image-data-spec : {M : Type 1} → statement M
 image-data-spec =
     tie.close
-    (tie.spec Inv-loop μ-loop (λ c κs. search needs) (λ c κs. search needs) loop-holds (λ c κs. search needs)
-    (λ c. search needs) (λ c. search needs) loop-again (λ c. search needs) (λ c. search needs) returns)
+    (tie.spec Inv-loop μ-loop (λ c κs. search needs) (λ c κs. search needs) loop-holds (λ c κs. search needs) (λ c.
+    search needs) (λ c. search needs) loop-again (λ c. search needs) (λ c. search needs) returns)

@@ -29,5 +29,5 @@ returns c = upto-end _ _ _ _ (c .before .loop .inv .2) (omega arith)
 pub init-dct-target-spec : {M : Type 1} → statement M
 init-dct-target-spec =
     tie.close
-    (tie.spec Inv-loop μ-loop (λ c κs. search needs) loop-holds (λ c κs. search needs) (λ c. search needs)
-    (λ c. search needs) loop-again (λ c. search needs) returns)
+    (tie.spec Inv-loop μ-loop (λ c κs. search needs) loop-holds (λ c κs. search needs) (λ c. search needs) (λ c.
+    search needs) loop-again (λ c. search needs) returns)

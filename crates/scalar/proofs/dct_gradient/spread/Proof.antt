@@ -42,6 +42,6 @@ returns c = upto-end _ _ _ _ (c .before .loop .inv .2) (omega arith)
 pub spread-spec : {M : Type 1} → statement M
 spread-spec =
     tie.close
-    (tie.spec Inv-loop2 μ-loop2 Inv-loop μ-loop loop-holds loop2-holds (λ c κs. search needs) (λ c. search needs)
-    (λ c. search needs) (λ c κs. search needs) (λ c. search needs) (λ c. search needs) (λ c. search needs)
-    (λ c. search needs) loop2-again (λ c. search needs) (λ c. search needs) loop-again (λ c. search needs) returns)
+    (tie.spec Inv-loop2 μ-loop2 Inv-loop μ-loop loop-holds loop2-holds (λ c κs. search needs) (λ c. search needs) (λ
+    c. search needs) (λ c κs. search needs) (λ c. search needs) (λ c. search needs) (λ c. search needs) (λ c.
+    search needs) loop2-again (λ c. search needs) (λ c. search needs) loop-again (λ c. search needs) returns)

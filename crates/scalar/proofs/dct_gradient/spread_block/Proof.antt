@@ -42,7 +42,7 @@ returns c = upto-end _ _ _ _ (c .before .loop .inv .2) (omega arith)
 pub spread-block-spec : {M : Type 1} → statement M
 spread-block-spec =
     tie.close
-    (tie.spec Inv-loop2 μ-loop2 Inv-loop μ-loop loop-holds loop2-holds (λ c. search needs) (λ c. search needs)
-    (λ c. search needs) (λ c. search needs) (λ c. search needs) (λ c. search needs) (λ c. search needs)
-    (λ c. search needs) (λ c κs. search needs) (λ c. search needs) (λ c. search needs) loop2-again
-    (λ c. search needs) (λ c. search needs) loop-again (λ c. search needs) returns)
+    (tie.spec Inv-loop2 μ-loop2 Inv-loop μ-loop loop-holds loop2-holds (λ c. search needs) (λ c. search needs) (λ c.
+    search needs) (λ c. search needs) (λ c. search needs) (λ c. search needs) (λ c. search needs) (λ c. search
+    needs) (λ c κs. search needs) (λ c. search needs) (λ c. search needs) loop2-again (λ c. search needs) (λ c.
+    search needs) loop-again (λ c. search needs) returns)

@@ -29,5 +29,5 @@ returns c = rw (← c .before .before .before .before .before .before .block-cou
 pub clamped-spec : {M : Type 1} → statement M
 clamped-spec =
     tie.close
-    (tie.spec Inv-loop μ-loop (λ c κs. search needs) (λ c κs. search needs) loop-holds (λ c κs. search needs)
-    (λ c. search needs) (λ c. search needs) loop-again (λ c. search needs) returns)
+    (tie.spec Inv-loop μ-loop (λ c κs. search needs) (λ c κs. search needs) loop-holds (λ c κs. search needs) (λ c.
+    search needs) (λ c. search needs) loop-again (λ c. search needs) returns)

@@ -29,5 +29,5 @@ returns c = upto-end _ _ _ _ (c .before .loop .inv .2) (omega arith)
 pub keep-spec : {M : Type 1} → statement M
 keep-spec =
     tie.close
-    (tie.spec Inv-loop μ-loop loop-holds (λ c. search needs) (λ c. search needs) (λ c. search needs)
-    (λ c. search needs) (λ c. search needs) (λ c. search needs) loop-again (λ c. search needs) returns)
+    (tie.spec Inv-loop μ-loop loop-holds (λ c. search needs) (λ c. search needs) (λ c. search needs) (λ c. search
+    needs) (λ c. search needs) (λ c. search needs) loop-again (λ c. search needs) returns)

@@ -43,6 +43,6 @@ returns c = rw (c .places .ensures) (ap (λ (t : Float). t ⊘ float (c .before 
 pub mean-of-spec : {M : Type 1} → statement M
 mean-of-spec =
     tie.close
-    (tie.spec Inv-loop2 μ-loop2 Inv-loop μ-loop loop-holds loop2-holds (λ c κs. search needs) (λ c. search needs)
-    (λ c. search needs) (λ c. search needs) (λ c. search needs) loop2-again (λ c. search needs)
-    (λ c. search needs) loop-again (λ c κs. search needs) returns)
+    (tie.spec Inv-loop2 μ-loop2 Inv-loop μ-loop loop-holds loop2-holds (λ c κs. search needs) (λ c. search needs) (λ
+    c. search needs) (λ c. search needs) (λ c. search needs) loop2-again (λ c. search needs) (λ c. search needs)
+    loop-again (λ c κs. search needs) returns)

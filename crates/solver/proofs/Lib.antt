@@ -1,0 +1,2 @@
+-- Laws of the jobs, for demand 3, and the marked examples.
+pub mod Laws

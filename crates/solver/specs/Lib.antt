@@ -1,0 +1,2 @@
+-- What each job makes of the six buffers.
+pub mod Solver
