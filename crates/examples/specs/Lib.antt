@@ -1,0 +1,2 @@
+-- The rows that are proved together.
+pub mod Table

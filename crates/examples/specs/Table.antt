@@ -1,0 +1,70 @@
+-- The rows marked ● in document 01, "Fixed examples", about the definitions that the contracts cite. A value ±m × 2 ^ e is `fin s m e`.
+use mathlib.Core.Path.{_≡_}
+use Prim.Native.Nat.{ℕ, _*_}
+use mathlib.Core.Bool.{true, false}
+use mathlib.Core.List.{List, [], _∷_, _++_}
+use lib.ListN.{replicate}
+use lib.IntN.{pos, negsuc}
+use lib.Ieee.{Float, fin, binary32, toBits, neg, ofBits}
+use Rattle.float.specs.Ops.{mulAdd, fused, midpoint, root, clamp}
+use Rattle.float.specs.Names.{f0, f1, float}
+use Rattle.interval.specs.Interval.{lowest, highest}
+use Rattle.utils.specs.Dct.{idct8x8}
+use Rattle.steps.specs.Solve.{pushed}
+use Rattle.gradients.specs.Tv.{Terms, tvGradient}
+use Rattle.gradients.specs.Tgv.{tgvGradient}
+use Rattle.picture.specs.Finish.{pixel}
+
+-- 1 + 2⁻²³, 1 − 2⁻²³, the largest f32
+abbrev pub above-one : Float
+above-one = fin false 8388609 (negsuc 22)
+
+abbrev pub below-one : Float
+below-one = fin false 8388607 (negsuc 22)
+
+abbrev pub largest : Float
+largest = fin false 16777215 (pos 104)
+
+-- 8 by 8 values, row by row
+abbrev pub rows : (ℕ → Float) → List Float
+rows f =
+    replicate 8 (f 0) ++ (replicate 8 (f 1) ++ (replicate 8 (f 2) ++ (replicate 8 (f 3)
+    ++ (replicate 8 (f 4) ++ (replicate 8 (f 5) ++ (replicate 8 (f 6) ++ replicate 8 (f 7)))))))
+
+-- the first-order term of the plane whose values are 2 × row, one channel, onto zeros
+abbrev pub slope : Terms
+slope = tvGradient 8 8 1 (rows (λ y. float (y * 2))) (record { gradient = replicate 64 f0; across = replicate 64 f0; down = replicate 64 f0 })
+
+pub record Table : Type 0 where
+  -- "d 0, q 16: interval −8 to 8; 8 kept, 8.5 gives 8"
+  pub from-minus-8 : lowest (pos 0) 16 ≡ fin true 1 (pos 3)
+  pub to-8 : highest (pos 0) 16 ≡ fin false 1 (pos 3)
+  pub kept-8 : clamp (fin false 1 (pos 3)) (lowest (pos 0) 16) (highest (pos 0) 16) ≡ fin false 1 (pos 3)
+  pub moved-8½ : clamp (fin false 17 (negsuc 0)) (lowest (pos 0) 16) (highest (pos 0) 16) ≡ fin false 1 (pos 3)
+  -- "d −3, q 10: −35 to −25"
+  pub from-minus-35 : lowest (negsuc 2) 10 ≡ fin true 35 (pos 0)
+  pub to-minus-25 : highest (negsuc 2) 10 ≡ fin true 25 (pos 0)
+  -- "d 2,047, q 255: 521,857.5 to 522,112.5"
+  pub from-521857½ : lowest (pos 2047) 255 ≡ fin false 1043715 (negsuc 0)
+  pub to-522112½ : highest (pos 2047) 255 ≡ fin false 1044225 (negsuc 0)
+  -- "a = 1 + 2⁻²³, b = 1 − 2⁻²³, c = −1: fused −2⁻⁴⁶, `mul_add!` 0"
+  pub fused-once : fused above-one below-one (fin true 1 (pos 0)) ≡ fin true 1 (negsuc 45)
+  pub rounded-twice : mulAdd above-one below-one (fin true 1 (pos 0)) ≡ fin false 0 (pos 0)
+  -- "√2 has bits 3fb504f3; √4 is 2"
+  pub root-2 : toBits binary32 (root (fin false 1 (pos 1))) ≡ 0x3fb504f3
+  pub root-4 : root (fin false 1 (pos 2)) ≡ fin false 1 (pos 1)
+  -- "midpoint of 1 and 1 + 2⁻²³ is 1; of the largest f32 with itself, itself"
+  pub midpoint-tie : midpoint (fin false 1 (pos 0)) above-one ≡ fin false 1 (pos 0)
+  pub midpoint-largest : midpoint largest largest ≡ largest
+  -- "`idct8x8` of first value 8, rest 0: all 64 are v = 1 − 2⁻²⁴, not 1"
+  pub flat-block : idct8x8 (fin false 1 (pos 3) ∷ replicate 63 (fin false 0 (pos 0))) ≡ replicate 64 (fin false 16777215 (negsuc 23))
+  -- "factor 0.5, plane 3, prior 1: push gives 4 and 3"
+  pub push-gives : pushed (fin false 1 (negsuc 0)) (record { plane = float 3 ∷ []; prior = f1 ∷ [] }) ≡ record { plane = float 4 ∷ []; prior = float 3 ∷ [] }
+  -- "8 by 8 plane, each value 2 × row, one channel: first-order gradient −1 in row 0, 1 in row 7, else 0. Second order with second-order
+  -- weight 1 adds −1 in row 6, 2 in row 7"
+  pub first-order : slope .gradient ≡ replicate 8 (neg f1) ++ (replicate 48 f0 ++ replicate 8 f1)
+  pub second-order : tgvGradient 8 8 1 f1 (slope .across) (slope .down) (slope .gradient)
+      ≡ replicate 8 (neg f1) ++ (replicate 40 f0 ++ (replicate 8 (neg f1) ++ replicate 8 (float 3)))
+  -- "planes 0, 0, 100: 255, 56, 128. One channel 0.875: 128"
+  pub red-pixel : pixel 3 1 (f0 ∷ f0 ∷ ofBits binary32 0x42c80000 ∷ []) 0 ≡ 255 ∷ 56 ∷ 128 ∷ []
+  pub grey-pixel : pixel 1 1 (ofBits binary32 0x3f600000 ∷ []) 0 ≡ 128 ∷ 128 ∷ 128 ∷ []
