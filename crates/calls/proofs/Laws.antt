@@ -1,0 +1,40 @@
+-- What the proof of demand 3 uses of the jobs' arithmetic.
+use Prim.Native.Nat.{ℕ, _*_, _<_}
+use mathlib.Core.Path.{_≡_}
+use mathlib.Core.Bool.{false}
+use mathlib.Core.List.{List}
+use lib.ListN.{length, getD}
+use lib.Dec.{T}
+use lib.Ieee.{nan}
+use Rattle.calls.specs.Run.{Given, count, area, coefs, levelsBefore, sheetOk}
+use Rattle.scalar.specs.Buffers.{Buffers}
+use Rattle.calls.specs.Buffers.{channel, Sized}
+use Rattle.calls.specs.Jobs.{Job, push, fidelity, move, project, Jobs, bad}
+use Rattle.calls.specs.Calls.{all, levelOk, tableOk}
+use Rattle.calls.specs.Demand.{SavedIn}
+
+-- what start has seen of its input: a legal sheet, lengths, quantisers and levels
+pub record GivenOk (G : Given) : Type 0 where
+  pub sheet-ok : T (sheetOk (G .sheet))
+  pub levels-long : length (G .levels) ≡ levelsBefore (G .sheet) (count G)
+  pub tables-long : length (G .tables) ≡ count G * 64
+  pub tables-ok : T (all tableOk (G .tables))
+  pub levels-ok : T (all levelOk (G .levels))
+
+abbrev pub AllIn : Given → ℕ → Buffers → Type 0
+AllIn G c b = (k : ℕ) → k < coefs (G .sheet) c → SavedIn G c k b
+
+-- Lengths are kept. Saved coefficients are in their intervals at the start and stay there, but that project may leave some that are not finite.
+-- Each is of a G that start accepts and a channel c of it.
+pub record Laws (J : Jobs) : Type 0 where
+  pub start-sized : (G : Given) → GivenOk G → (c : ℕ) → c < count G → Sized (area G) (J .start G c)
+  pub start-in : (G : Given) → GivenOk G → (c : ℕ) → c < count G → AllIn G c (J .start G c)
+  pub work-sized : (j : Job) (G : Given) → GivenOk G → (c step : ℕ) → c < count G → (b : Buffers) → Sized (area G) b → Sized (area G) (J .work j G c step b)
+  pub push-in : (G : Given) → GivenOk G → (c step : ℕ) → c < count G → (b : Buffers) → Sized (area G) b → AllIn G c b → AllIn G c (J .work push G c step b)
+  pub fidelity-in : (G : Given) → GivenOk G → (c step : ℕ) → c < count G → (b : Buffers) → Sized (area G) b → AllIn G c b → AllIn G c (J .work fidelity G c step b)
+  pub move-in : (G : Given) → GivenOk G → (c step : ℕ) → c < count G → (b : Buffers) → Sized (area G) b → AllIn G c b → AllIn G c (J .work move G c step b)
+  pub project-in : (G : Given) → GivenOk G → (c step : ℕ) → c < count G → (b : Buffers) → Sized (area G) b → AllIn G c b
+      → (k : ℕ) → k < coefs (G .sheet) c → bad (getD (J .work project G c step b .saved) k nan) ≡ false → SavedIn G c k (J .work project G c step b)
+  pub blend-sized : (G : Given) → GivenOk G → (step : ℕ) (B : Buffers) → Sized (count G * area G) B → Sized (count G * area G) (J .blending G step B)
+  pub blend-in : (G : Given) → GivenOk G → (step c : ℕ) → c < count G → (B : Buffers) → Sized (count G * area G) B
+      → AllIn G c (channel (area G) c B) → AllIn G c (channel (area G) c (J .blending G step B))

@@ -1,0 +1,200 @@
+-- An accepted call keeps the record legal.
+use mathlib.Core.Path.{_≡_, refl, sym, ap, _∙_, subst}
+use mathlib.Core.Logic.{_≢_}
+use Prim.Native.Nat.{ℕ, zero, suc, _+_, _*_, _/_, _%_, _≤_, _<_}
+use native.Mathlib.Omega.{arith}
+use native.Mathlib.Decide.{ℕ-discrete}
+use mathlib.Core.Bool.{Bool, true, false, not, _&&_, _||_}
+use mathlib.Core.List.{List, map}
+use lib.Dec.{T, leb, ltb, eqb, leb→le, le→leb, ltb→lt, lt→ltb, eqb→eq}
+use lib.Ieee.Fits.{and-l, and-r, and-i, eq→eqb}
+use lib.ListN.{length, getD, set, length-set, length-map}
+use lib.Seq.{getD-set-same, getD-set-other}
+use borrow.Author.Tests.{eqb-false}
+use Rattle.calls.specs.Run.{Sheet, Place, fresh, place, every, among, blendsIn, placeOk, placesOk}
+use Rattle.calls.specs.Jobs.{Job, push, fidelity, move, project, Call, on, blend, turn, blendTurn}
+use Rattle.calls.specs.Calls.{first, turnTests, advance, blended}
+use Rattle.calls.proofs.Tests.{never, not-is, or-r, or-i, every-at, every-of, none-at, getD-map-lt, passed-of, turn-numbered}
+
+-- ---- what an accepted call has passed
+
+-- channel c is not marked and not at its end, and its next job has the place j in its step
+pub record Ready (S : Sheet) (ps : List Place) (j c : ℕ) : Type 0 where
+  pub unmarked : place ps c .mark ≡ false
+  pub unfinished : place ps c .position ≡ 5 * S .N → ⊥
+  pub next : place ps c .position % 5 ≡ j
+
+pub ready-of : (S : Sheet) (ps : List Place) (j : Job) (c : ℕ) → first (turnTests S ps (on j c)) ≡ 0 → (c < S .count) × Ready S ps (turn j) c
+ready-of S ps j c e =
+    let h = passed-of (turnTests S ps (on j c)) (turn-numbered S ps (on j c)) e in (
+      ltb→lt c (S .count) (not-is (ltb c (S .count)) (h .0)),
+      record {
+        unmarked = h .1 .0;
+        unfinished = eqb-false (place ps c .position) (5 * S .N) (h .1 .1 .0);
+        next = eqb→eq (place ps c .position % 5) (turn j) (not-is (eqb (place ps c .position % 5) (turn j)) (h .1 .1 .1 .0));
+      },
+    )
+
+-- blend: every channel is
+pub blend-ready-of : (S : Sheet) (ps : List Place) → first (turnTests S ps blend) ≡ 0 → (c : ℕ) → c < S .count → Ready S ps blendTurn c
+blend-ready-of S ps e c h =
+    let t = passed-of (turnTests S ps blend) (turn-numbered S ps blend) e in
+    let due : ℕ → Bool = λ c. eqb (place ps c .position % 5) blendTurn in
+    record {
+      unmarked = none-at (S .count) (λ c. place ps c .mark) (t .0) c h;
+      unfinished = eqb-false (place ps c .position) (5 * S .N) (none-at (S .count) (λ c. eqb (place ps c .position) (5 * S .N)) (t .1 .0) c h);
+      next = eqb→eq (place ps c .position % 5) blendTurn (every-at (S .count) due (not-is (every (S .count) due) (t .1 .1 .0)) c h);
+    }
+
+-- ---- legal places, as facts
+
+pub record PlaceIs (S : Sheet) (p : Place) : Type 0 where
+  pub within : p .position ≤ 5 * S .N
+  pub marked : p .mark ≡ true → (0 < p .position) × (p .position % 5 ≡ 0)
+
+pub record PlacesAre (S : Sheet) (ps : List Place) : Type 0 where
+  pub long : length ps ≡ S .count
+  pub each : (c : ℕ) → c < S .count → PlaceIs S (place ps c)
+  pub equal : (c : ℕ) → c < S .count → blendsIn (place ps c .position) ≡ blendsIn (place ps 0 .position)
+
+place-is : (S : Sheet) (p : Place) → T (placeOk S p) → PlaceIs S p
+unfolding placeOk
+place-is S p t =
+    let rule : Bool = ltb 0 (p .position) && eqb (p .position % 5) 0 in
+    let within : Bool = leb (p .position) (5 * S .N) in
+    let both : p .mark ≡ true → T rule = or-r (p .mark) rule (and-r within (not (p .mark) || rule) t) in
+    record {
+      within = leb→le (p .position) (5 * S .N) (and-l within (not (p .mark) || rule) t);
+      marked =
+          λ e. (
+            ltb→lt 0 (p .position) (and-l (ltb 0 (p .position)) (eqb (p .position % 5) 0) (both e)),
+            eqb→eq (p .position % 5) 0 (and-r (ltb 0 (p .position)) (eqb (p .position % 5) 0) (both e)),
+          );
+    }
+
+place-ok : (S : Sheet) (p : Place) → PlaceIs S p → T (placeOk S p)
+unfolding placeOk
+place-ok S p h =
+    let rule : Bool = ltb 0 (p .position) && eqb (p .position % 5) 0 in
+    and-i (leb (p .position) (5 * S .N)) (not (p .mark) || rule) (le→leb (p .position) (5 * S .N) (h .within))
+    (or-i (p .mark) rule
+    (λ e. and-i (ltb 0 (p .position)) (eqb (p .position % 5) 0) (lt→ltb 0 (p .position) (h .marked e .0)) (eq→eqb (h .marked e .1))))
+
+module _ (S : Sheet) (ps : List Place) where
+  abbrev long-test : Bool
+  long-test = eqb (length ps) (S .count)
+
+  abbrev each-test : Bool
+  each-test = every (S .count) (λ c. placeOk S (place ps c))
+
+  abbrev has : ℕ → Bool
+  has c = eqb (blendsIn (place ps c .position)) (blendsIn (place ps 0 .position))
+
+  pub places-are : T (placesOk S ps) → PlacesAre S ps
+  unfolding placesOk
+  places-are t =
+      let first-two = and-l (long-test && each-test) (every (S .count) has) t in
+      record {
+        long = eqb→eq (length ps) (S .count) (and-l long-test each-test first-two);
+        each = λ c h. place-is S (place ps c) (every-at (S .count) (λ c. placeOk S (place ps c)) (and-r long-test each-test first-two) c h);
+        equal = λ c h. eqb→eq _ _ (every-at (S .count) has (and-r (long-test && each-test) (every (S .count) has) t) c h);
+      }
+
+  pub places-ok : PlacesAre S ps → T (placesOk S ps)
+  unfolding placesOk
+  places-ok h =
+      and-i (long-test && each-test) (every (S .count) has)
+      (and-i long-test each-test (eq→eqb (h .long)) (every-of (S .count) (λ c. placeOk S (place ps c)) (λ c p. place-ok S (place ps c) (h .each c p))))
+      (every-of (S .count) has (λ c p. eq→eqb (h .equal c p)))
+
+-- ---- an accepted job of one channel
+
+same-blends : (j : Job) (p : ℕ) → p % 5 ≡ turn j → blendsIn (suc p) ≡ blendsIn p
+same-blends push p e = omega arith
+same-blends fidelity p e = omega arith
+same-blends move p e = omega arith
+same-blends project p e = omega arith
+
+pub advance-position : (j : Job) (bad : Bool) (p : Place) → advance j bad p .position ≡ suc (p .position)
+advance-position push bad p = refl
+advance-position fidelity bad p = refl
+advance-position move bad p = refl
+advance-position project bad p = refl
+
+advance-is : (S : Sheet) (j : Job) (bad : Bool) (p : Place) → PlaceIs S p → p .mark ≡ false → (p .position ≡ 5 * S .N → ⊥) → p .position % 5 ≡ turn j
+    → PlaceIs S (advance j bad p)
+advance-is S push bad p h m f t = record { within = omega (arith, h .within); marked = λ e. never (p .mark) m e }
+advance-is S fidelity bad p h m f t = record { within = omega (arith, h .within); marked = λ e. never (p .mark) m e }
+advance-is S move bad p h m f t = record { within = omega (arith, h .within); marked = λ e. never (p .mark) m e }
+advance-is S project bad p h m f t = record { within = omega (arith, h .within); marked = λ e. omega arith }
+
+-- places after a store at channel c
+module _ (ps : List Place) (c : ℕ) (p : Place) where
+  pub place-here : c < length ps → place (set ps c p) c ≡ p
+  place-here h = getD-set-same ps c p fresh h
+
+  pub place-elsewhere : (d : ℕ) → c ≢ d → place (set ps c p) d ≡ place ps d
+  place-elsewhere d f = getD-set-other ps c d p fresh (λ e. f (sym e))
+
+module _ (S : Sheet) (ps : List Place) (j : Job) (c : ℕ) (bad : Bool) (is : PlacesAre S ps) (below : c < S .count) (r : Ready S ps (turn j) c) where
+  p : Place
+  p = advance j bad (place ps c)
+
+  in-list : c < length ps
+  in-list = omega (arith, is .long)
+
+  -- no job but blend changes how many blends a channel has had
+  kept : (d : ℕ) → blendsIn (place (set ps c p) d .position) ≡ blendsIn (place ps d .position)
+  unfolding p
+  kept d =
+      elim (ℕ-discrete c d) [
+        | yes e ↦
+            subst (λ (i : ℕ). blendsIn (place (set ps c p) i .position) ≡ blendsIn (place ps i .position)) e
+            (ap (λ (q : Place). blendsIn (q .position)) (place-here ps c p in-list)
+            ∙ ap blendsIn (advance-position j bad (place ps c))
+            ∙ same-blends j (place ps c .position) (r .next))
+        | no f ↦ ap (λ (q : Place). blendsIn (q .position)) (place-elsewhere ps c p d f)
+      ]
+
+  each-is : (d : ℕ) → d < S .count → PlaceIs S (place (set ps c p) d)
+  unfolding p
+  each-is d h =
+      elim (ℕ-discrete c d) [
+        | yes e ↦
+            subst (λ (i : ℕ). PlaceIs S (place (set ps c p) i)) e
+            (subst (PlaceIs S) (sym (place-here ps c p in-list))
+            (advance-is S j bad (place ps c) (is .each c below) (r .unmarked) (r .unfinished) (r .next)))
+        | no f ↦ subst (PlaceIs S) (sym (place-elsewhere ps c p d f)) (is .each d h)
+      ]
+
+  pub job-legal : PlacesAre S (set ps c (advance j bad (place ps c)))
+  unfolding p
+  job-legal =
+      record {
+        long = length-set ps c p ∙ is .long;
+        each = each-is;
+        equal = λ d h. kept d ∙ is .equal d h ∙ sym (kept 0);
+      }
+
+-- ---- an accepted blend: all positions are equal, and stay so
+
+module _ (S : Sheet) (ps : List Place) (is : PlacesAre S ps) (r : (c : ℕ) → c < S .count → Ready S ps blendTurn c) where
+  pub blend-same : (c : ℕ) → c < S .count → place ps c .position ≡ place ps 0 .position
+  blend-same c h = omega (arith, is .equal c h, r c h .next, r 0 (omega arith) .next)
+
+  pub place-blended : (c : ℕ) → c < S .count → place (map blended ps) c ≡ blended (place ps c)
+  place-blended c h = getD-map-lt blended ps fresh fresh c (omega (arith, is .long))
+
+  blended-is : (c : ℕ) → c < S .count → PlaceIs S (blended (place ps c))
+  blended-is c h = record { within = omega (arith, is .each c h .within, r c h .unfinished); marked = λ e. never (place ps c .mark) (r c h .unmarked) e }
+
+  blended-position : (c : ℕ) → c < S .count → place (map blended ps) c .position ≡ suc (place ps 0 .position)
+  blended-position c h = ap (λ (q : Place). q .position) (place-blended c h) ∙ ap suc (blend-same c h)
+
+  pub blend-legal : PlacesAre S (map blended ps)
+  blend-legal =
+      record {
+        long = length-map ps blended ∙ is .long;
+        each = λ c h. subst (PlaceIs S) (sym (place-blended c h)) (blended-is c h);
+        equal = λ c h. ap blendsIn (blended-position c h ∙ sym (blended-position 0 (omega arith)));
+      }

@@ -1,0 +1,10 @@
+-- The laws of the model; `Runs.demand3` is the theorem.
+pub mod Laws
+pub mod Parts
+pub mod Tests
+pub mod Legal
+pub mod Facts
+pub mod Step
+pub mod Runs
+pub mod Saved
+pub mod Still

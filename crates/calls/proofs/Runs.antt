@@ -1,0 +1,151 @@
+-- Demand 3: every list of calls from a fresh run.
+use mathlib.Core.Path.{_≡_, refl, sym, ap, _∙_, subst}
+use Prim.Native.Nat.{ℕ, zero, suc, _+_, _*_, _/_, _%_, _≤_, _<_}
+use native.Mathlib.Omega.{arith}
+use mathlib.Core.Bool.{Bool, true, false, not, _&&_, _||_}
+use mathlib.Core.List.{List, [], _∷_, _++_, map}
+use lib.Dec.{T, eqb, eqb→eq, leb}
+use lib.Ieee.Fits.{and-l, and-r, and-i, eq→eqb}
+use lib.ListN.{length, getD, replicate, length-replicate, getD-replicate}
+use Rattle.calls.specs.Run.{Sheet, Place, Given, fresh, place, count, area, levelsBefore, blendsIn, sheetOk, placesOk, legal}
+use Rattle.scalar.specs.Buffers.{Buffers}
+use Rattle.calls.specs.Buffers.{channel, joined, Sized}
+use Rattle.calls.specs.Jobs.{Call, Jobs, fixed}
+use Rattle.calls.specs.Calls.{Answer, refused, done, State, Outcome, first, lendTests, allSix, all, levelOk, tableOk, buffersLong, valuesLong, lengths, startRefusal, settle, call, begin, start, answers, final, noneYet, plain, plainAnswers, plainPlaces}
+use Rattle.calls.specs.Demand.{Demand3}
+use Rattle.calls.proofs.Laws.{GivenOk, AllIn, Laws}
+use Rattle.calls.proofs.Parts.{joined-sized, channel-joined, joined-channels}
+use Rattle.calls.proofs.Tests.{never, not-is, Passed, passed-of, lend-numbered}
+use Rattle.calls.proofs.Legal.{PlaceIs, PlacesAre, places-are}
+use Rattle.calls.proofs.Step.{Inv, Good, call-good}
+
+-- ---- a list of calls
+
+module _ (J : Jobs) (laws : Laws J) (G : Given) (ok : GivenOk G) where
+  -- of the whole list: the plain run's answers and places, and the invariant at the end
+  record All (xs : List Call) (s : State) : Type 0 where
+    same-answers : answers J G xs s ≡ plainAnswers J G xs (s .places)
+    same-places : final J G xs s .places ≡ plainPlaces J G xs (s .places)
+    last : Inv J G (final J G xs s)
+
+  list-good : (xs : List Call) (s : State) → Inv J G s → All xs s
+  unfolding answers final plainAnswers plainPlaces
+  list-good [] s inv = record { same-answers = refl; same-places = refl; last = inv }
+  list-good (x ∷ xs) s inv =
+      let g = call-good J laws G ok s inv x in
+      let r = list-good xs (call J G x s .after) (g .again) in
+      record {
+        same-answers = λ i. ∷-path (g .same-answer) (r .same-answers ∙ ap (plainAnswers J G xs) (g .same-places)) i;
+        same-places = r .same-places ∙ ap (plainPlaces J G xs) (g .same-places);
+        last = r .last;
+      }
+    where
+      ∷-path : {a b : Answer} {xs ys : List Answer} → a ≡ b → xs ≡ ys → (a ∷ xs) ≡ (b ∷ ys)
+      ∷-path p q i = p i ∷ q i
+
+-- ---- start
+
+map-fresh : (ps : List Place) → map (λ p. fresh) ps ≡ replicate (length ps) fresh
+map-fresh [] = refl
+map-fresh (p ∷ ps) = ap (λ (l : List Place). fresh ∷ l) (map-fresh ps)
+
+-- an accepted start has passed its four tests
+module _ (J : Jobs) (G : Given) (s : State) where
+  accepted : start J G s .answer ≡ done → first (lendTests G (s .places) (lengths allSix (s .buffers)) true) ≡ 0
+  unfolding start startRefusal
+  accepted = go (first (lendTests G (s .places) (lengths allSix (s .buffers)) true))
+    where
+      go : (r : ℕ) → settle r s (begin J G s) .answer ≡ done → r ≡ 0
+      go zero e = refl
+      go (suc r) e = let z : _≡_ {A = ℕ} 0 1 = cc in absurd (omega arith)
+
+  module _ (e : start J G s .answer ≡ done) where
+    tests-passed : Passed (lendTests G (s .places) (lengths allSix (s .buffers)) true)
+    tests-passed =
+        passed-of (lendTests G (s .places) (lengths allSix (s .buffers)) true) (lend-numbered G (s .places) (lengths allSix (s .buffers)) true) (accepted e)
+
+    long : T (valuesLong G)
+    long =
+        and-r (buffersLong G (lengths allSix (s .buffers))) (valuesLong G)
+        (not-is (buffersLong G (lengths allSix (s .buffers)) && valuesLong G) (tests-passed .1 .0))
+
+    is-legal : T (legal (G .sheet) (s .places))
+    is-legal = not-is (legal (G .sheet) (s .places)) (tests-passed .0)
+
+    pub given-ok : GivenOk G
+    given-ok =
+        record {
+          sheet-ok = and-l (sheetOk (G .sheet)) (placesOk (G .sheet) (s .places)) is-legal;
+          levels-long = eqb→eq _ _ (and-l (eqb (length (G .levels)) (levelsBefore (G .sheet) (count G))) (eqb (length (G .tables)) (count G * 64)) long);
+          tables-long = eqb→eq _ _ (and-r (eqb (length (G .levels)) (levelsBefore (G .sheet) (count G))) (eqb (length (G .tables)) (count G * 64)) long);
+          tables-ok = not-is (all tableOk (G .tables)) (tests-passed .1 .1 .0);
+          levels-ok = not-is (all levelOk (G .levels)) (tests-passed .1 .1 .1 .0);
+        }
+
+    -- all places are fresh, and there is one for each channel
+    fresh-places : map (λ p. fresh) (s .places) ≡ noneYet G
+    fresh-places =
+        map-fresh (s .places)
+        ∙ ap (λ (k : ℕ). replicate k fresh) (places-are (G .sheet) (s .places) (and-r (sheetOk (G .sheet)) (placesOk (G .sheet) (s .places)) is-legal) .long)
+
+    -- the state that start leaves
+    s₀ : State
+    s₀ = record { places = noneYet G; buffers = joined (count G) (J .start G) }
+
+    started : start J G s .after ≡ s₀
+    unfolding start startRefusal s₀
+    started =
+        ap (λ (r : ℕ). settle r s (begin J G s) .after) (accepted e)
+        ∙ ap (λ (ps : List Place). record { places = ps; buffers = joined (count G) (J .start G) }) fresh-places
+
+    at-fresh : (c : ℕ) → c < count G → place (noneYet G) c ≡ fresh
+    at-fresh c h = getD-replicate (count G) c fresh fresh h
+
+    fresh-is : PlaceIs (G .sheet) fresh
+    fresh-is = record { within = omega arith; marked = λ m. never false refl m }
+
+    fresh-are : PlacesAre (G .sheet) (noneYet G)
+    fresh-are =
+        record {
+          long = length-replicate (count G) fresh;
+          each = λ c h. subst (PlaceIs (G .sheet)) (sym (at-fresh c h)) fresh-is;
+          equal = λ c h. ap (λ (p : Place). blendsIn (p .position)) (at-fresh c h ∙ sym (at-fresh 0 (omega arith)));
+        }
+
+    module _ (laws : Laws J) where
+      start-good : Inv J G s₀
+      unfolding s₀ fixed
+      start-good =
+          let sizes : (c : ℕ) → c < count G → Sized (area G) (J .start G c) = laws .start-sized G given-ok in
+          let parts : (c : ℕ) → c < count G → channel (area G) c (joined (count G) (J .start G)) ≡ J .start G c = channel-joined (area G) (count G) (J .start G) sizes in
+          record {
+            legal-places = fresh-are;
+            sized = joined-sized (area G) (count G) (J .start G) sizes;
+            as-fixed = λ c h. parts c h ∙ ap (λ (p : Place). fixed J G (p .position) c) (sym (at-fresh c h));
+            inside = λ c h m. subst (AllIn G c) (sym (parts c h)) (laws .start-in G given-ok c h);
+            marked = λ c h m. never false refl (ap (λ (p : Place). p .mark) (sym (at-fresh c h)) ∙ m);
+          }
+
+      from-start : (xs : List Call) → Demand3 J G xs s₀
+      unfolding s₀
+      from-start xs =
+          let r = list-good J laws G given-ok xs s₀ start-good in
+          record {
+            same-answers = r .same-answers;
+            same-places = r .same-places;
+            as-fixed =
+                sym
+                (joined-channels (area G) (count G) (λ c. fixed J G (place (plainPlaces J G xs (noneYet G)) c .position) c) (final J G xs s₀ .buffers)
+                (r .last .sized)
+                (λ c h. r .last .as-fixed c h ∙ ap (λ (ps : List Place). fixed J G (place ps c .position) c) (r .same-places)));
+            in-interval = λ c h m. r .last .inside c h (ap (λ (ps : List Place). place ps c .mark) (r .same-places) ∙ m);
+          }
+
+-- What holds between the calls holds after every list of them; for functions that make many calls.
+pub between : (J : Jobs) → Laws J → (G : Given) (s : State) → start J G s .answer ≡ done → (xs : List Call) → Inv J G (final J G xs (start J G s .after))
+between J laws G s e xs =
+    subst (λ (t : State). Inv J G (final J G xs t)) (sym (started J G s e)) (list-good J laws G (given-ok J G s e) xs (s₀ J G s e) (start-good J G s e laws) .last)
+
+-- Demand 3: for every record, levels, tables and lent buffers that start accepts, and every list of calls after it.
+pub demand3 : (J : Jobs) → Laws J → (G : Given) (s : State) → start J G s .answer ≡ done → (xs : List Call) → Demand3 J G xs (start J G s .after)
+demand3 J laws G s e xs = subst (Demand3 J G xs) (sym (started J G s e)) (from-start J G s e laws xs)

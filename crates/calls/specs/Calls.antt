@@ -1,0 +1,212 @@
+-- What each public call does to the run's record and the lent buffers, refusals included; and the plain run (document 01, "Sheet records", "Jobs and positions").
+use Prim.Native.Nat.{ℕ, zero, suc, _*_, _/_, _%_}
+use mathlib.Core.Bool.{Bool, true, false, not, _&&_, _||_, cond}
+use mathlib.Core.List.{List, [], _∷_, _++_, map}
+use lib.ListN.{length, set, replicate}
+use lib.Dec.{leb, ltb, eqb}
+use lib.IntN.{ℤ, natAbs}
+use Rattle.calls.specs.Run.{Sheet, Place, Given, fresh, place, count, area, levelsBefore, every, among, legal}
+use Rattle.scalar.specs.Buffers.{Buffers}
+use Rattle.calls.specs.Buffers.{Name, Plane, Prior, Gradient, Across, Down, Saved, get, channel, putChannel, joined}
+use Rattle.calls.specs.Jobs.{Job, push, fidelity, move, project, Call, on, blend, turn, blendTurn, Jobs, fixed, isBlown}
+
+-- a call's answer: the refusal's number in the table; accepted; accepted, and the channel is now marked blown
+pub data Answer : Type 0 where
+  refused : ℕ → Answer
+  done : Answer
+  blown : Answer
+
+-- what the calls hand on: the record's places and the lent buffers
+pub record State : Type 0 where
+  pub places : List Place
+  pub buffers : Buffers
+
+pub record Outcome : Type 0 where
+  pub answer : Answer
+  pub after : State
+
+-- ---- refusals: numbers of the table with their tests, in the order of the tests
+
+abbrev pub Tests : Type 0
+Tests = List (ℕ × Bool)
+
+-- the number of the first test that is true; 0 if none is
+abbrev pub first : Tests → ℕ
+first [] = 0
+first (t ∷ ts) = cond (t .1) (t .0) (first ts)
+
+-- 12, 10, 11, 9: by positions and marks alone; "blend names no channel"
+abbrev pub turnTests : Sheet → List Place → Call → Tests
+turnTests S ps (on j c) =
+    (12, not (ltb c (S .count)))
+    ∷ (10, place ps c .mark)
+    ∷ (11, eqb (place ps c .position) (5 * S .N))
+    ∷ (9, not (eqb (place ps c .position % 5) (turn j)))
+    ∷ []
+turnTests S ps blend =
+    (10, among (S .count) (λ c. place ps c .mark))
+    ∷ (11, among (S .count) (λ c. eqb (place ps c .position) (5 * S .N)))
+    ∷ (9, not (every (S .count) (λ c. eqb (place ps c .position % 5) blendTurn)))
+    ∷ []
+
+-- "A call is lent whole the buffers that it reads or writes. Start, data and project are lent levels and tables."
+abbrev pub lent : Call → List Name
+lent (on push c) = Plane ∷ Prior ∷ []
+lent (on fidelity c) = Gradient ∷ Saved ∷ []
+lent (on move c) = Plane ∷ Gradient ∷ []
+lent (on project c) = Plane ∷ Across ∷ Down ∷ Saved ∷ []
+lent blend = Plane ∷ Gradient ∷ Across ∷ Down ∷ []
+
+abbrev pub allSix : List Name
+allSix = Plane ∷ Prior ∷ Gradient ∷ Across ∷ Down ∷ Saved ∷ []
+
+abbrev pub lentLevels : Call → Bool
+lentLevels (on push c) = false
+lentLevels (on fidelity c) = true
+lentLevels (on move c) = false
+lentLevels (on project c) = true
+lentLevels blend = false
+
+-- lengths of the buffers of these names
+abbrev pub lengths : List Name → Buffers → List ℕ
+lengths names B = map (λ b. length (get b B)) names
+
+module _ {A : Type 0} where
+  abbrev pub all : (A → Bool) → List A → Bool
+  all f [] = true
+  all f (x ∷ xs) = f x && all f xs
+
+-- "level beyond ±2,047" is 5, "quantiser not 1 to 255" is 4
+abbrev pub levelOk : ℤ → Bool
+levelOk d = leb (natAbs d) 2047
+
+abbrev pub tableOk : ℕ → Bool
+tableOk q = leb 1 q && leb q 255
+
+-- "Each lent buffer has (channels of the run) × W × H values", levels w × h and tables 64 a channel
+abbrev pub buffersLong : Given → List ℕ → Bool
+buffersLong G ls = all (λ n. eqb n (count G * area G)) ls
+
+abbrev pub valuesLong : Given → Bool
+valuesLong G = eqb (length (G .levels)) (levelsBefore (G .sheet) (count G)) && eqb (length (G .tables)) (count G * 64)
+
+-- 13, 8, 4, 5: by the record and what is lent, the buffers' lengths being ls; 4 and 5 "look at all of them"
+abbrev pub lendTests : Given → List Place → List ℕ → Bool → Tests
+lendTests G ps ls levels =
+    (13, not (legal (G .sheet) ps))
+    ∷ (8, not (buffersLong G ls && (not levels || valuesLong G)))
+    ∷ (4, levels && not (all tableOk (G .tables)))
+    ∷ (5, levels && not (all levelOk (G .levels)))
+    ∷ []
+
+-- "Calls check 13, 8, 4, 5, 12, 10, 11, 9, each where it applies": the refusal's number, 0 for none
+unfoldable pub refusal : Given → List Place → Call → List ℕ → ℕ
+refusal G ps x ls = first (lendTests G ps ls (lentLevels x) ++ turnTests (G .sheet) ps x)
+
+unfoldable pub startRefusal : Given → List Place → List ℕ → ℕ
+startRefusal G ps ls = first (lendTests G ps ls true)
+
+-- ---- an accepted call
+
+-- A channel's place after a job: "its position advances", and project marks the channel "if then any plane value or saved coefficient is NaN or infinite".
+abbrev pub advance : Job → Bool → Place → Place
+advance push bad p = record { position = suc (p .position); mark = p .mark }
+advance fidelity bad p = record { position = suc (p .position); mark = p .mark }
+advance move bad p = record { position = suc (p .position); mark = p .mark }
+advance project bad p = record { position = suc (p .position); mark = bad }
+
+abbrev pub blended : Place → Place
+blended p = record { position = suc (p .position); mark = p .mark }
+
+-- "The call is accepted and says so"
+abbrev pub reply : Job → Bool → Answer
+reply push bad = done
+reply fidelity bad = done
+reply move bad = done
+reply project bad = cond bad blown done
+
+-- channel c's buffers after its job; the step is the position's fifth
+abbrev pub worked : Jobs → Given → Job → ℕ → State → Buffers
+worked J G j c s = J .work j G c (place (s .places) c .position / 5) (channel (area G) c (s .buffers))
+
+abbrev pub accept : Jobs → Given → Call → State → Outcome
+accept J G (on j c) s =
+    let x = worked J G j c s in
+    let bad = isBlown G c x in
+    record {
+      answer = reply j bad;
+      after = record {
+        places = set (s .places) c (advance j bad (place (s .places) c));
+        buffers = putChannel (area G) c (s .buffers) x;
+      };
+    }
+accept J G blend s =
+    record {
+      answer = done;
+      after = record {
+        places = map blended (s .places);
+        buffers = J .blending G (place (s .places) 0 .position / 5) (s .buffers);
+      };
+    }
+
+-- a refusal leaves "lent buffers and any record unchanged"
+abbrev pub settle : ℕ → State → Outcome → Outcome
+settle zero s o = o
+settle (suc r) s o = record { answer = refused (suc r); after = s }
+
+-- a call of push, data, blend, move or project
+unfoldable pub call : Jobs → Given → Call → State → Outcome
+call J G x s = settle (refusal G (s .places) x (lengths (lent x) (s .buffers))) s (accept J G x s)
+
+-- start "sets positions to 0 and clears marks: that is a fresh run"
+abbrev pub begin : Jobs → Given → State → Outcome
+begin J G s =
+    record {
+      answer = done;
+      after = record { places = map (λ p. fresh) (s .places); buffers = joined (count G) (J .start G) };
+    }
+
+unfoldable pub start : Jobs → Given → State → Outcome
+start J G s = settle (startRefusal G (s .places) (lengths allSix (s .buffers))) s (begin J G s)
+
+-- ---- a list of calls, each with what the one before left
+
+unfoldable pub answers : Jobs → Given → List Call → State → List Answer
+answers J G [] s = []
+answers J G (x ∷ xs) s = call J G x s .answer ∷ answers J G xs (call J G x s .after)
+
+unfoldable pub final : Jobs → Given → List Call → State → State
+final J G [] s = s
+final J G (x ∷ xs) s = final J G xs (call J G x s .after)
+
+-- ---- the plain run: "It keeps a count and a mark per channel, at first 0 and none."
+
+abbrev pub noneYet : Given → List Place
+noneYet G = replicate (count G) fresh
+
+pub record Plain : Type 0 where
+  pub answer : Answer
+  pub places : List Place
+
+-- "An accepted project marks the channel exactly when the buffers fixed for its new count meet the condition of job 5."
+abbrev pub plainAccept : Jobs → Given → Call → List Place → Plain
+plainAccept J G (on j c) ps =
+    let bad = isBlown G c (fixed J G (suc (place ps c .position)) c) in
+    record { answer = reply j bad; places = set ps c (advance j bad (place ps c)) }
+plainAccept J G blend ps = record { answer = done; places = map blended ps }
+
+abbrev pub plainSettle : ℕ → List Place → Plain → Plain
+plainSettle zero ps o = o
+plainSettle (suc r) ps o = record { answer = refused (suc r); places = ps }
+
+-- "It refuses by 12, 10, 11, 9 of the table, in that order, its counts and marks standing for the table's positions and marks"
+unfoldable pub plain : Jobs → Given → Call → List Place → Plain
+plain J G x ps = plainSettle (first (turnTests (G .sheet) ps x)) ps (plainAccept J G x ps)
+
+unfoldable pub plainAnswers : Jobs → Given → List Call → List Place → List Answer
+plainAnswers J G [] ps = []
+plainAnswers J G (x ∷ xs) ps = plain J G x ps .answer ∷ plainAnswers J G xs (plain J G x ps .places)
+
+unfoldable pub plainPlaces : Jobs → Given → List Call → List Place → List Place
+plainPlaces J G [] ps = ps
+plainPlaces J G (x ∷ xs) ps = plainPlaces J G xs (plain J G x ps .places)

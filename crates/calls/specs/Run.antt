@@ -1,0 +1,132 @@
+-- The run's record, and which records are legal (document 01, "Jobs and positions" and "Sheet records").
+-- The record is kept in two halves: the sheet's numbers, which no call changes, and a place for each channel, which the calls change.
+use Prim.Native.Nat.{ℕ, zero, suc, _+_, _*_, _/_, _%_}
+use mathlib.Core.Bool.{Bool, true, false, not, _&&_, _||_}
+use mathlib.Core.List.{List, [], _∷_}
+use lib.ListN.{length, getD}
+use lib.Dec.{leb, ltb, eqb}
+use lib.IntN.{ℤ, pos}
+use lib.Ieee.{Float, nan, inf, fin}
+
+-- a channel's own sides, its factors and its data weight
+pub record Own : Type 0 where
+  pub width : ℕ
+  pub height : ℕ
+  pub across : ℕ
+  pub down : ℕ
+  pub data-weight : Float
+
+-- full width and height, iterations, smoothing weight, and the channels: how many, and their own numbers
+pub record Sheet : Type 0 where
+  pub W : ℕ
+  pub H : ℕ
+  pub N : ℕ
+  pub smoothing : Float
+  pub count : ℕ
+  pub owns : List Own
+
+-- a channel's position, which counts its accepted jobs, and whether it is marked blown
+pub record Place : Type 0 where
+  pub position : ℕ
+  pub mark : Bool
+
+-- what start is fed beside the places: the sheet, the levels and the tables
+pub record Given : Type 0 where
+  pub sheet : Sheet
+  pub levels : List ℤ
+  pub tables : List ℕ
+
+-- ---- channel c's own numbers and its place
+
+abbrev pub own : Sheet → ℕ → Own
+own S c = getD (S .owns) c (record { width = 0; height = 0; across = 0; down = 0; data-weight = nan })
+
+abbrev pub fresh : Place
+fresh = record { position = 0; mark = false }
+
+abbrev pub place : List Place → ℕ → Place
+place ps c = getD ps c fresh
+
+-- channel c's coefficients, w × h of them
+abbrev pub coefs : Sheet → ℕ → ℕ
+coefs S c = own S c .width * own S c .height
+
+-- "levels (w × h a channel) and tables (64 quantisers a channel)": the levels of the channels before c come first
+abbrev pub levelsBefore : Sheet → ℕ → ℕ
+levelsBefore S zero = 0
+levelsBefore S (suc c) = levelsBefore S c + coefs S c
+
+-- number of channels; W × H values of a plane
+abbrev pub count : Given → ℕ
+count G = G .sheet .count
+
+abbrev pub area : Given → ℕ
+area G = G .sheet .W * G .sheet .H
+
+-- level and quantiser of channel c's coefficient k
+abbrev pub level : Given → ℕ → ℕ → ℤ
+level G c k = getD (G .levels) (levelsBefore (G .sheet) c + k) (pos 0)
+
+abbrev pub quantiser : Given → ℕ → ℕ → ℕ
+quantiser G c k = getD (G .tables) (c * 64 + k % 64) 0
+
+-- ---- tests of the channels below k: of every one, and of any
+
+abbrev pub every : ℕ → (ℕ → Bool) → Bool
+every zero f = true
+every (suc k) f = every k f && f k
+
+abbrev pub among : ℕ → (ℕ → Bool) → Bool
+among zero f = false
+among (suc k) f = among k f || f k
+
+-- ---- legal records: "numbers within the sheet's rules, equal blends in all channels, marks only at positive multiples of 5"
+
+-- "multiples of 8, at least 8", and for W and H "multiples of 8, 8 to 512"
+abbrev pub side : ℕ → Bool
+side n = eqb (n % 8) 0 && leb 8 n
+
+abbrev pub fullSide : ℕ → Bool
+fullSide n = side n && leb n 512
+
+-- "factors (1 to 4)"
+abbrev pub factor : ℕ → Bool
+factor n = leb 1 n && leb n 4
+
+-- refusal 6: "sign bit set, infinite, NaN" is no weight
+unfoldable pub weight : Float → Bool
+weight nan = false
+weight (inf s) = false
+weight (fin s m e) = not s
+
+-- "w × across ≤ W, h × down ≤ H"
+unfoldable pub ownOk : Sheet → Own → Bool
+ownOk S o =
+    side (o .width) && side (o .height) && factor (o .across) && factor (o .down)
+    && leb (o .width * o .across) (S .W) && leb (o .height * o .down) (S .H) && weight (o .data-weight)
+
+-- "channels (1 or 3)", "iteration counts (0 to 1,000)"
+unfoldable pub headerOk : Sheet → Bool
+headerOk S =
+    fullSide (S .W) && fullSide (S .H) && leb (S .N) 1000 && weight (S .smoothing)
+    && (eqb (S .count) 1 || eqb (S .count) 3) && eqb (length (S .owns)) (S .count)
+
+unfoldable pub sheetOk : Sheet → Bool
+sheetOk S = headerOk S && every (S .count) (λ c. ownOk S (own S c))
+
+-- blends among the first p jobs of a channel: one in each five, the third
+abbrev pub blendsIn : ℕ → ℕ
+blendsIn p = (p + 2) / 5
+
+-- "from 0 to 5N"; "marks only at positive multiples of 5"
+unfoldable pub placeOk : Sheet → Place → Bool
+placeOk S p = leb (p .position) (5 * S .N) && (not (p .mark) || ltb 0 (p .position) && eqb (p .position % 5) 0)
+
+-- "equal blends in all channels"
+unfoldable pub placesOk : Sheet → List Place → Bool
+placesOk S ps =
+    eqb (length ps) (S .count) && every (S .count) (λ c. placeOk S (place ps c))
+    && every (S .count) (λ c. eqb (blendsIn (place ps c .position)) (blendsIn (place ps 0 .position)))
+
+abbrev pub legal : Sheet → List Place → Bool
+legal S ps = sheetOk S && placesOk S ps

@@ -1,0 +1,2 @@
+-- Demand 3 of the solver.
+pub mod Laws

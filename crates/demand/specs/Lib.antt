@@ -1,0 +1,2 @@
+-- The jobs of the solver.
+pub mod Solver
