@@ -6,7 +6,7 @@ use mathlib.Core.Bool.{Bool, true, false, cond, _&&_}
 use mathlib.Core.Logic.{_⊎_, ⊎-elim}
 use mathlib.Core.Option.{Option, none, some}
 use native.Mathlib.Numerals.{add-one}
-use native.Mathlib.Nat.{mul-div-cancel-left}
+use native.Mathlib.Nat.{mul-div-cancel-left, mul-le-mul-left}
 use native.Mathlib.Omega.{arith}
 use lib.ListN.{length, getD, drop, replicate, length-append, length-drop}
 use lib.Dec.{eqb, leb, ltb}
@@ -56,19 +56,29 @@ header-is-legal limit fs n e =
     at : (i : ℕ) → i < 16 → faultIn (fieldOf (getD (headerRules limit fs) i (rule.Tag 0)) (getD fs i [])) ≡ none
     at i h = fault-at (headerRules limit fs) fs i e h (omega arith)
 
+pub own-side : (a f m : ℕ) → 1 ≤ f → a * f ≤ m → a ≤ m
+own-side a f m h k = omega (arith, mul-le-mul-left a h)
+
+own-legal : (m a n : ℕ) → LegalSide m a → a ≤ n → LegalSide n a
+own-legal m a n l h = record { whole = l .whole; low = l .low; top = h }
+
 pub channel-is-legal : (h : Header) (fs : List (List ℕ)) → length fs ≡ 69 → firstFault channelRules fs ≡ none → covers h (channelOf fs) ≡ true → LegalChannel h (channelOf fs)
 unfolding channelOf numberAt
 channel-is-legal h fs n e v =
     let c = channelOf fs in
     let w = leb (c .width * c .across) (h .width) in
     let d = leb (c .height * c .down) (h .height) in
+    let wide : c .width * c .across ≤ h .width = leb-true (c .width * c .across) (h .width) (both-left w d v) in
+    let high : c .height * c .down ≤ h .height = leb-true (c .height * c .down) (h .height) (both-right w d v) in
+    let across : Between 1 4 (c .across) = range-good (getD fs 3 []) 3 1 4 (at 3 (omega arith)) in
+    let down : Between 1 4 (c .down) = range-good (getD fs 4 []) 3 1 4 (at 4 (omega arith)) in
     record {
-      width = side-good (getD fs 1 []) 999999 (at 1 (omega arith));
-      height = side-good (getD fs 2 []) 999999 (at 2 (omega arith));
-      across = range-good (getD fs 3 []) 3 1 4 (at 3 (omega arith));
-      down = range-good (getD fs 4 []) 3 1 4 (at 4 (omega arith));
-      wide = leb-true (c .width * c .across) (h .width) (both-left w d v);
-      high = leb-true (c .height * c .down) (h .height) (both-right w d v);
+      width = own-legal 999999 (c .width) (h .width) (side-good (getD fs 1 []) 999999 (at 1 (omega arith))) (own-side (c .width) (c .across) (h .width) (across .low) wide);
+      height = own-legal 999999 (c .height) (h .height) (side-good (getD fs 2 []) 999999 (at 2 (omega arith))) (own-side (c .height) (c .down) (h .height) (down .low) high);
+      across = across;
+      down = down;
+      wide = wide;
+      high = high;
     }
   where
     at : (i : ℕ) → i < 69 → faultIn (fieldOf (getD channelRules i (rule.Tag 0)) (getD fs i [])) ≡ none

@@ -9,3 +9,4 @@ pub mod LegalLaws
 pub mod RowLaws
 pub mod RoundTrip
 pub mod PrefixLaws
+pub mod Examples

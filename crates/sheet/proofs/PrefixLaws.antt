@@ -130,9 +130,6 @@ record On (limit : ℕ) (s : State) : Type 0 where
 abbrev Stage : ℕ → State → Type 0
 Stage limit s = (s ≡ blank) ⊎ On limit s
 
-own-side : (a f m : ℕ) → 1 ≤ f → a * f ≤ m → a ≤ m
-own-side a f m h k = omega (arith, mul-le-mul-left a h)
-
 product : (a b m : ℕ) → a ≤ m → b ≤ m → a * b ≤ m * m
 product a b m h k = le-trans (mul-le-mul-right b h) (mul-le-mul-left m k)
 
@@ -184,8 +181,8 @@ module _ (limit : ℕ) (most : limit ≤ 512) (p : List ℕ) where
         let fs = split 9 p in
         let c = channelOf fs in
         let l = channel-is-legal (s .sheet .header) fs n e v in
-        let w : c .width ≤ limit = le-trans (own-side (c .width) (c .across) (s .sheet .header .width) (l .across .low) (l .wide)) (b .wide) in
-        let u : c .height ≤ limit = le-trans (own-side (c .height) (c .down) (s .sheet .header .height) (l .down .low) (l .high)) (b .high) in
+        let w : c .width ≤ limit = le-trans (l .width .top) (b .wide) in
+        let u : c .height ≤ limit = le-trans (l .height .top) (b .high) in
         subst (Spent limit s p) (good-inj _ t o)
         (record {
           stage = record { begun = refl; wide = b .wide; high = b .high; few = b .few };

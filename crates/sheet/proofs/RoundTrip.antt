@@ -31,7 +31,7 @@ use Rattle.sheet.specs.Written.{headerFields, channelFields, blockFields
 use Rattle.sheet.proofs.WalkLaws.{line-next, line-end}
 use Rattle.sheet.proofs.GoodLines.{tables-without, levels-without, channel-tables, block-levels}
 use Rattle.sheet.proofs.LegalLaws.{blocks}
-use Rattle.sheet.proofs.RowLaws.{header-good, header-back, header-free, header-short, channel-good, channel-said, channel-back, channel-free, channel-short, block-good, block-said, block-free, block-short, end-good, end-free}
+use Rattle.sheet.proofs.RowLaws.{SixDigits, header-good, header-back, header-free, header-short, channel-good, channel-said, channel-back, channel-free, channel-short, block-good, block-said, block-free, block-short, end-good, end-free}
 
 -- One good row
 
@@ -107,26 +107,26 @@ covered h c l = rw (le-leb (c .width * c .across) (h .width) (l .wide), le-leb (
 
 module _ (limit : ℕ) (rest : List (List ℕ)) (more : isLast rest ≡ false) where
   read-opening : (s : Sheet) (j : ℕ) (c : Channel) (ls : List ℤ) (ts qs : List ℕ) (k : ℕ) (after : List (List ℕ)) → isLast after ≡ false
-      → j < s .header .channels → LegalChannel (s .header) c → length qs ≡ 64 → LegalQuantisers qs
+      → j < s .header .channels → SixDigits (s .header) → LegalChannel (s .header) c → length qs ≡ 64 → LegalQuantisers qs
       → readFrom limit (during s j 0) ls ts k (joined (channelFields c qs) ∷ after) ≡ readFrom limit (during (placed s j c) (j + 1) (c .width * c .height / 64)) ls (ts ++ qs) (k + 1) after
   unfolding expectedTag rulesOf fieldCount recordOf takenOf
-  read-opening s j c ls ts qs k after e h l m g =
+  read-opening s j c ls ts qs k after e h x l m g =
       let fs = channelFields c qs in
-      let b : channelOf fs ≡ c = channel-back (s .header) c l qs m g in
+      let b : channelOf fs ≡ c = channel-back (s .header) x c l qs m g in
       read-row limit (during s j 0) ls ts k fs after 67 (rw (lt-ltb j (s .header .channels) h)) (λ q. omega arith) (omega arith) (channel-free 9 (omega arith) c qs)
-      (channel-short (s .header) c l qs m g) e
-      (omega (arith, length-map qs decimal)) (channel-good (s .header) c l qs m g) (during (placed s j c) (j + 1) (c .width * c .height / 64))
+      (channel-short (s .header) x c l qs m g) e
+      (omega (arith, length-map qs decimal)) (channel-good (s .header) x c l qs m g) (during (placed s j c) (j + 1) (c .width * c .height / 64))
       (rw (lt-ltb j (s .header .channels) h, b, covered (s .header) c l))
-      ∙ rw (channel-tables fs, channel-said (s .header) c l qs m g, levels-without channelRules fs refl, append-nil ls)
+      ∙ rw (channel-tables fs, channel-said (s .header) x c l qs m g, levels-without channelRules fs refl, append-nil ls)
 
   read-channel : (s : Sheet) (j : ℕ) (c : Channel) (ls zs : List ℤ) (ts us : List ℕ) (k : ℕ)
-      → j < s .header .channels → LegalChannel (s .header) c → c .width * c .height ≤ length zs → LegalLevels zs → 64 ≤ length us → LegalQuantisers us
+      → j < s .header .channels → SixDigits (s .header) → LegalChannel (s .header) c → c .width * c .height ≤ length zs → LegalLevels zs → 64 ≤ length us → LegalQuantisers us
       → readFrom limit (during s j 0) ls ts k (joined (channelFields c (take 64 us)) ∷ (blockLines (c .width * c .height / 64) zs ++ rest))
       ≡ readFrom limit (during (placed s j c) (j + 1) 0) (ls ++ take (c .width * c .height) zs) (ts ++ take 64 us) (k + 1 + c .width * c .height / 64) rest
-  read-channel s j c ls zs ts us k h l a g b d =
+  read-channel s j c ls zs ts us k h x l a g b d =
       let w : 64 * (c .width * c .height / 64) ≡ c .width * c .height = blocks (c .width) (c .height) (l .width .whole) (l .height .whole) in
       let n = c .width * c .height / 64 in
-      read-opening s j c ls ts (take 64 us) k (blockLines n zs ++ rest) (more-left (blockLines n zs) rest more) h l (length-take-le 64 us b) (take-quantisers 64 us d)
+      read-opening s j c ls ts (take 64 us) k (blockLines n zs ++ rest) (more-left (blockLines n zs) rest more) h x l (length-take-le 64 us b) (take-quantisers 64 us d)
       ∙ read-blocks limit rest more (placed s j c) (j + 1) (ts ++ take 64 us) n ls zs (k + 1) (omega (arith, w)) g
       ∙ ap (λ (x : ℕ). readFrom limit (during (placed s j c) (j + 1) 0) (ls ++ take x zs) (ts ++ take 64 us) (k + 1 + n) rest) w
 
@@ -145,21 +145,21 @@ LegalChannels h [] = Unit {0}
 LegalChannels h (c ∷ cs) = LegalChannel h c × LegalChannels h cs
 
 read-channels : (limit : ℕ) (rest : List (List ℕ)) → isLast rest ≡ false → (cs : List Channel) (s : Sheet) (j : ℕ) (ls zs : List ℤ) (ts us : List ℕ) (k : ℕ)
-    → j + length cs ≡ s .header .channels → LegalChannels (s .header) cs → length zs ≡ levelsIn cs → LegalLevels zs → length us ≡ 64 * length cs → LegalQuantisers us
+    → j + length cs ≡ s .header .channels → SixDigits (s .header) → LegalChannels (s .header) cs → length zs ≡ levelsIn cs → LegalLevels zs → length us ≡ 64 * length cs → LegalQuantisers us
     → (m : ℕ) × (readFrom limit (during s j 0) ls ts k (channelLines cs zs us ++ rest) ≡ readFrom limit (during (placedAll s j cs) (j + length cs) 0) (ls ++ zs) (ts ++ us) m rest)
-read-channels limit rest more [] s j ls [] ts [] k h l a g b d = (k, let e : j + 0 ≡ j = omega arith in rw (e, append-nil ls, append-nil ts))
-read-channels limit rest more [] s j ls (z ∷ zs) ts us k h l a g b d = let y : ⊥ = omega arith in absurd y
-read-channels limit rest more [] s j ls [] ts (u ∷ us) k h l a g b d = let y : ⊥ = omega arith in absurd y
-read-channels limit rest more (c ∷ cs) s j ls zs ts us k h l a g b d =
+read-channels limit rest more [] s j ls [] ts [] k h v l a g b d = (k, let e : j + 0 ≡ j = omega arith in rw (e, append-nil ls, append-nil ts))
+read-channels limit rest more [] s j ls (z ∷ zs) ts us k h v l a g b d = let y : ⊥ = omega arith in absurd y
+read-channels limit rest more [] s j ls [] ts (u ∷ us) k h v l a g b d = let y : ⊥ = omega arith in absurd y
+read-channels limit rest more (c ∷ cs) s j ls zs ts us k h v l a g b d =
     let x = c .width * c .height in
     let n = x / 64 in
     let later = channelLines cs (drop x zs) (drop 64 us) in
     let ih =
-    read-channels limit rest more cs (placed s j c) (j + 1) (ls ++ take x zs) (drop x zs) (ts ++ take 64 us) (drop 64 us) (k + 1 + n) (omega arith) (l .1)
+    read-channels limit rest more cs (placed s j c) (j + 1) (ls ++ take x zs) (drop x zs) (ts ++ take 64 us) (drop 64 us) (k + 1 + n) (omega arith) v (l .1)
     (length-drop x zs ∙ omega arith) (drop-levels x zs g) (length-drop 64 us ∙ omega arith) (drop-quantisers 64 us d) in (
       ih .0,
       ap (λ (q : List (List ℕ)). readFrom limit (during s j 0) ls ts k (joined (channelFields c (take 64 us)) ∷ q)) (append-assoc (blockLines n zs) later rest)
-          ∙ read-channel limit (later ++ rest) (more-left later rest more) s j c ls zs ts us k (omega arith) (l .0) (omega arith) g (omega arith) d
+          ∙ read-channel limit (later ++ rest) (more-left later rest more) s j c ls zs ts us k (omega arith) v (l .0) (omega arith) g (omega arith) d
           ∙ ih .1
           ∙ again (placedAll (placed s j c) (j + 1) cs) x (ih .0),
     )
@@ -259,7 +259,7 @@ round-trip limit s ls ts l =
     let cs = channelsOf s in
     let end : List (List ℕ) = joined endFields ∷ [] ∷ [] in
     let r =
-    read-channels limit end refl cs (headed (s .header)) 0 [] ls [] ts 2 (omega (arith, u .count)) (u .legal) (l .levels-count ∙ u .levels) (l .levels)
+    read-channels limit end refl cs (headed (s .header)) 0 [] ls [] ts 2 (omega (arith, u .count)) (omega (arith, l .most .top, l .header .width .top), omega (arith, l .most .top, l .header .height .top)) (u .legal) (l .levels-count ∙ u .levels) (l .levels)
     (l .tables-count ∙ ap (λ (n : ℕ). 64 * n) (sym (u .count))) (l .tables) in
     ap (λ (b : Bool). cond b (readFrom limit blank [] [] 1 (split 10 (written s ls ts))) (Refused 2 0)) (side-test 512 limit (l .most))
     ∙ ap (λ (ps : List (List ℕ)). readFrom limit blank [] [] 1 ps) (written-lines s ls ts)

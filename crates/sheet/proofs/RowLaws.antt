@@ -5,6 +5,7 @@ use mathlib.Core.List.{List, [], _∷_, _++_, map}
 use mathlib.Core.Bool.{Bool, true, false, cond, _&&_}
 use mathlib.Core.Logic.{_⊎_, inl, inr}
 use mathlib.Core.Option.{Option, none, some}
+use native.Mathlib.Nat.{le-trans}
 use native.Mathlib.Omega.{arith}
 use lib.ListN.{length, getD, take, drop, replicate, length-map}
 use lib.IntN.{ℤ, pos, negsuc}
@@ -188,13 +189,20 @@ all-level (z ∷ zs) l =
     let r = all-level zs (l .1) in
     rw (level-field-written z (l .0)) (r .0, ap (λ (x : List ℤ). z ∷ x) (r .1))
 
-module _ (h : Header) (c : Channel) (l : LegalChannel h c) (qs : List ℕ) (n : length qs ≡ 64) (g : LegalQuantisers qs) where
+-- the full sides have at most six digits
+abbrev pub SixDigits : Header → Type 0
+SixDigits h = (h .width ≤ 999999) × (h .height ≤ 999999)
+
+wider : (a m n : ℕ) → LegalSide m a → m ≤ n → LegalSide n a
+wider a m n l h = record { whole = l .whole; low = l .low; top = le-trans (l .top) h }
+
+module _ (h : Header) (x : SixDigits h) (c : Channel) (l : LegalChannel h c) (qs : List ℕ) (n : length qs ≡ 64) (g : LegalQuantisers qs) where
   pub channel-good : firstFault channelRules (channelFields c qs) ≡ none
   channel-good =
       rw (
         tag-written 67,
-        side-written 999999 (c .width) (l .width) (l .width .top),
-        side-written 999999 (c .height) (l .height) (l .height .top),
+        side-written 999999 (c .width) (wider (c .width) (h .width) 999999 (l .width) (x .0)) (le-trans (l .width .top) (x .0)),
+        side-written 999999 (c .height) (wider (c .height) (h .height) 999999 (l .height) (x .1)) (le-trans (l .height .top) (x .1)),
         range-written 3 1 4 (c .across) (l .across) (omega (arith, l .across .top)),
         range-written 3 1 4 (c .down) (l .down) (omega (arith, l .down .top)),
       )
@@ -206,7 +214,7 @@ module _ (h : Header) (c : Channel) (l : LegalChannel h c) (qs : List ℕ) (n : 
   pub channel-back : channelOf (channelFields c qs) ≡ c
   unfolding channelOf numberAt
   channel-back =
-      rw (number-back (c .width) (l .width .top), number-back (c .height) (l .height .top), number-back (c .across) (omega (arith, l .across .top)), number-back (c .down) (omega (arith, l .down .top)))
+      rw (number-back (c .width) (le-trans (l .width .top) (x .0)), number-back (c .height) (le-trans (l .height .top) (x .1)), number-back (c .across) (omega (arith, l .across .top)), number-back (c .down) (omega (arith, l .down .top)))
 
 -- Blocks and the end
 
@@ -351,16 +359,16 @@ header-short limit most h l =
       ),
     )
 
-pub channel-short : (h : Header) (c : Channel) → LegalChannel h c → (qs : List ℕ) → length qs ≡ 64 → LegalQuantisers qs → length (joined (channelFields c qs)) ≤ 1024
-channel-short h c l qs n g =
+pub channel-short : (h : Header) → SixDigits h → (c : Channel) → LegalChannel h c → (qs : List ℕ) → length qs ≡ 64 → LegalQuantisers qs → length (joined (channelFields c qs)) ≤ 1024
+channel-short h x c l qs n g =
     omega (
       arith,
       joined-length (channelFields c qs) (1 ∷ replicate 4 6 ++ replicate 64 6) (omega arith) (
         omega arith,
         (
-          short-decimal (c .width) (l .width .top),
+          short-decimal (c .width) (le-trans (l .width .top) (x .0)),
           (
-            short-decimal (c .height) (l .height .top),
+            short-decimal (c .height) (le-trans (l .height .top) (x .1)),
             (short-decimal (c .across) (omega (arith, l .across .top)), (short-decimal (c .down) (omega (arith, l .down .top)), rw n at (all-short qs g))),
           ),
         ),

@@ -29,9 +29,10 @@ pub record LegalHeader (limit : ℕ) (h : Header) : Type 0 where
   pub data1 : LegalWeight (h .data1)
   pub data2 : LegalWeight (h .data2)
 
+-- An own side is a side, and by its cover no larger than the full one
 pub record LegalChannel (h : Header) (c : Channel) : Type 0 where
-  pub width : LegalSide 999999 (c .width)
-  pub height : LegalSide 999999 (c .height)
+  pub width : LegalSide (h .width) (c .width)
+  pub height : LegalSide (h .height) (c .height)
   pub across : Between 1 4 (c .across)
   pub down : Between 1 4 (c .down)
   pub wide : c .width * c .across ≤ h .width

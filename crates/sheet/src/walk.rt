@@ -117,9 +117,10 @@ pub fn walk(text: &[u8], limit: u32, levels: &mut [i16], tables: &mut [u16]) -> 
                     tables: listed,
                 };
             }
+            let next = line + 1;
             break 'lines Walked::Refused {
                 number: 7,
-                line: line + 1,
+                line: next,
             };
         }
         match state::take_record(state, line::record_of(tag, row)) {

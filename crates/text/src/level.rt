@@ -27,8 +27,8 @@ pub fn read_level(f: &[u8]) -> Field
     let Number::Is(n) = number::read_number(f) else {
         return Field::Bad(1);
     };
-    if 2047 < n {
-        return Field::Bad(5);
+    if n <= 2047 {
+        return Field::Level(n as i16);
     }
-    Field::Level(n as i16)
+    Field::Bad(5)
 }

@@ -47,7 +47,9 @@ part-row-end : tie.Need-part-row-end Inv-loop μ-loop Inv-lines μ-lines
 part-row-end c = end-inside (c .before .before .before .before .before .before .before .lines .inv) (c .before .before .before .before .before .before .line-at .ensures)
 
 loop-holds : tie.Need-loop-holds Inv-loop μ-loop Inv-lines μ-lines
-loop-holds c = let o = on-line (c .before .before .before .before .before .before .before .before .lines .inv) (c .before .before .before .before .before .before .before .line-at .ensures) (c .before .before .before .before .before .before .if2 .left) (c .before .before .before .before .before .if3 .left) (c .before .before .before .before .expected .ensures) (c .before .before .before .field-count .ensures) in (o, row-count (c .before .before .before .before .before .before .before .before .lines .inv) o (c .before .before .before .before .before .before .before .line-at .ensures) (c .before .if4 .left), check-begin _ _ _ _ _ _ _)
+loop-holds c =
+    let o = c .before .before .before .before .before .before .before .before in
+    let w = on-line (o .lines .inv) (c .before .before .before .before .before .before .before .line-at .ensures) (c .before .before .before .before .before .before .if2 .left) (c .before .before .before .before .before .if3 .left) (c .before .before .before .before .expected .ensures) (c .before .before .before .field-count .ensures) in (w, row-count (o .lines .inv) w (c .before .before .before .before .before .before .before .line-at .ensures) (c .before .if4 .left), check-begin _ _ _ _ _ _ _)
 
 field-end-requires : tie.Need-field-end-requires Inv-loop μ-loop Inv-lines μ-lines
 field-end-requires c κs = check-at (c .before .loop .inv .2) (c .loop-test .taken)
@@ -65,39 +67,61 @@ part-read-field-end : tie.Need-part-read-field-end Inv-loop μ-loop Inv-lines μ
 part-read-field-end c = check-in (c .before .before .before .loop .inv .2) (c .before .before .loop-test .taken) (c .before .field-end .ensures)
 
 put-level-requires : tie.Need-put-level-requires Inv-loop μ-loop Inv-lines μ-lines
-put-level-requires c κs = level-room (c .before .before .before .before .before .before .before .before .before .before .before .before .before .before .before .before .lines .inv) (c .before .before .before .before .before .before .before .loop .inv .0) (c .before .before .before .before .before .before .before .loop .inv .1) (c .before .before .before .before .before .before .before .before .before .before .before .before .before .before .before .before .before .before .before .before .before .before .good .0 .0) (c .before .before .before .before .before .before .loop-test .taken) (c .before .before .before .before .before .before .before .loop .inv .2 .held)
+put-level-requires c κs =
+    let l = c .before .before .before .before .before .before .before in
+    let o = l .before .before .before .before .before .before .before .before .before in
+    level-room (o .lines .inv) (l .loop .inv .0) (l .loop .inv .1) (o .before .before .before .before .before .before .good .0 .0) (c .before .before .before .before .before .before .loop-test .taken) (l .loop .inv .2 .held)
 
 put-quantiser-requires : tie.Need-put-quantiser-requires Inv-loop μ-loop Inv-lines μ-lines
-put-quantiser-requires c κs = table-room (c .before .before .before .before .before .before .before .before .before .before .before .before .before .before .before .before .before .before .before .lines .inv) (c .before .before .before .before .before .before .before .before .before .before .loop .inv .0) (c .before .before .before .before .before .before .before .before .before .before .loop .inv .1) (c .before .before .before .before .before .before .before .before .before .before .before .before .before .before .before .before .before .before .before .before .before .before .before .before .before .good .0 .0) (c .before .before .before .before .before .before .before .before .before .loop-test .taken) (c .before .before .before .before .before .before .before .before .before .before .loop .inv .2 .listed)
+put-quantiser-requires c κs =
+    let f = c .before .before .before .before .before in
+    let l = f .before .before .before .before .before in
+    let o = l .before .before .before .before .before .before .before .before .before in
+    table-room (o .lines .inv) (l .loop .inv .0) (l .loop .inv .1) (o .before .before .before .before .before .before .good .0 .0) (f .before .before .before .before .loop-test .taken) (l .loop .inv .2 .listed)
 
 add-a : tie.Need-add-a Inv-loop μ-loop Inv-lines μ-lines
-add-a c = omega (arith, check-in (c .before .before .before .before .before .before .before .before .before .before .before .before .before .loop .inv .2) (c .before .before .before .before .before .before .before .before .before .before .before .before .loop-test .taken) (c .before .before .before .before .before .before .before .before .before .before .before .field-end .ensures), c .before .before .before .before .before .before .before .before .before .before .before .before .before .loop .inv .0 .size, c .before .before .before .before .before .before .before .before .before .before .before .before .before .loop .inv .0 .ended, c .before .before .before .before .before .before .before .before .before .before .before .before .before .before .before .before .before .before .before .before .before .before .before .before .before .before .before .before .good .0 .0)
+add-a c =
+    let f = c .before .before .before .before .before .before .before .before in
+    let l = f .before .before .before .before .before in
+    omega (arith, check-in (l .loop .inv .2) (f .before .before .before .before .loop-test .taken) (f .before .before .before .field-end .ensures), l .loop .inv .0 .size, l .loop .inv .0 .ended, l .before .before .before .before .before .before .before .before .before .before .before .before .before .before .before .good .0 .0)
 
 loop-again : tie.Need-loop-again Inv-loop μ-loop Inv-lines μ-lines
-loop-again c = (
-  c .before .before .before .before .before .before .before .before .before .before .before .before .before .loop .inv .0,
-  c .before .before .before .before .before .before .before .before .before .before .before .before .before .loop .inv .1,
-  check-step (c .before .before .before .before .before .before .before .before .before .before .before .before .before .loop .inv .2) (c .before .before .before .before .before .before .before .before .before .before .before .before .loop-test .taken) (c .before .before .before .before .before .before .before .before .before .before .before .field-end .ensures) (rules-count (c .before .before .before .before .before .before .before .before .before .before .before .before .before .before .before .before .before .before .before .before .before .before .lines .inv) (c .before .before .before .before .before .before .before .before .before .before .before .before .before .loop .inv .0)) (c .before .before .before .before .before .before .before .before .before .before .before .before .before .loop .inv .1) (c .before .before .before .before .before .before .before .before .before .before .rule-at .ensures) (c .before .before .before .before .before .before .before .before .read-field .ensures)
-      (good-field (c .before .before .before .before .before .before .before .before .read-field .result) (c .before .before .before .before .before .before .before .match .keys2)) (c .before .before .before .before .before .put-level .ensures) (c .before .before .put-quantiser .ensures),
-)
+loop-again c =
+    let f = c .before .before .before .before .before .before .before .before in
+    let l = f .before .before .before .before .before in (
+      l .loop .inv .0,
+      l .loop .inv .1,
+      check-step (l .loop .inv .2) (f .before .before .before .before .loop-test .taken) (f .before .before .before .field-end .ensures) (rules-count (l .before .before .before .before .before .before .before .before .before .lines .inv) (l .loop .inv .0)) (l .loop .inv .1) (f .before .before .rule-at .ensures) (f .read-field .ensures)
+          (good-field (f .read-field .result) (c .before .before .before .before .before .before .before .match .keys2)) (c .before .before .before .before .before .put-level .ensures) (c .before .before .put-quantiser .ensures),
+    )
 
 add-if6 : tie.Need-add-if6 Inv-loop μ-loop Inv-lines μ-lines
 add-if6 c = omega (arith, c .before .before .loop .inv .0 .ended, c .before .before .before .before .before .before .before .before .before .before .before .before .before .before .before .before .before .good .0 .0)
 
-add-t41 : tie.Need-add-t41 Inv-loop μ-loop Inv-lines μ-lines
-add-t41 c = omega (arith, c .before .before .before .before .before .before .before .before .before .before .before .before .lines .inv .lines, c .before .before .before .before .before .before .before .before .before .before .before .before .lines .inv .inside, c .before .before .before .before .before .before .before .before .before .before .before .before .before .before .before .before .before .before .good .0)
+add-next : tie.Need-add-next Inv-loop μ-loop Inv-lines μ-lines
+add-next c =
+    let o = c .before .before .before .before .before .before .before .before .before .before .before .before in
+    omega (arith, o .lines .inv .lines, o .lines .inv .inside, o .before .before .before .before .before .before .good .0)
 
 add-at : tie.Need-add-at Inv-loop μ-loop Inv-lines μ-lines
-add-at c = omega (arith, c .before .before .before .before .before .before .before .loop .inv .0 .ended, c .before .before .before .before .before .before .before .before .before .before .before .before .before .before .before .before .before .before .before .before .before .before .good .0 .0)
+add-at c =
+    let l = c .before .before .before .before .before .before .before in
+    omega (arith, l .loop .inv .0 .ended, l .before .before .before .before .before .before .before .before .before .before .before .before .before .before .before .good .0 .0)
 
 add-line : tie.Need-add-line Inv-loop μ-loop Inv-lines μ-lines
-add-line c = omega (arith, c .before .before .before .before .before .before .before .before .before .before .before .before .before .before .before .before .lines .inv .lines, c .before .before .before .before .before .before .before .before .before .before .before .before .before .before .before .before .lines .inv .inside, c .before .before .before .before .before .before .before .before .before .before .before .before .before .before .before .before .before .before .before .before .before .before .good .0)
+add-line c =
+    let o = c .before .before .before .before .before .before .before .before .before .before .before .before .before .before .before .before in
+    omega (arith, o .lines .inv .lines, o .lines .inv .inside, o .before .before .before .before .before .before .good .0)
 
 lines-less : tie.Need-lines-less Inv-loop μ-loop Inv-lines μ-lines
-lines-less c = omega (arith, c .before .before .before .before .before .before .before .loop .inv .0 .ended, c .before .before .before .before .before .before .before .loop .inv .0 .ordered)
+lines-less c =
+    let l = c .before .before .before .before .before .before .before in
+    omega (arith, l .loop .inv .0 .ended, l .loop .inv .0 .ordered)
 
 lines-again : tie.Need-lines-again Inv-loop μ-loop Inv-lines μ-lines
-lines-again c = walk-next (c .before .before .before .before .before .before .before .before .before .before .before .before .before .before .before .before .lines .inv) (c .before .before .before .before .before .before .before .loop .inv .0) (c .before .before .before .before .before .before .before .loop .inv .1) (c .before .before .before .before .before .before .before .loop .inv .2) (c .before .before .before .before .before .before .loop-test .left) (c .before .before .before .before .before .if5 .left) (c .before .before .before .before .record-of .ensures) (c .before .before .before .take-record .ensures) (c .before .next .given .1)
+lines-again c =
+    let l = c .before .before .before .before .before .before .before in
+    walk-next (l .before .before .before .before .before .before .before .before .before .lines .inv) (l .loop .inv .0) (l .loop .inv .1) (l .loop .inv .2) (c .before .before .before .before .before .before .loop-test .left) (c .before .before .before .before .before .if5 .left) (c .before .before .before .before .record-of .ensures) (c .before .before .before .take-record .ensures) (c .before .next .given .1)
 
 same-length : tie.Need-same-length Inv-loop μ-loop Inv-lines μ-lines
 same-length c = same-levels (c .before .before .lines .inv)
@@ -124,44 +148,72 @@ same-length-6 : tie.Need-same-length-6 Inv-loop μ-loop Inv-lines μ-lines
 same-length-6 c = same-tables (c .before .before .before .before .before .before .before .lines .inv)
 
 returns-4 : tie.Need-returns-4 Inv-loop μ-loop Inv-lines μ-lines
-returns-4 c = walk-count (c .before .before .before .before .before .before .before .lines .inv) (on-line (c .before .before .before .before .before .before .before .lines .inv) (c .before .before .before .before .before .before .line-at .ensures) (c .before .before .before .before .before .if2 .left) (c .before .before .before .before .if3 .left) (c .before .before .before .expected .ensures) (c .before .before .field-count .ensures)) (c .before .before .before .before .before .before .line-at .ensures) (c .if4 .taken)
+returns-4 c =
+    let o = c .before .before .before .before .before .before .before in
+    walk-count (o .lines .inv) (on-line (o .lines .inv) (c .before .before .before .before .before .before .line-at .ensures) (c .before .before .before .before .before .if2 .left) (c .before .before .before .before .if3 .left) (c .before .before .before .expected .ensures) (c .before .before .field-count .ensures)) (c .before .before .before .before .before .before .line-at .ensures) (c .if4 .taken)
 
 same-length-7 : tie.Need-same-length-7 Inv-loop μ-loop Inv-lines μ-lines
-same-length-7 c = check-levels (c .before .before .before .before .before .before .before .before .loop .inv .2) ∙ same-levels (c .before .before .before .before .before .before .before .before .before .before .before .before .before .before .before .before .before .lines .inv)
+same-length-7 c =
+    let l = c .before .before .before .before .before .before .before .before in
+    check-levels (l .loop .inv .2) ∙ same-levels (l .before .before .before .before .before .before .before .before .before .lines .inv)
 
 same-length-8 : tie.Need-same-length-8 Inv-loop μ-loop Inv-lines μ-lines
-same-length-8 c = check-tables (c .before .before .before .before .before .before .before .before .loop .inv .2) ∙ same-tables (c .before .before .before .before .before .before .before .before .before .before .before .before .before .before .before .before .before .lines .inv)
+same-length-8 c =
+    let l = c .before .before .before .before .before .before .before .before in
+    check-tables (l .loop .inv .2) ∙ same-tables (l .before .before .before .before .before .before .before .before .before .lines .inv)
 
 returns-5 : tie.Need-returns-5 Inv-loop μ-loop Inv-lines μ-lines
-returns-5 c = walk-fault (c .before .before .before .before .before .before .before .before .before .before .before .before .before .before .before .before .before .lines .inv) (c .before .before .before .before .before .before .before .before .loop .inv .0) (c .before .before .before .before .before .before .before .before .loop .inv .1)
-    (check-bad (c .before .before .before .before .before .before .before .before .loop .inv .2) (c .before .before .before .before .before .before .before .loop-test .taken) (c .before .before .before .before .before .before .field-end .ensures) (rules-count (c .before .before .before .before .before .before .before .before .before .before .before .before .before .before .before .before .before .lines .inv) (c .before .before .before .before .before .before .before .before .loop .inv .0)) (c .before .before .before .before .before .before .before .before .loop .inv .1) (c .before .before .before .before .before .rule-at .ensures) (c .before .before .before .read-field .ensures) _ (c .before .f .given .1))
+returns-5 c =
+    let f = c .before .before .before in
+    let l = f .before .before .before .before .before in
+    let o = l .before .before .before .before .before .before .before .before .before in
+    walk-fault (o .lines .inv) (l .loop .inv .0) (l .loop .inv .1)
+    (check-bad (l .loop .inv .2) (f .before .before .before .before .loop-test .taken) (f .before .before .before .field-end .ensures) (rules-count (o .lines .inv) (l .loop .inv .0)) (l .loop .inv .1) (f .before .before .rule-at .ensures) (f .read-field .ensures) _ (c .before .f .given .1))
 
 same-length-9 : tie.Need-same-length-9 Inv-loop μ-loop Inv-lines μ-lines
-same-length-9 c = check-levels (c .before .before .before .before .loop .inv .2) ∙ same-levels (c .before .before .before .before .before .before .before .before .before .before .before .before .before .lines .inv)
+same-length-9 c =
+    let l = c .before .before .before .before in
+    check-levels (l .loop .inv .2) ∙ same-levels (l .before .before .before .before .before .before .before .before .before .lines .inv)
 
 same-length-10 : tie.Need-same-length-10 Inv-loop μ-loop Inv-lines μ-lines
-same-length-10 c = check-tables (c .before .before .before .before .loop .inv .2) ∙ same-tables (c .before .before .before .before .before .before .before .before .before .before .before .before .before .lines .inv)
+same-length-10 c =
+    let l = c .before .before .before .before in
+    check-tables (l .loop .inv .2) ∙ same-tables (l .before .before .before .before .before .before .before .before .before .lines .inv)
 
 returns-6 : tie.Need-returns-6 Inv-loop μ-loop Inv-lines μ-lines
-returns-6 c = walk-end (c .before .before .before .before .before .before .before .before .before .before .before .before .before .lines .inv) (c .before .before .before .before .loop .inv .0) (c .before .before .before .before .loop .inv .1) (c .before .before .before .before .loop .inv .2) (c .before .before .before .loop-test .left) (c .before .before .if5 .taken) (c .before .if6 .taken)
+returns-6 c =
+    let l = c .before .before .before .before in
+    walk-end (l .before .before .before .before .before .before .before .before .before .lines .inv) (l .loop .inv .0) (l .loop .inv .1) (l .loop .inv .2) (c .before .before .before .loop-test .left) (c .before .before .if5 .taken) (c .before .if6 .taken)
 
 same-length-11 : tie.Need-same-length-11 Inv-loop μ-loop Inv-lines μ-lines
-same-length-11 c = check-levels (c .before .before .before .loop .inv .2) ∙ same-levels (c .before .before .before .before .before .before .before .before .before .before .before .before .lines .inv)
+same-length-11 c =
+    let l = c .before .before .before in
+    check-levels (l .loop .inv .2) ∙ same-levels (l .before .before .before .before .before .before .before .before .before .lines .inv)
 
 same-length-12 : tie.Need-same-length-12 Inv-loop μ-loop Inv-lines μ-lines
-same-length-12 c = check-tables (c .before .before .before .loop .inv .2) ∙ same-tables (c .before .before .before .before .before .before .before .before .before .before .before .before .lines .inv)
+same-length-12 c =
+    let l = c .before .before .before in
+    check-tables (l .loop .inv .2) ∙ same-tables (l .before .before .before .before .before .before .before .before .before .lines .inv)
 
 returns-7 : tie.Need-returns-7 Inv-loop μ-loop Inv-lines μ-lines
-returns-7 c = walk-after (c .before .before .before .before .before .before .before .before .before .before .before .before .lines .inv) (c .before .before .before .loop .inv .0) (c .before .before .before .loop .inv .1) (c .before .before .before .loop .inv .2) (c .before .before .loop-test .left) (c .before .if5 .taken) (c .if6 .left)
+returns-7 c =
+    let l = c .before .before .before in
+    walk-after (l .before .before .before .before .before .before .before .before .before .lines .inv) (l .loop .inv .0) (l .loop .inv .1) (l .loop .inv .2) (c .before .before .loop-test .left) (c .before .if5 .taken) (c .if6 .left)
 
 same-length-13 : tie.Need-same-length-13 Inv-loop μ-loop Inv-lines μ-lines
-same-length-13 c = check-levels (c .before .before .before .before .before .before .before .loop .inv .2) ∙ same-levels (c .before .before .before .before .before .before .before .before .before .before .before .before .before .before .before .before .lines .inv)
+same-length-13 c =
+    let l = c .before .before .before .before .before .before .before in
+    check-levels (l .loop .inv .2) ∙ same-levels (l .before .before .before .before .before .before .before .before .before .lines .inv)
 
 same-length-14 : tie.Need-same-length-14 Inv-loop μ-loop Inv-lines μ-lines
-same-length-14 c = check-tables (c .before .before .before .before .before .before .before .loop .inv .2) ∙ same-tables (c .before .before .before .before .before .before .before .before .before .before .before .before .before .before .before .before .lines .inv)
+same-length-14 c =
+    let l = c .before .before .before .before .before .before .before in
+    check-tables (l .loop .inv .2) ∙ same-tables (l .before .before .before .before .before .before .before .before .before .lines .inv)
 
 returns-8 : tie.Need-returns-8 Inv-loop μ-loop Inv-lines μ-lines
-returns-8 c = walk-bad (c .before .before .before .before .before .before .before .before .before .before .before .before .before .before .before .before .lines .inv) (c .before .before .before .before .before .before .before .loop .inv .0) (c .before .before .before .before .before .before .before .loop .inv .1) (c .before .before .before .before .before .before .before .loop .inv .2) (c .before .before .before .before .before .before .loop-test .left) (c .before .before .before .before .before .if5 .left) (c .before .before .before .before .record-of .ensures) (c .before .before .before .take-record .ensures) (c .before .number .given .1)
+returns-8 c =
+    let l = c .before .before .before .before .before .before .before in
+    walk-bad (l .before .before .before .before .before .before .before .before .before .lines .inv) (l .loop .inv .0) (l .loop .inv .1) (l .loop .inv .2) (c .before .before .before .before .before .before .loop-test .left) (c .before .before .before .before .before .if5 .left) (c .before .before .before .before .record-of .ensures) (c .before .before .before .take-record .ensures) (c .before .number .given .1)
 
 pub walk-spec : {M : Type 1} → statement M
 walk-spec =
@@ -170,7 +222,7 @@ walk-spec =
     line-at-requires sub-if2 (λ c κs. search needs) (λ c κs. search needs) sub-row part-row-start part-row-end
     loop-holds field-end-requires rule-at-requires sub-read-field part-read-field-start part-read-field-end
     (λ c κs. search needs) (λ c. search needs) put-level-requires put-quantiser-requires add-a (λ c. omega arith)
-    (λ c. omega arith) loop-again add-if6 add-t41 (λ c κs. search needs) (λ c κs. search needs)
+    (λ c. omega arith) loop-again add-if6 add-next (λ c κs. search needs) (λ c κs. search needs)
     (λ c. search needs) (λ c. search needs) add-at add-line lines-less lines-again same-length same-length-2
     returns-2 same-length-3 same-length-4 returns-3 same-length-5 same-length-6 returns-4 same-length-7
     same-length-8 returns-5 same-length-9 same-length-10 returns-6 same-length-11 same-length-12 returns-7

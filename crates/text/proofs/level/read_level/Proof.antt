@@ -10,5 +10,5 @@ read-level-spec =
     (tie.spec (λ c. search levels) (λ c. search needs) (λ c. search needs) (λ c. search needs) (λ c. search needs)
     (λ c κs. search needs) (λ c. search needs) (λ c. search needs) (λ c. search levels) (λ c. search levels)
     (λ c. search levels) (λ c. search needs) (λ c. search levels) (λ c. search levels) (λ c κs. search needs)
-    (λ c. search needs) (λ c. search needs) (λ c. search levels) (λ c. search levels) (λ c. search needs)
+    (λ c. search needs) (λ c. search needs) (λ c. search levels) (λ c. search needs) (λ c. search levels)
     (λ c. search levels))

@@ -1,0 +1,244 @@
+-- The whole example of document 01, and edits of it that tell readings of the paper apart, read by computation.
+use Prim.Native.Nat.{ℕ, zero, suc, _-_}
+use Prim.Native.Char.{code}
+use Prim.Native.String.{String, len, charAt}
+use mathlib.Core.Path.{_≡_, refl}
+use mathlib.Core.List.{List, [], _∷_, _++_, map}
+use mathlib.Core.Bool.{false, cond}
+use lib.ListN.{length, replicate, take, drop, set, getD}
+use lib.IntN.{pos}
+use lib.Dec.{eqb}
+use Rattle.text.specs.declared.weight.Weight.the-variants as weight
+use Rattle.text.specs.Numbers.{numberOf, numberAt}
+use Rattle.text.specs.Weights.{bitForm, weightOf, weightAt}
+use Rattle.text.specs.Levels.{levelOf}
+use Rattle.text.specs.Fields.{fieldOf}
+use Rattle.text.specs.Written.{joined, ended}
+use Rattle.sheet.specs.Lines.{rulesOf, fieldsFault, headerOf, channelOf, recordOf, noChannel}
+use Rattle.sheet.specs.Reading.{Outcome, Contents, contents, blank, expectedTag, takenOf, lineFault, readText}
+use Rattle.sheet.specs.Calls.{Lengths, measuring, reading}
+use Rattle.sheet.specs.Reading.Outcome.{Gives, Refused}
+
+-- the bytes of a text
+abbrev bytesFrom : String → ℕ → ℕ → List ℕ
+bytesFrom s i zero = []
+bytesFrom s i (suc n) = code (charAt s i) ∷ bytesFrom s (suc i) n
+
+abbrev b : String → List ℕ
+b s = bytesFrom s 0 (len s)
+
+-- "Whole, with a tab for each space: lines `S 8 8 2 1 1 s 0 0 0 w0 w0 w0 w0 w0 w0`; `C 8 8 1 1` and 64 times `8`; `B 1` and
+-- 63 times `0`; `E`": the fields of its lines
+abbrev whole : List (List (List ℕ))
+whole =
+    (b "S" ∷ b "8" ∷ b "8" ∷ b "2" ∷ b "1" ∷ b "1" ∷ b "s" ∷ b "0" ∷ b "0" ∷ b "0" ∷ b "w0" ∷ b "w0" ∷ b "w0" ∷ b "w0" ∷ b "w0" ∷ b "w0" ∷ [])
+    ∷ (b "C" ∷ b "8" ∷ b "8" ∷ b "1" ∷ b "1" ∷ replicate 64 (b "8"))
+    ∷ (b "B" ∷ b "1" ∷ replicate 63 (b "0"))
+    ∷ (b "E" ∷ [])
+    ∷ []
+
+-- field i of line j, both counted from 0, is this
+abbrev edit : ℕ → ℕ → String → List (List (List ℕ)) → List (List (List ℕ))
+edit j i s rows = set rows j (set (getD rows j []) i (b s))
+
+abbrev text : List (List (List ℕ)) → List ℕ
+text rows = ended (map joined rows)
+
+-- S.1 is 9, and S.15 has n zeros more
+abbrev padded : ℕ → List (List (List ℕ))
+padded n = edit 0 1 "9" (set whole 0 (set (getD whole 0 []) 15 (b "w0" ++ replicate n 48)))
+
+abbrev cut : ℕ → List ℕ → List ℕ
+cut n t = take (length t - n) t
+
+-- the whole example with one edit, and with two
+abbrev one : ℕ → ℕ → String → List ℕ
+one j i s = text (edit j i s whole)
+
+abbrev two : ℕ → ℕ → String → ℕ → ℕ → String → List ℕ
+two j i s k h u = text (edit j i s (edit k h u whole))
+
+-- number and line of a refusal; 0 and 0 for a legal text
+abbrev answerOf : Outcome Contents → ℕ × ℕ
+answerOf (Gives c) = (0, 0)
+answerOf (Refused k line) = (k, line)
+
+unfoldable answer : ℕ → List ℕ → ℕ × ℕ
+unfolding readText blank expectedTag takenOf recordOf headerOf channelOf lineFault fieldsFault rulesOf numberAt weightAt numberOf bitForm weightOf levelOf fieldOf
+answer limit t = answerOf (readText limit t)
+
+abbrev answers : ℕ → List (List ℕ) → List (ℕ × ℕ)
+answers limit [] = []
+answers limit (t ∷ ts) = answer limit t ∷ answers limit ts
+
+whole-reads : readText 32 (text whole) ≡ contents
+    (record {
+      header = record {
+        width = 8;
+        height = 8;
+        «picture_width» = 2;
+        «picture_height» = 1;
+        channels = 1;
+        joint = false;
+        iterations0 = 0;
+        iterations1 = 0;
+        iterations2 = 0;
+        smoothing0 = weight.Whole 0;
+        smoothing1 = weight.Whole 0;
+        smoothing2 = weight.Whole 0;
+        data0 = weight.Whole 0;
+        data1 = weight.Whole 0;
+        data2 = weight.Whole 0;
+      };
+      first = record { width = 8; height = 8; across = 1; down = 1 };
+      second = noChannel;
+      third = noChannel;
+    })
+    (pos 1 ∷ replicate 63 (pos 0)) (replicate 64 8)
+unfolding readText blank expectedTag takenOf recordOf headerOf channelOf lineFault fieldsFault rulesOf numberAt weightAt numberOf bitForm weightOf levelOf fieldOf
+whole-reads = refl
+
+-- T1: 1,024 bytes are allowed; a line that is both too long and unended is 1; the length comes before every field
+too-long : answers 32 (replicate 1025 97 ∷ replicate 1024 97 ∷ text (padded 987) ∷ text (padded 988) ∷ [])
+    ≡ (1, 1) ∷ (7, 1) ∷ (2, 1) ∷ (1, 1) ∷ []
+unfolding answer
+too-long = refl
+
+-- T2: an unended line is 7 whatever it holds, at its own number
+unended : answers 32 (b "x" ∷ cut 1 (text (take 3 whole)) ∷ cut 1 (text whole) ∷ [])
+    ≡ (7, 1) ∷ (7, 3) ∷ (7, 4) ∷ []
+unfolding answer
+unended = refl
+
+-- T3: all lines ended and good, but no more
+stops : answers 32 ([] ∷ text (take 1 whole) ∷ text (take 3 whole) ∷ [])
+    ≡ (7, 1) ∷ (7, 2) ∷ (7, 4) ∷ []
+unfolding answer
+stops = refl
+
+-- T4: `E` too early or too late, and not alone
+end-early : answers 32 (text (drop 3 whole) ∷ text (take 1 whole ++ drop 3 whole) ∷ (text (take 1 whole ++ drop 3 whole) ++ b "x") ∷ text (take 3 whole ++ take 1 (drop 2 whole)) ∷ one 3 0 "E\t" ∷ one 3 0 "E\r" ∷ [])
+    ≡ (1, 1) ∷ (1, 2) ∷ (1, 2) ∷ (1, 4) ∷ (1, 4) ∷ (1, 4) ∷ []
+unfolding answer
+end-early = refl
+
+-- T5: a byte after `E`, before any other test of it
+after-end : answers 32 ((text whole ++ 10 ∷ []) ∷ (text whole ++ replicate 1025 97) ∷ (text whole ++ b "S") ∷ (two 0 7 "1" 0 13 "h7f000000" ++ 10 ∷ []) ∷ [])
+    ≡ (7, 5) ∷ (7, 5) ∷ (7, 5) ∷ (7, 5) ∷ []
+unfolding answer
+after-end = refl
+
+-- T6: an empty line has one field, the empty one; a tag alone
+empty-line : answers 32 ((10 ∷ []) ∷ (10 ∷ text whole) ∷ b "S\n" ∷ [])
+    ≡ (1, 1) ∷ (1, 1) ∷ (1, 1) ∷ []
+unfolding answer
+empty-line = refl
+
+-- T7: per field, spelling and then range
+field-by-field : answers 32 (two 0 1 "12" 0 2 "x" ∷ two 2 1 "2048" 2 2 "-0" ∷ two 1 3 "5" 1 5 "0" ∷ [])
+    ≡ (2, 1) ∷ (5, 3) ∷ (3, 2) ∷ []
+unfolding answer
+field-by-field = refl
+
+-- T8: "a bad mode letter is 1"
+mode-letter : answers 32 (two 0 6 "k" 0 7 "1001" ∷ one 0 6 "js" ∷ one 0 6 "J" ∷ one 0 6 "" ∷ [])
+    ≡ (1, 1) ∷ (1, 1) ∷ (1, 1) ∷ (1, 1) ∷ []
+unfolding answer
+mode-letter = refl
+
+-- T9: cover comes after all 68 fields of its line
+cover : answers 32 (two 1 1 "16" 1 68 "256" ∷ one 1 3 "2" ∷ [])
+    ≡ (4, 2) ∷ (2, 2) ∷ []
+unfolding answer
+cover = refl
+
+-- T10: own sides have no upper end at their field
+own-side : answers 32 (two 1 1 "520" 1 3 "5" ∷ two 1 1 "999992" 1 3 "4" ∷ one 1 1 "65544" ∷ [])
+    ≡ (3, 2) ∷ (2, 2) ∷ (2, 2) ∷ []
+unfolding answer
+own-side = refl
+
+-- T11: the limit 32 of `smooth`, at that field
+limit-32 : answers 32 (two 0 1 "40" 0 6 "k" ∷ two 0 1 "40" 0 2 "x" ∷ one 0 1 "520" ∷ one 0 1 "40" ∷ one 0 1 "32" ∷ [])
+    ≡ (2, 1) ∷ (2, 1) ∷ (2, 1) ∷ (2, 1) ∷ (0, 0) ∷ []
+unfolding answer
+limit-32 = refl
+
+-- T11: 512 in the library
+limit-512 : answers 512 (two 0 1 "40" 0 6 "k" ∷ one 0 1 "520" ∷ one 0 1 "40" ∷ one 0 1 "512" ∷ [])
+    ≡ (1, 1) ∷ (2, 1) ∷ (0, 0) ∷ (0, 0) ∷ []
+unfolding answer
+limit-512 = refl
+
+-- T12: one to six digits, no zero before another digit, no minus
+six-digits : answers 32 (one 0 1 "1000000" ∷ one 0 1 "999999" ∷ one 0 1 "08" ∷ one 0 1 "-8" ∷ one 0 1 "+8" ∷ one 0 3 "0" ∷ [])
+    ≡ (1, 1) ∷ (2, 1) ∷ (1, 1) ∷ (1, 1) ∷ (1, 1) ∷ (2, 1) ∷ []
+unfolding answer
+six-digits = refl
+
+-- T13: the six digits don't count the minus; "never before 0"
+minus : answers 32 (one 2 1 "-0" ∷ one 2 1 "-999999" ∷ one 2 1 "-1000000" ∷ one 2 1 "-01" ∷ one 2 1 "-2047" ∷ one 2 1 "-2048" ∷ [])
+    ≡ (1, 3) ∷ (5, 3) ∷ (1, 3) ∷ (1, 3) ∷ (0, 0) ∷ (5, 3) ∷ []
+unfolding answer
+minus = refl
+
+-- T14: a bit form is exactly `h` and eight of 0-9a-f; else `w` and a number; else 1
+weights : answers 32 (one 0 10 "w256" ∷ one 0 10 "w255" ∷ one 0 10 "w0256" ∷ one 0 10 "w1000000" ∷ one 0 10 "w" ∷ one 0 10 "h7F800000" ∷ one 0 10 "h80000000" ∷ one 0 10 "h7f80000" ∷ one 0 10 "hw1" ∷ one 0 10 "1" ∷ one 0 10 "w-1" ∷ one 0 10 "h7f800001" ∷ one 0 10 "h7f800000" ∷ one 0 10 "h7f7fffff" ∷ one 0 10 "h00000001" ∷ one 0 10 "hffffffff" ∷ [])
+    ≡ (6, 1) ∷ (0, 0) ∷ (1, 1) ∷ (1, 1) ∷ (1, 1) ∷ (1, 1) ∷ (6, 1) ∷ (1, 1) ∷ (1, 1) ∷ (1, 1) ∷ (1, 1) ∷ (6, 1) ∷ (6, 1) ∷ (0, 0) ∷ (0, 0) ∷ (6, 1) ∷ []
+unfolding answer
+weights = refl
+
+-- T15: spare fields must be legal
+spare : answers 32 (one 0 9 "1001" ∷ one 0 15 "w256" ∷ one 0 15 "x" ∷ one 0 6 "j" ∷ [])
+    ≡ (2, 1) ∷ (6, 1) ∷ (1, 1) ∷ (0, 0) ∷ []
+unfolding answer
+spare = refl
+
+-- T16: 1 or 3, before the mode letter
+channel-count : answers 32 (two 0 5 "2" 0 6 "x" ∷ one 0 5 "0" ∷ one 0 5 "4" ∷ one 0 5 "3" ∷ [])
+    ≡ (2, 1) ∷ (2, 1) ∷ (2, 1) ∷ (1, 4) ∷ []
+unfolding answer
+channel-count = refl
+
+-- T17: no byte but 10 and 9 has a meaning of its own
+carriage : ℕ → ℕ
+carriage x = cond (eqb x 10) 13 x
+
+bytes : answers 32 (one 0 15 "w0\t" ∷ one 0 3 "2\t" ∷ one 0 15 "w0\r" ∷ map carriage (text whole) ∷ (239 ∷ 187 ∷ 191 ∷ text whole) ∷ one 0 0 " S" ∷ [])
+    ≡ (1, 1) ∷ (1, 1) ∷ (1, 1) ∷ (7, 1) ∷ (1, 1) ∷ (1, 1) ∷ []
+unfolding answer carriage
+bytes = refl
+
+-- T18: picture sides against this sheet's W and H, at their own fields
+picture : answers 32 (two 0 2 "x" 0 3 "9" ∷ one 0 3 "9" ∷ one 0 4 "9" ∷ [])
+    ≡ (1, 1) ∷ (2, 1) ∷ (2, 1) ∷ []
+unfolding answer
+picture = refl
+
+-- "Quantiser 255 read, 256 is 4"
+quantiser : answers 32 (one 1 5 "255" ∷ one 1 5 "256" ∷ one 1 68 "0" ∷ [])
+    ≡ (0, 0) ∷ (4, 2) ∷ (4, 2) ∷ []
+unfolding answer
+quantiser = refl
+
+-- a limit that could not be a side
+bad-limit : (answer 0 (text whole) ≡ (2, 0)) × (answer 12 (text whole) ≡ (2, 0)) × (answer 520 (text whole) ≡ (2, 0))
+unfolding answer
+bad-limit = (refl, refl, refl)
+
+-- T20: measuring gives both lengths; reading refuses other lengths, last
+unfoldable measured : ℕ → List ℕ → Outcome Lengths
+unfolding readText blank expectedTag takenOf recordOf headerOf channelOf lineFault fieldsFault rulesOf numberAt weightAt numberOf bitForm weightOf levelOf fieldOf
+measured limit t = measuring limit t
+
+lengths : measured 32 (text whole) ≡ Gives (record { levels = 64; tables = 64 })
+unfolding measured
+lengths = refl
+
+unfoldable reads : ℕ → List ℕ → ℕ → ℕ → ℕ × ℕ
+unfolding readText blank expectedTag takenOf recordOf headerOf channelOf lineFault fieldsFault rulesOf numberAt weightAt numberOf bitForm weightOf levelOf fieldOf
+reads limit t n m = answerOf (reading limit t (replicate n (pos 7)) (replicate m 7))
+
+other-lengths : (reads 32 (text whole) 64 64 ≡ (0, 0)) × (reads 32 (text whole) 63 64 ≡ (8, 0)) × (reads 32 (text whole) 64 65 ≡ (8, 0)) × (reads 32 (text whole ++ 10 ∷ []) 63 64 ≡ (7, 5))
+unfolding reads
+other-lengths = (refl, refl, refl, refl)
