@@ -10,7 +10,8 @@ use lib.Dec.{le→leb, leb→le}
 use borrow.Author.Tests.{lt-ltb, le-ltb, ltb-false}
 use lib.Ieee.{Float, nan, inf, fin, up, down, below, lt}
 use lib.Ieee.Fits.{down-pos}
-use Rattle.interval.specs.Interval.{signed, lowEnd, highEnd, InInterval, lowest, highest, dequantised}
+use Rattle.float.specs.Nearest.{signed}
+use Rattle.interval.specs.Interval.{lowEnd, highEnd, InInterval, lowest, highest, dequantised}
 use Rattle.float.specs.Ops.{atLeast, clamp}
 use Rattle.interval.proofs.Ends.{Halves, finite-with, isNeg, lowSign, lowSize, highSize, low-halves, high-halves, dequantised-halves}
 

@@ -1,5 +1,4 @@
 -- Laws of intervals.
 pub mod Ends
 pub mod Clamp
-pub mod Scaled
 pub mod Examples

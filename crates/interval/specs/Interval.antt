@@ -2,18 +2,15 @@
 -- twice the value lies from (2 low − 1) × q to (2 high + 1) × q. Both sides are taken times 2 ^ 149, so that whole numbers are compared.
 -- A level of document 01 stands in both places: low and high are equal.
 use Prim.Native.Nat.{ℕ, _*_, _/_, _^_}
-use mathlib.Core.Bool.{Bool, true, false}
-use lib.IntN.{ℤ, pos, negsuc, negℤ, _+ℤ_, _-ℤ_, _*ℤ_}
+use mathlib.Core.Bool.{Bool, false}
+use lib.IntN.{ℤ, pos, negsuc, _+ℤ_, _-ℤ_, _*ℤ_}
 use lib.Signed.{_≤ℤ_}
 use lib.Ieee.{Float, nan, inf, fin, up, down, binary32, ofInt}
 use Rattle.float.specs.Ops.{clamp}
+use Rattle.float.specs.Nearest.{signed}
 use Rattle.float.specs.Names.{_⊕_, _⊖_, _⊗_, float}
 
-abbrev pub signed : Bool → ℕ → ℤ
-signed false n = pos n
-signed true n = negℤ (pos n)
-
--- ±m × 2 ^ e, times 2 ^ 149: a whole number for each finite f32
+-- ±m × 2 ^ e, times 2 ^ 149: a whole number for each finite f32 (`scaled-exact` of float/proofs/Scaled.antt)
 abbrev pub scaled : Bool → ℕ → ℤ → ℤ
 scaled s m e = signed s (m * up e * 2 ^ 149 / down e)
 
