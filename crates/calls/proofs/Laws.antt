@@ -9,7 +9,8 @@ use lib.Ieee.{nan}
 use Rattle.calls.specs.Run.{Given, count, area, coefs, levelsBefore, sheetOk}
 use Rattle.scalar.specs.Buffers.{Buffers}
 use Rattle.calls.specs.Buffers.{channel, Sized}
-use Rattle.calls.specs.Jobs.{Job, push, fidelity, move, project, Jobs, bad}
+use Rattle.calls.specs.Jobs.{Job, push, fidelity, move, project, Jobs}
+use Rattle.scalar.specs.Blown.{bad}
 use Rattle.calls.specs.Calls.{all, levelOk, tableOk}
 use Rattle.calls.specs.Demand.{SavedIn}
 

@@ -6,5 +6,3 @@ pub mod Legal
 pub mod Facts
 pub mod Step
 pub mod Runs
-pub mod Saved
-pub mod Still

@@ -15,7 +15,9 @@ use lib.Ieee.{Float, nan}
 use Rattle.calls.specs.Run.{Sheet, Place, Given, fresh, place, count, area, coefs, levelsBefore, sheetOk, placesOk, legal}
 use Rattle.scalar.specs.Buffers.{Buffers}
 use Rattle.calls.specs.Buffers.{Name, Saved, get, channel, putChannel, joined, Sized}
-use Rattle.calls.specs.Jobs.{Job, push, fidelity, move, project, Call, on, blend, turn, blendTurn, Jobs, next, fixed, bad, anyBad, isBlown}
+use Rattle.calls.specs.Jobs.{Job, push, fidelity, move, project, Call, on, blend, turn, blendTurn, Jobs, next, fixed, isBlown}
+use Rattle.scalar.specs.Blown.{bad, anyBad}
+use Rattle.scalar.specs.Blown as Blown
 use Rattle.calls.specs.Calls.{Answer, refused, done, blown, State, Outcome, first, turnTests, lent, lentLevels, all, buffersLong, valuesLong, lengths, lendTests, refusal, levelOk, tableOk, advance, blended, reply, worked, accept, settle, call, Plain, plainAccept, plainSettle, plain}
 use Rattle.calls.proofs.Laws.{GivenOk, AllIn, Laws}
 use Rattle.calls.proofs.Parts.{channel-sized, put-sized, put-same, put-other, joined-channels}
@@ -84,7 +86,7 @@ none-bad (x ∷ xs) e (suc i) h = none-bad xs (or-false-r (bad x) (anyBad xs) e)
 
 -- a channel that is not blown has finite coefficients
 coefs-fine : (G : Given) (c : ℕ) (b : Buffers) → coefs (G .sheet) c ≤ length (b .saved) → isBlown G c b ≡ false → (k : ℕ) → k < coefs (G .sheet) c → bad (getD (b .saved) k nan) ≡ false
-unfolding isBlown
+unfolding Blown.isBlown
 coefs-fine G c b fits e k h =
     let l : List Float = take (coefs (G .sheet) c) (b .saved) in
     ap bad (sym (getD-take (coefs (G .sheet) c) (b .saved) k nan h))

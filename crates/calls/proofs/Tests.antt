@@ -1,7 +1,7 @@
 -- What the tests of a call tell: of each channel, and of refusals that were not given.
 use mathlib.Core.Path.{_≡_, refl, sym, ap, _∙_, subst}
 use mathlib.Core.Logic.{_≢_, _⊎_, inl, inr}
-use Prim.Native.Nat.{ℕ, zero, suc, _<_}
+use Prim.Native.Nat.{ℕ, zero, suc, _-_, _<_}
 use native.Mathlib.Nat.{le-of-suc-le-suc, not-suc-le-zero, eq-or-lt-of-le}
 use native.Mathlib.Omega.{arith}
 use native.Mathlib.Decide.{ℕ-discrete}
@@ -9,7 +9,8 @@ use mathlib.Core.Bool.{Bool, true, false, not, _&&_, _||_, cond}
 use mathlib.Core.List.{List, [], _∷_, _++_, map}
 use lib.Dec.{T}
 use lib.Ieee.Fits.{and-l, and-r, and-i}
-use lib.ListN.{length, getD}
+use lib.ListN.{length, getD, take, drop}
+use Rattle.fold.specs.Part.{part}
 use Rattle.calls.specs.Run.{Sheet, Place, Given, every, among, legal}
 use Rattle.calls.specs.Jobs.{Call, on, blend}
 use Rattle.calls.specs.Calls.{Tests, first, all, turnTests, lendTests, lentLevels, refusal}
@@ -76,6 +77,20 @@ module _ {A : Type 0} where
   all-anywhere f [] d t u i = u
   all-anywhere f (x ∷ xs) d t u zero = and-l (f x) (all f xs) t
   all-anywhere f (x ∷ xs) d t u (suc i) = all-anywhere f xs d (and-r (f x) (all f xs) t) u i
+
+  -- and at each place of a part of it
+  all-drop : (f : A → Bool) (xs : List A) (n : ℕ) → T (all f xs) → T (all f (drop n xs))
+  all-drop f xs zero t = t
+  all-drop f [] (suc n) t = t
+  all-drop f (x ∷ xs) (suc n) t = all-drop f xs n (and-r (f x) (all f xs) t)
+
+  all-take : (f : A → Bool) (xs : List A) (n : ℕ) → T (all f xs) → T (all f (take n xs))
+  all-take f xs zero t = tt
+  all-take f [] (suc n) t = t
+  all-take f (x ∷ xs) (suc n) t = and-i (f x) (all f (take n xs)) (and-l (f x) (all f xs) t) (all-take f xs n (and-r (f x) (all f xs) t))
+
+  pub all-part : (f : A → Bool) (xs : List A) (a e : ℕ) → T (all f xs) → T (all f (part xs a e))
+  all-part f xs a e t = all-take f (drop a xs) (e - a) (all-drop f xs a t)
 
   pub getD-map-lt : {B : Type 0} (g : A → B) (xs : List A) (a : A) (b : B) (i : ℕ) → i < length xs → getD (map g xs) i b ≡ g (getD xs i a)
   getD-map-lt g [] a b i h = absurd (not-suc-le-zero h)

@@ -1,12 +1,10 @@
 -- The five jobs, and the recursion that fixes a channel's buffers for each count of accepted jobs (document 01, "Jobs and positions").
 -- `Jobs` stands for the arithmetic of the jobs, which is the solver's.
 use Prim.Native.Nat.{ℕ, zero, suc, _*_, _/_, _%_}
-use mathlib.Core.Bool.{Bool, true, false, _||_}
-use mathlib.Core.List.{List, [], _∷_}
-use lib.ListN.{take}
-use lib.Ieee.{Float, nan, inf, fin}
+use mathlib.Core.Bool.{Bool}
 use Rattle.calls.specs.Run.{Given, count, area, coefs}
 use Rattle.scalar.specs.Buffers.{Buffers}
+use Rattle.scalar.specs.Blown as Blown
 use Rattle.calls.specs.Buffers.{channel, joined}
 
 -- the jobs of one channel; `fidelity` is document 01's data, which is a word of antt
@@ -51,14 +49,5 @@ fixed J G zero c = J .start G c
 fixed J G (suc p) c = next J G (p % 5) (p / 5) (fixed J G p) c
 
 -- the condition of job 5: "any plane value or saved coefficient is NaN or infinite"
-abbrev pub bad : Float → Bool
-bad nan = true
-bad (inf s) = true
-bad (fin s m e) = false
-
-abbrev pub anyBad : List Float → Bool
-anyBad [] = false
-anyBad (x ∷ xs) = bad x || anyBad xs
-
-unfoldable pub isBlown : Given → ℕ → Buffers → Bool
-isBlown G c b = anyBad (b .plane) || anyBad (take (coefs (G .sheet) c) (b .saved))
+abbrev pub isBlown : Given → ℕ → Buffers → Bool
+isBlown G c b = Blown.isBlown (coefs (G .sheet) c) (b .plane) (b .saved)

@@ -1,2 +1,3 @@
--- Demand 3 of the solver.
+-- The laws of the solver's jobs, and demand 3 of them.
 pub mod Laws
+pub mod Demand3

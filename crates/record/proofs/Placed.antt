@@ -1,0 +1,111 @@
+-- The struct with other places: what stays, and one channel more at a time.
+use mathlib.Core.Path.{_≡_, refl, sym, ap, _∙_}
+use Prim.Native.Nat.{ℕ, zero, suc, _+_, _≤_, _<_}
+use native.Mathlib.Nat.{le-of-suc-le-suc, not-suc-le-zero}
+use native.Mathlib.Omega.{arith}
+use native.Mathlib.Numerals.{add-one}
+use mathlib.Core.List.{List, [], _∷_, map}
+use lib.ListN.{length, getD, set, take, length-map}
+use lib.Seq.{take-all}
+use Rattle.calls.specs.Run.{Own, Place, fresh}
+use Rattle.calls.proofs.Tests.{getD-map-lt}
+use Rattle.record.specs.Model.{ownOf, placeOf, sheetOf, placesOf, withPlace, withPlaces, placed, noChannel}
+use Rattle.record.specs.declared.Run.{Run}
+use Rattle.record.specs.declared.Channel.{Channel}
+use Rattle.record.proofs.Channels.{first-long, at-place}
+
+-- ---- lists
+
+-- its own places
+none : (n : ℕ) (xs : List Channel) → withPlaces xs (map placeOf (take n xs)) ≡ xs
+none n [] = refl
+none zero (x ∷ xs) = refl
+none (suc n) (x ∷ xs) = ap (λ (l : List Channel). x ∷ l) (none n xs)
+
+-- one other place
+one : (n : ℕ) (xs : List Channel) (c : ℕ) (q : Place) → c < n → withPlaces xs (set (map placeOf (take n xs)) c q) ≡ set xs c (withPlace (getD xs c noChannel) q)
+one n [] c q h = refl
+one zero (x ∷ xs) c q h = absurd (not-suc-le-zero h)
+one (suc n) (x ∷ xs) zero q h = ap (λ (l : List Channel). withPlace x q ∷ l) (none n xs)
+one (suc n) (x ∷ xs) (suc c) q h = ap (λ (l : List Channel). x ∷ l) (one n xs c q (le-of-suc-le-suc h))
+
+-- the first k of other places, and one more
+more : (xs : List Channel) (qs : List Place) (k : ℕ) → k < length xs → k < length qs
+    → set (withPlaces xs (take k qs)) k (withPlace (getD (withPlaces xs (take k qs)) k noChannel) (getD qs k fresh)) ≡ withPlaces xs (take (suc k) qs)
+more [] qs k h l = absurd (not-suc-le-zero h)
+more (x ∷ xs) [] k h l = absurd (not-suc-le-zero l)
+more (x ∷ xs) (q ∷ qs) zero h l = none-left xs
+  where
+    none-left : (ys : List Channel) → withPlace x q ∷ ys ≡ withPlace x q ∷ withPlaces ys []
+    none-left [] = refl
+    none-left (y ∷ ys) = refl
+more (x ∷ xs) (q ∷ qs) (suc k) h l = ap (λ (r : List Channel). withPlace x q ∷ r) (more xs qs k (le-of-suc-le-suc h) (le-of-suc-le-suc l))
+
+none-yet : (xs : List Channel) (qs : List Place) → withPlaces xs (take 0 qs) ≡ xs
+none-yet [] qs = refl
+none-yet (x ∷ xs) qs = refl
+
+owns-stay : (n : ℕ) (xs : List Channel) (ps : List Place) → map ownOf (take n (withPlaces xs ps)) ≡ map ownOf (take n xs)
+owns-stay n [] ps = refl
+owns-stay n (x ∷ xs) [] = refl
+owns-stay zero (x ∷ xs) (p ∷ ps) = refl
+owns-stay (suc n) (x ∷ xs) (p ∷ ps) = ap (λ (l : List Own). ownOf x ∷ l) (owns-stay n xs ps)
+
+places-are : (n : ℕ) (xs : List Channel) (ps : List Place) → length ps ≡ n → n ≤ length xs → map placeOf (take n (withPlaces xs ps)) ≡ ps
+places-are n xs [] e h = rw (← e)
+places-are n [] (p ∷ ps) e h = absurd (not-suc-le-zero (rw (← e) at h))
+places-are n (x ∷ xs) (p ∷ ps) e h = rw (← e) (ap (λ (l : List Place). p ∷ l) (places-are (length ps) xs ps refl (le-of-suc-le-suc (rw (← e) at h))))
+
+-- ---- the struct
+
+with : Run → List Channel → Run
+with r cs = record { w = r .w; h = r .h; n = r .n; smoothing = r .smoothing; count = r .count; channels = cs }
+
+pub placed-same : (r : Run) → placed r (placesOf r) ≡ r
+unfolding with
+placed-same r = ap (with r) (none (r .count) (r .channels))
+
+pub placed-one : (r : Run) (c : ℕ) (q : Place) → c < r .count
+    → record { w = r .w; h = r .h; n = r .n; smoothing = r .smoothing; count = r .count; channels = set (r .channels) c (withPlace (getD (r .channels) c noChannel) q) }
+    ≡ placed r (set (placesOf r) c q)
+unfolding with
+placed-one r c q h = ap (with r) (sym (one (r .count) (r .channels) c q h))
+
+pub placed-none : (r : Run) (qs : List Place) → r ≡ placed r (take 0 qs)
+unfolding with
+placed-none r qs = ap (with r) (sym (none-yet (r .channels) qs))
+
+-- a change of each place, channel by channel: one more, at the code's `k + 1`, and all of them
+module _ (r : Run) (long : r .count ≤ length (r .channels)) (g : Place → Place) where
+  counted : length (map g (placesOf r)) ≡ r .count
+  counted = length-map (placesOf r) g ∙ first-long placeOf fresh r long
+
+  pub placed-more : (k : ℕ) → k < r .count
+      → let s = placed r (take k (map g (placesOf r))) in
+      record { w = s .w; h = s .h; n = s .n; smoothing = s .smoothing; count = s .count; channels = set (s .channels) k (withPlace (getD (s .channels) k noChannel) (g (placeOf (getD (r .channels) k noChannel)))) }
+      ≡ placed r (take (k + 1) (map g (placesOf r)))
+  unfolding with
+  placed-more k h =
+      let is : g (placeOf (getD (r .channels) k noChannel)) ≡ getD (map g (placesOf r)) k fresh =
+      ap g (sym (at-place r k long h)) ∙ sym (getD-map-lt g (placesOf r) fresh fresh k (omega (arith, first-long placeOf fresh r long))) in
+      rw (is, add-one) (ap (with r) (more (r .channels) (map g (placesOf r)) k (omega arith) (omega (arith, counted))))
+
+  pub placed-all : (k : ℕ) → r .count ≤ k → placed r (take k (map g (placesOf r))) ≡ placed r (map g (placesOf r))
+  placed-all k h = ap (placed r) (take-all k (map g (placesOf r)) (omega (arith, counted)))
+
+pub sheet-stays : (r : Run) (ps : List Place) → sheetOf (placed r ps) ≡ sheetOf r
+sheet-stays r ps =
+    ap (λ (os : List Own). record { W = r .w; H = r .h; N = r .n; smoothing = r .smoothing; count = r .count; owns = os }) (owns-stay (r .count) (r .channels) ps)
+
+pub places-placed : (r : Run) (ps : List Place) → length ps ≡ r .count → r .count ≤ length (r .channels) → placesOf (placed r ps) ≡ ps
+places-placed r ps e h = places-are (r .count) (r .channels) ps e h
+
+pub placed-twice : (r : Run) (ps qs : List Place) → length ps ≡ r .count → length qs ≡ r .count → placed (placed r ps) qs ≡ placed r qs
+unfolding with
+placed-twice r ps qs e f = ap (with r) (twice (r .channels) ps qs (e ∙ sym f))
+  where
+    twice : (xs : List Channel) (ps qs : List Place) → length ps ≡ length qs → withPlaces (withPlaces xs ps) qs ≡ withPlaces xs qs
+    twice [] ps qs e = refl
+    twice (x ∷ xs) [] qs e = refl
+    twice (x ∷ xs) (p ∷ ps) [] e = absurd (omega arith)
+    twice (x ∷ xs) (p ∷ ps) (q ∷ qs) e = ap (λ (l : List Channel). withPlace x q ∷ l) (twice xs ps qs (omega arith))

@@ -1,0 +1,17 @@
+-- `place_ok`: each test in turn.
+use mathlib.Core.Path.{_≡_}
+use mathlib.Core.Bool.{_&&_, _||_, not}
+use Rattle.calls.specs.Run.{placeOk}
+use borrow.Author.Needs.{needs}
+use Rattle.record.proofs.legal.place_ok.Statement.{statement}
+use Rattle.record.proofs.legal.place_ok.Tie as tie
+
+returns : tie.Need-returns
+unfolding placeOk
+returns c = λ S n. rw (n, ← c .before .before .before .both .ensures, ← c .before .either .ensures) (c .both2 .ensures)
+
+pub place-ok-spec : {M : Type 1} → statement M
+place-ok-spec =
+    tie.close
+    (tie.spec (λ c. search needs) (λ c. search needs) (λ c κs. search needs) (λ c κs. search needs)
+    (λ c κs. search needs) returns)

@@ -1,0 +1,31 @@
+-- `job_refusal`: by what is lent, and then by turn.
+use mathlib.Core.Path.{_≡_, sym, _∙_}
+use mathlib.Core.Bool.{false}
+use mathlib.Core.List.{[]}
+use Rattle.calls.specs.Jobs.{on}
+use Rattle.calls.proofs.Tests.{by-lent, by-turn, lend-legal}
+use Rattle.record.specs.Model.{givenOf, placesOf}
+use borrow.Author.Needs.{needs}
+use Rattle.record.proofs.refusals.job_refusal.Statement.{statement}
+use Rattle.record.proofs.refusals.job_refusal.Tie as tie
+
+returns : tie.Need-returns
+returns c =
+    λ j ls ts t l.
+    by-lent (givenOf (c .before .before .before .args .run) ls ts) (placesOf (c .before .before .before .args .run)) (on j (c .before .before .before .args .c)) (c .before .before .before .args .lengths .now)
+    (rw l (c .before .lend-refusal .ensures ls ts)) (c .if1 .taken)
+
+turn-refusal-requires : tie.Need-turn-refusal-requires
+turn-refusal-requires c κs =
+    lend-legal (givenOf (c .before .before .before .args .run) [] []) (placesOf (c .before .before .before .args .run)) (c .before .before .before .args .lengths .now) false (sym (c .before .lend-refusal .ensures [] []) ∙ c .if1 .left)
+
+returns-2 : tie.Need-returns-2
+returns-2 c =
+    λ j ls ts t l.
+    by-turn (givenOf (c .before .before .before .before .args .run) ls ts) (placesOf (c .before .before .before .before .args .run)) (on j (c .before .before .before .before .args .c)) (c .before .before .before .before .args .lengths .now)
+    (rw l (sym (c .before .before .lend-refusal .ensures ls ts) ∙ c .before .if1 .left)) (c .turn-refusal .ensures j t)
+
+pub job-refusal-spec : {M : Type 1} → statement M
+job-refusal-spec =
+    tie.close
+    (tie.spec (λ c κs. search needs) returns turn-refusal-requires returns-2)

@@ -1,0 +1,52 @@
+-- `start_refusal`: each return has the outcome of the tests before it.
+use borrow.Author.Tests.{not-true, not-false}
+use mathlib.Core.Path.{_≡_, refl, sym, _∙_, subst}
+use mathlib.Core.Bool.{true, false}
+use lib.Dec.{T}
+use Rattle.calls.specs.Run.{legal}
+use Rattle.calls.specs.Calls.{startRefusal}
+use Rattle.record.specs.Model.{sheetOf, placesOf}
+use Rattle.record.proofs.Tested.{is-legal}
+use borrow.Author.Needs.{needs}
+use Rattle.record.proofs.refusals.start_refusal.Statement.{statement}
+use Rattle.record.proofs.refusals.start_refusal.Tie as tie
+
+returns : tie.Need-returns
+unfolding startRefusal
+returns c = rw (sym (c .before .legal .ensures) ∙ not-true (c .before .legal .result) (c .if1 .taken))
+
+total-requires : tie.Need-total-requires
+total-requires c κs = is-legal (c .before .before .before .before .args .run) (c .before .legal .ensures) (c .if1 .left)
+
+values-long-requires : tie.Need-values-long-requires
+values-long-requires c κs = is-legal (c .before .before .before .before .before .before .args .run) (c .before .before .before .legal .ensures) (c .before .before .if1 .left)
+
+returns-2 : tie.Need-returns-2
+unfolding startRefusal
+returns-2 c =
+    let long = rw (c .before .before .before .all-equal .ensures, c .before .before .before .before .total .ensures, c .before .before .values-long .ensures (c .before .before .before .before .before .before .before .before .before .args .levels .now) (c .before .before .before .before .before .before .before .before .before .args .tables .now) refl refl) at (c .before .both .ensures) in
+    rw (sym (c .before .before .before .before .before .before .legal .ensures) ∙ not-false (c .before .before .before .before .before .before .legal .result) (c .before .before .before .before .before .if1 .left), ← long, not-true (c .before .both .result) (c .if2 .taken))
+
+returns-3 : tie.Need-returns-3
+unfolding startRefusal
+returns-3 c =
+    let long = rw (c .before .before .before .before .before .all-equal .ensures, c .before .before .before .before .before .before .total .ensures, c .before .before .before .before .values-long .ensures (c .before .before .before .before .before .before .before .before .before .before .before .args .levels .now) (c .before .before .before .before .before .before .before .before .before .before .before .args .tables .now) refl refl) at (c .before .before .before .both .ensures) in
+    rw (sym (c .before .before .before .before .before .before .before .before .legal .ensures) ∙ not-false (c .before .before .before .before .before .before .before .before .legal .result) (c .before .before .before .before .before .before .before .if1 .left), ← long, not-false (c .before .before .before .both .result) (c .before .before .if2 .left), ← c .before .tables-ok .ensures, not-true (c .before .tables-ok .result) (c .if3 .taken))
+
+returns-4 : tie.Need-returns-4
+unfolding startRefusal
+returns-4 c =
+    let long = rw (c .before .before .before .before .before .before .before .all-equal .ensures, c .before .before .before .before .before .before .before .before .total .ensures, c .before .before .before .before .before .before .values-long .ensures (c .before .before .before .before .before .before .before .before .before .before .before .before .before .args .levels .now) (c .before .before .before .before .before .before .before .before .before .before .before .before .before .args .tables .now) refl refl) at (c .before .before .before .before .before .both .ensures) in
+    rw (sym (c .before .before .before .before .before .before .before .before .before .before .legal .ensures) ∙ not-false (c .before .before .before .before .before .before .before .before .before .before .legal .result) (c .before .before .before .before .before .before .before .before .before .if1 .left), ← long, not-false (c .before .before .before .before .before .both .result) (c .before .before .before .before .if2 .left), ← c .before .before .before .tables-ok .ensures, not-false (c .before .before .before .tables-ok .result) (c .before .before .if3 .left), ← c .before .levels-ok .ensures, not-true (c .before .levels-ok .result) (c .if4 .taken))
+
+returns-5 : tie.Need-returns-5
+unfolding startRefusal
+returns-5 c =
+    let long = rw (c .before .before .before .before .before .before .before .all-equal .ensures, c .before .before .before .before .before .before .before .before .total .ensures, c .before .before .before .before .before .before .values-long .ensures (c .before .before .before .before .before .before .before .before .before .before .before .before .before .args .levels .now) (c .before .before .before .before .before .before .before .before .before .before .before .before .before .args .tables .now) refl refl) at (c .before .before .before .before .before .both .ensures) in
+    rw (sym (c .before .before .before .before .before .before .before .before .before .before .legal .ensures) ∙ not-false (c .before .before .before .before .before .before .before .before .before .before .legal .result) (c .before .before .before .before .before .before .before .before .before .if1 .left), ← long, not-false (c .before .before .before .before .before .both .result) (c .before .before .before .before .if2 .left), ← c .before .before .before .tables-ok .ensures, not-false (c .before .before .before .tables-ok .result) (c .before .before .if3 .left), ← c .before .levels-ok .ensures, not-false (c .before .levels-ok .result) (c .if4 .left))
+
+pub start-refusal-spec : {M : Type 1} → statement M
+start-refusal-spec =
+    tie.close
+    (tie.spec (λ c κs. search needs) returns total-requires (λ c κs. search needs) values-long-requires
+    (λ c κs. search needs) returns-2 (λ c κs. search needs) returns-3 (λ c κs. search needs) returns-4 returns-5)

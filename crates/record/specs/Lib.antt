@@ -1,0 +1,2 @@
+-- The struct as the model's record.
+pub mod Model

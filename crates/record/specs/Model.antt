@@ -1,0 +1,69 @@
+-- The code's struct as the model's record: the first `count` of its three channels, a sheet's half and a place of each.
+use Prim.Native.Nat.{ℕ}
+use mathlib.Core.Bool.{Bool, false}
+use mathlib.Core.List.{List, [], _∷_, map}
+use lib.ListN.{take}
+use lib.Ieee.{nan}
+use lib.Dec.{T}
+use lib.IntN.{ℤ}
+use Rattle.calls.specs.Run.{Own, Sheet, Place, Given, legal}
+use Rattle.calls.specs.Calls as Calls
+use Rattle.record.specs.declared.Run.{Run}
+use Rattle.record.specs.declared.Channel.{Channel}
+use Rattle.record.specs.declared.Answer.{Answer}
+use Rattle.record.specs.declared.Answer.the-variants.{Refused, Done, Blown}
+
+abbrev pub ownOf : Channel → Own
+ownOf c = record { width = c .width; height = c .height; across = c .across; down = c .down; data-weight = c .weight }
+
+abbrev pub placeOf : Channel → Place
+placeOf c = record { position = c .position; mark = c .mark }
+
+abbrev pub sheetOf : Run → Sheet
+sheetOf r =
+    record {
+      W = r .w;
+      H = r .h;
+      N = r .n;
+      smoothing = r .smoothing;
+      count = r .count;
+      owns = map ownOf (take (r .count) (r .channels));
+    }
+
+abbrev pub placesOf : Run → List Place
+placesOf r = map placeOf (take (r .count) (r .channels))
+
+-- what a call is given: the record's sheet, and the levels and tables that it is lent
+abbrev pub givenOf : Run → List ℤ → List ℕ → Given
+givenOf r levels tables = record { sheet = sheetOf r; levels = levels; tables = tables }
+
+-- a legal record: anything else is refusal 13
+abbrev pub Legal : Run → Type 0
+Legal r = T (legal (sheetOf r) (placesOf r))
+
+-- ---- the struct with other places: channel by channel, as long as there are places; the rest of it stays
+
+abbrev pub withPlace : Channel → Place → Channel
+withPlace c p =
+    record { width = c .width; height = c .height; across = c .across; down = c .down; weight = c .weight; position = p .position; mark = p .mark }
+
+abbrev pub withPlaces : List Channel → List Place → List Channel
+withPlaces [] ps = []
+withPlaces (c ∷ cs) [] = c ∷ cs
+withPlaces (c ∷ cs) (p ∷ ps) = withPlace c p ∷ withPlaces cs ps
+
+abbrev pub placed : Run → List Place → Run
+placed r ps =
+    record { w = r .w; h = r .h; n = r .n; smoothing = r .smoothing; count = r .count; channels = withPlaces (r .channels) ps }
+
+-- what is read past the three channels
+abbrev pub noChannel : Channel
+noChannel = record { width = 0; height = 0; across = 0; down = 0; weight = nan; position = 0; mark = false }
+
+-- ---- answers
+
+-- document 01's number and values for each case: a refusal's number in the table, accepted, accepted and blown
+abbrev pub answerOf : Answer → Calls.Answer
+answerOf (Refused n) = Calls.refused n
+answerOf Done = Calls.done
+answerOf Blown = Calls.blown

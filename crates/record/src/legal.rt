@@ -1,0 +1,139 @@
+// Legal records: refusal 13 is for any other.
+use crate::Channel;
+use crate::Run;
+ghost use mathlib.Core.Path.{_≡_};
+ghost use mathlib.Core.Bool.{_&&_, _||_, not};
+ghost use Prim.Native.Nat.{ℕ, _+_, _/_, _≤_};
+ghost use lib.ListN.{getD};
+ghost use lib.Dec.{eqb};
+ghost use Rattle.calls.specs.Run.{Sheet, legal, side, fullSide, factor, weight, own, ownOk, place, placeOk, headerOk, placesOk, every, blendsIn};
+ghost use Rattle.record.specs.Model.{ownOf, placeOf, sheetOf, placesOf};
+
+pub fn both(a: bool, b: bool) -> bool
+    ensures { λ r. ⌜ r ≡ (a && b) ⌝ }
+{
+    if a { b } else { false }
+}
+
+pub fn either(a: bool, b: bool) -> bool
+    ensures { λ r. ⌜ r ≡ (a || b) ⌝ }
+{
+    if a { true } else { b }
+}
+
+// A multiple of 8, at least 8.
+fn side_ok(x: u32) -> bool
+    ensures { λ r. ⌜ r ≡ side x ⌝ }
+{
+    both(x % 8 == 0, 8 <= x)
+}
+
+// A multiple of 8, 8 to 512.
+fn full_side_ok(x: u32) -> bool
+    ensures { λ r. ⌜ r ≡ fullSide x ⌝ }
+{
+    both(side_ok(x), x <= 512)
+}
+
+fn factor_ok(x: u32) -> bool
+    ensures { λ r. ⌜ r ≡ factor x ⌝ }
+{
+    both(1 <= x, x <= 4)
+}
+
+// No sign bit, not infinite, no NaN: the bits are below those of the infinity.
+fn weight_ok(x: f32) -> bool
+    ensures { λ r. ⌜ r ≡ weight x ⌝ }
+{
+    if x != x {
+        return false;
+    }
+    f32::to_bits(x) < 2139095040
+}
+
+// A channel's own numbers, in a sheet of w by h: its sides, factors, cover and data weight.
+fn own_ok(w: u32, h: u32, c: Channel) -> bool
+    ensures { λ r. ⌜ ((S : Sheet) → S .W ≡ w → S .H ≡ h → r ≡ ownOk S (ownOf c)) ⌝ }
+{
+    let across = (c.width as u64) * (c.across as u64) <= w as u64;
+    let down = (c.height as u64) * (c.down as u64) <= h as u64;
+    let sides = both(side_ok(c.width), side_ok(c.height));
+    let factors = both(both(sides, factor_ok(c.across)), factor_ok(c.down));
+    both(both(both(factors, across), down), weight_ok(c.weight))
+}
+
+// A position from 0 to 5N, and a mark only at a positive multiple of 5.
+fn place_ok(n: u32, c: Channel) -> bool
+    ensures { λ r. ⌜ ((S : Sheet) → S .N ≡ n → r ≡ placeOk S (placeOf c)) ⌝ }
+{
+    let within = c.position as u64 <= 5 * (n as u64);
+    let ended = both(0 < c.position, c.position % 5 == 0);
+    both(within, either(!c.mark, ended))
+}
+
+// Blends among the first `position` jobs of a channel.
+fn blends(position: u32) -> u64
+    ensures { λ r. ⌜ r ≡ blendsIn position ⌝ }
+{
+    (position as u64 + 2) / 5
+}
+
+fn header_ok(run: Run) -> bool
+    ensures { λ r. ⌜ r ≡ headerOk (sheetOf run) ⌝ }
+{
+    let sides = both(full_side_ok(run.w), full_side_ok(run.h));
+    let numbers = both(both(sides, run.n <= 1000), weight_ok(run.smoothing));
+    both(numbers, either(run.count == 1, run.count == 3))
+}
+
+fn owns_ok(run: Run) -> bool
+    requires { ⌜ run .count ≤ 3 ⌝ }
+    ensures { λ r. ⌜ r ≡ every (run .count) (λ c. ownOk (sheetOf run) (own (sheetOf run) c)) ⌝ }
+{
+    let channels = run.channels;
+    let mut ok = true;
+    for c in 0..run.count as usize {
+        ok = both(ok, own_ok(run.w, run.h, channels[c]));
+    }
+    ok
+}
+
+// Each channel's place is legal.
+fn each_place_ok(run: Run) -> bool
+    requires { ⌜ run .count ≤ 3 ⌝ }
+    ensures { λ r. ⌜ r ≡ every (run .count) (λ c. placeOk (sheetOf run) (place (placesOf run) c)) ⌝ }
+{
+    let channels = run.channels;
+    let mut ok = true;
+    for c in 0..run.count as usize {
+        ok = both(ok, place_ok(run.n, channels[c]));
+    }
+    ok
+}
+
+// All channels have had as many blends as the first.
+fn equal_blends(run: Run) -> bool
+    requires { ⌜ run .count ≤ 3 ⌝ }
+    ensures { λ r. ⌜ r ≡ every (run .count) (λ c. eqb (blendsIn (place (placesOf run) c .position)) (blendsIn (place (placesOf run) 0 .position))) ⌝ }
+{
+    let zero = run.channels[0];
+    let first = blends(zero.position);
+    let mut ok = true;
+    for c in 0..run.count as usize {
+        let x = run.channels[c];
+        ok = both(ok, blends(x.position) == first);
+    }
+    ok
+}
+
+// Whether the record is legal, by the rules of document 01.
+// This rules out a record accepted with a position past 5N, and one refused for a mark at a positive multiple of 5.
+pub fn legal(run: Run) -> bool
+    ensures { λ r. ⌜ r ≡ legal (sheetOf run) (placesOf run) ⌝ }
+{
+    if !header_ok(run) {
+        return false;
+    }
+    let places = both(each_place_ok(run), equal_blends(run));
+    both(owns_ok(run), places)
+}

@@ -1,0 +1,43 @@
+// The run's record, which records are legal, and what each call refuses (document 01, "Jobs and positions" and the table of refusals).
+pub mod legal;
+pub mod places;
+pub mod refusals;
+pub mod scans;
+
+ghost use mathlib.Core.Path.{_≡_};
+
+// A channel of the run: own sides, factors across and down, data weight, position and mark.
+#[repr(C)]
+pub struct Channel {
+    pub width: u32,
+    pub height: u32,
+    pub across: u32,
+    pub down: u32,
+    pub weight: f32,
+    pub position: u32,
+    pub mark: bool,
+}
+
+// The run's record: W, H, N, the smoothing weight, and its channels, the first `count` of three.
+#[repr(C)]
+pub struct Run {
+    pub w: u32,
+    pub h: u32,
+    pub n: u32,
+    pub smoothing: f32,
+    pub count: u32,
+    pub channels: [Channel; 3],
+}
+
+// A call's answer: refused, with the number in the table; done; done, and the channel is now marked blown.
+pub enum Answer {
+    Refused(u8),
+    Done,
+    Blown,
+}
+
+// A call's answer, with the record as it is afterwards.
+pub struct Told {
+    pub answer: Answer,
+    pub run: Run,
+}
