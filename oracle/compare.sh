@@ -6,7 +6,7 @@ rt staticlib probe
 rt staticlib smoother
 cd oracle
 cargo build --release --bins
-for run in arith utils "sheets --compare"; do
+for run in arith utils jobs "sheets --compare"; do
     # shellcheck disable=SC2086
     ./target/release/$run
 done

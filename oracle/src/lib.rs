@@ -2,6 +2,7 @@
 pub mod arith;
 pub mod bench;
 pub mod floats;
+pub mod jobs;
 pub mod picture;
 pub mod probe;
 pub mod random;

@@ -46,6 +46,109 @@ exports! { probe_utils:
     );
 }
 
+exports! { probe_jobs:
+    fn probe_start(
+        plane: *mut f32,
+        plane_len: usize,
+        prior: *mut f32,
+        prior_len: usize,
+        gradient: *mut f32,
+        gradient_len: usize,
+        across: *mut f32,
+        across_len: usize,
+        down: *mut f32,
+        down_len: usize,
+        saved: *mut f32,
+        saved_len: usize,
+        own_w: usize,
+        own_h: usize,
+        across_factor: usize,
+        down_factor: usize,
+        w: usize,
+        h: usize,
+        levels: *const i16,
+        levels_len: usize,
+        table: *const u16,
+        table_len: usize,
+    );
+    fn probe_push(
+        plane: *mut f32,
+        plane_len: usize,
+        prior: *mut f32,
+        prior_len: usize,
+        w: u32,
+        h: u32,
+        iterations: u32,
+        weight: f32,
+        step: u32,
+    );
+    fn probe_data(
+        saved: *const f32,
+        saved_len: usize,
+        gradient: *mut f32,
+        gradient_len: usize,
+        own_w: usize,
+        own_h: usize,
+        across_factor: usize,
+        down_factor: usize,
+        w: usize,
+        h: usize,
+        weight: f32,
+        levels: *const i16,
+        levels_len: usize,
+        table: *const u16,
+        table_len: usize,
+    );
+    fn probe_blend(
+        plane: *const f32,
+        plane_len: usize,
+        gradient: *mut f32,
+        gradient_len: usize,
+        across: *mut f32,
+        across_len: usize,
+        down: *mut f32,
+        down_len: usize,
+        channels: usize,
+        w: u32,
+        h: u32,
+        iterations: u32,
+        weight: f32,
+        step: u32,
+    );
+    fn probe_move(
+        plane: *mut f32,
+        plane_len: usize,
+        gradient: *const f32,
+        gradient_len: usize,
+        w: u32,
+        h: u32,
+        iterations: u32,
+        weight: f32,
+        step: u32,
+    );
+    fn probe_project(
+        plane: *mut f32,
+        plane_len: usize,
+        across: *mut f32,
+        across_len: usize,
+        down: *mut f32,
+        down_len: usize,
+        saved: *mut f32,
+        saved_len: usize,
+        own_w: usize,
+        own_h: usize,
+        across_factor: usize,
+        down_factor: usize,
+        w: usize,
+        h: usize,
+        levels: *const i16,
+        levels_len: usize,
+        table: *const u16,
+        table_len: usize,
+    );
+    fn probe_blown(plane: *const f32, plane_len: usize, saved: *const f32, saved_len: usize, n: usize) -> u32;
+}
+
 exports! { smoother_sheet:
     fn smoother_measure(text: *const u8, len: usize, limit: u32, levels: *mut usize, tables: *mut usize, line: *mut usize) -> u32;
     fn smoother_read(

@@ -84,9 +84,19 @@ impl Run {
         (self.w * self.h) as usize
     }
 
-    /// The constants of the next step, and the next term: statements of `solve` and `solver_step`.
+    /// The constants of the next step, and the next term.
     pub fn constants(&self) -> (Constants, f32) {
-        let (term, iterations) = (self.term, self.iterations);
+        self.constants_at(self.term)
+    }
+
+    /// The constants of a step, counted from 0.
+    pub fn constants_of(&self, step: usize) -> Constants {
+        self.constants_at((0..step).fold(1.0, |term, _| self.constants_at(term).1)).0
+    }
+
+    /// Statements of `solve` and `solver_step`.
+    fn constants_at(&self, term: f32) -> (Constants, f32) {
+        let iterations = self.iterations;
         let radius = (self.count() as f32).sqrt() / 2.0;
         let next_term = f32::midpoint(1.0, mul_add!(4.0_f32, term.powi(2), 1.0).sqrt());
         let factor = (term - 1.0) / next_term;
@@ -96,7 +106,7 @@ impl Run {
     }
 
     /// Statements of `solve`.
-    fn push(&mut self, c: usize, factor: f32) {
+    pub fn push(&mut self, c: usize, factor: f32) {
         let count = self.count();
         let aux = &mut self.auxs[c];
         for i in 0..count {
@@ -107,7 +117,7 @@ impl Run {
     }
 
     /// Statements of `solver_step`.
-    fn data(&mut self, c: usize) {
+    pub fn data(&mut self, c: usize) {
         let (w, h, count) = (self.w, self.h, self.count());
         let pweight = &self.pweight;
         let aux = &mut self.auxs[c];
@@ -119,7 +129,7 @@ impl Run {
         self.positions[c] += 1;
     }
 
-    fn blend(&mut self, second_order_weight: f32) {
+    pub fn blend(&mut self, second_order_weight: f32) {
         let (w, h, nchannel) = (self.w, self.h, self.channels());
         tv_gradient(w, h, nchannel, &mut self.auxs);
         tgv_gradient(w, h, nchannel, &mut self.auxs, second_order_weight);
@@ -127,7 +137,7 @@ impl Run {
     }
 
     /// Statements of `solver_step`.
-    fn move_plane(&mut self, c: usize, step_size: f32) {
+    pub fn move_plane(&mut self, c: usize, step_size: f32) {
         let count = self.count();
         let aux = &mut self.auxs[c];
         let norm = aux.obj_gradient.iter().fold(0.0, |acc, &x| mul_add!(x, x, acc)).sqrt();
@@ -139,7 +149,7 @@ impl Run {
         self.positions[c] += 1;
     }
 
-    fn project(&mut self, c: usize) {
+    pub fn project(&mut self, c: usize) {
         project_onto_box(self.w, self.h, &mut self.auxs[c], &self.coefs[c]);
         self.positions[c] += 1;
         let own = self.coefs[c].rounded_px_count as usize;

@@ -20,7 +20,20 @@ impl Tally {
 
     /// Counts one comparison; `show` describes a difference, and the first few of each kind are printed.
     pub fn count(&mut self, equal: bool, show: impl FnOnce() -> String) {
-        let row = self.rows.last_mut().expect("a kind was started");
+        self.count_at(self.rows.len().checked_sub(1).expect("a kind was started"), equal, show);
+    }
+
+    /// Counts one comparison of a kind, which starts here where it is new.
+    pub fn count_in(&mut self, kind: &str, equal: bool, show: impl FnOnce() -> String) {
+        let at = self.rows.iter().position(|row| row.0 == kind).unwrap_or_else(|| {
+            self.kind(kind);
+            self.rows.len() - 1
+        });
+        self.count_at(at, equal, show);
+    }
+
+    fn count_at(&mut self, at: usize, equal: bool, show: impl FnOnce() -> String) {
+        let row = &mut self.rows[at];
         row.1 += 1;
         if !equal {
             row.2 += 1;

@@ -1,4 +1,6 @@
 // Internal functions as C functions, for the comparison with Rust. Each has the contract of the function that it calls.
+mod jobs;
+
 ghost use mathlib.Core.Path.{_≡_};
 ghost use Prim.Native.Nat.{_*_, _/_, _%_, _<_, _≤_};
 ghost use lib.ListN.{length};

@@ -1,0 +1,211 @@
+// The solver's jobs on lent slices. A channel's own sides and factors are four numbers here.
+use gradients::grid::Grid;
+use scalar::coef::Own;
+use steps::solve::step_constants;
+ghost use mathlib.Core.Path.{_≡_};
+ghost use mathlib.Core.Bool.{cond};
+ghost use Prim.Native.Nat.{_*_, _≤_};
+ghost use lib.ListN.{length};
+ghost use Rattle.steps.specs.Solve.{constants, pushed};
+ghost use Rattle.steps.specs.Step.{moved};
+ghost use Rattle.gradients.specs.Blend.{blended};
+ghost use Rattle.scalar.specs.Auxiliary.{auxInit};
+ghost use Rattle.scalar.specs.Blown.{isBlown};
+ghost use Rattle.scalar.specs.Coef.{Covers, Lent, coef};
+ghost use Rattle.scalar.specs.DctGradient.{dataGradient};
+ghost use Rattle.scalar.specs.Projection.{projectOntoBox};
+ghost use Rattle.probe.specs.Jobs.{own};
+
+// Start of one channel: own sides `width` and `height`, factors fx across and fy down, full sides w and h.
+#[no_mangle]
+pub extern "C" fn probe_start(
+    plane: &mut [f32],
+    prior: &mut [f32],
+    gradient: &mut [f32],
+    across: &mut [f32],
+    down: &mut [f32],
+    saved: &mut [f32],
+    width: usize,
+    height: usize,
+    fx: usize,
+    fy: usize,
+    w: usize,
+    h: usize,
+    levels: &[i16],
+    table: &[u16],
+)
+    requires { ⌜ Covers (own width height fx fy) w h
+        × Lent (own width height fx fy) (now levels) (now table)
+        × (length (now plane) ≡ w * h) × (length (now prior) ≡ w * h) × (length (now gradient) ≡ w * h)
+        × (length (now across) ≡ w * h) × (length (now down) ≡ w * h) × (length (now saved) ≡ w * h) ⌝ }
+    ensures { λ _. ⌜ record {
+      plane = now (plane .exit);
+      prior = now (prior .exit);
+      gradient = now (gradient .exit);
+      across = now (across .exit);
+      down = now (down .exit);
+      saved = now (saved .exit);
+    }
+        ≡ auxInit (coef (own width height fx fy) (now (levels .entry)) (now (table .entry))) w h ⌝ }
+{
+    let o = Own {
+        width: width,
+        height: height,
+        across: fx,
+        down: fy,
+    };
+    scalar::auxiliary::start(
+        plane,
+        prior,
+        gradient,
+        across,
+        down,
+        saved,
+        o,
+        w,
+        h,
+        levels,
+        table,
+    );
+}
+
+// Job 1 of a step, counted from 0, of a run with full sides w and h.
+#[no_mangle]
+pub extern "C" fn probe_push(
+    plane: &mut [f32],
+    prior: &mut [f32],
+    w: u32,
+    h: u32,
+    iterations: u32,
+    weight: f32,
+    step: u32,
+)
+    requires { ⌜ (w ≤ 512) × (h ≤ 512) × (length (now plane) ≡ length (now prior)) ⌝ }
+    ensures { λ _. ⌜ record { plane = now (plane .exit); prior = now (prior .exit) }
+        ≡ pushed (constants w h iterations weight step .factor) (record { plane = now (plane .entry); prior = now (prior .entry) }) ⌝ }
+{
+    let k = step_constants(w, h, iterations, weight, step);
+    steps::solve::push(plane, prior, k);
+}
+
+// Job 2 of one channel, of which `weight` is the data weight.
+#[no_mangle]
+pub extern "C" fn probe_data(
+    saved: &[f32],
+    gradient: &mut [f32],
+    width: usize,
+    height: usize,
+    fx: usize,
+    fy: usize,
+    w: usize,
+    h: usize,
+    weight: f32,
+    levels: &[i16],
+    table: &[u16],
+)
+    requires { ⌜ Covers (own width height fx fy) w h
+        × Lent (own width height fx fy) (now levels) (now table)
+        × (length (now saved) ≡ w * h) × (length (now gradient) ≡ w * h) ⌝ }
+    ensures { λ _. ⌜ now (gradient .exit)
+        ≡ dataGradient (coef (own width height fx fy) (now (levels .entry)) (now (table .entry)))
+        w h weight (now (saved .entry)) ⌝ }
+{
+    let o = Own {
+        width: width,
+        height: height,
+        across: fx,
+        down: fy,
+    };
+    scalar::dct_gradient::data(saved, gradient, o, w, h, weight, levels, table);
+}
+
+// Job 3 of a run with n channels.
+#[no_mangle]
+pub extern "C" fn probe_blend(
+    plane: &[f32],
+    gradient: &mut [f32],
+    across: &mut [f32],
+    down: &mut [f32],
+    n: usize,
+    w: u32,
+    h: u32,
+    iterations: u32,
+    weight: f32,
+    step: u32,
+)
+    requires { ⌜ (w ≤ 512) × (h ≤ 512) × (n ≤ 3) × (length (now plane) ≡ n * (w * h)) × (length (now gradient) ≡ n * (w * h))
+        × (length (now across) ≡ n * (w * h)) × (length (now down) ≡ n * (w * h)) ⌝ }
+    ensures { λ _. ⌜ record { gradient = now (gradient .exit); across = now (across .exit); down = now (down .exit) }
+        ≡ blended w h n (constants w h iterations weight step .second) (now (plane .entry))
+        (record { gradient = now (gradient .entry); across = now (across .entry); down = now (down .entry) }) ⌝ }
+{
+    let k = step_constants(w, h, iterations, weight, step);
+    let g = Grid {
+        n: n,
+        w: w as usize,
+        h: h as usize,
+    };
+    gradients::blend(plane, gradient, across, down, g, k);
+}
+
+// Job 4 of one channel.
+#[no_mangle]
+pub extern "C" fn probe_move(
+    plane: &mut [f32],
+    gradient: &[f32],
+    w: u32,
+    h: u32,
+    iterations: u32,
+    weight: f32,
+    step: u32,
+)
+    requires { ⌜ (w ≤ 512) × (h ≤ 512) × (length (now plane) ≡ length (now gradient)) ⌝ }
+    ensures { λ _. ⌜ now (plane .exit) ≡ moved (constants w h iterations weight step .step) (now (gradient .entry)) (now (plane .entry)) ⌝ }
+{
+    let k = step_constants(w, h, iterations, weight, step);
+    steps::step::move_plane(plane, gradient, k);
+}
+
+// Job 5 of one channel, without the test for the mark.
+#[no_mangle]
+pub extern "C" fn probe_project(
+    plane: &mut [f32],
+    across: &mut [f32],
+    down: &mut [f32],
+    saved: &mut [f32],
+    width: usize,
+    height: usize,
+    fx: usize,
+    fy: usize,
+    w: usize,
+    h: usize,
+    levels: &[i16],
+    table: &[u16],
+)
+    requires { ⌜ Covers (own width height fx fy) w h
+        × Lent (own width height fx fy) (now levels) (now table)
+        × (length (now plane) ≡ w * h) × (length (now across) ≡ w * h) × (length (now down) ≡ w * h) × (length (now saved) ≡ w * h) ⌝ }
+    ensures { λ _. ⌜ record { plane = now (plane .exit); across = now (across .exit); down = now (down .exit); saved = now (saved .exit) }
+        ≡ projectOntoBox (coef (own width height fx fy) (now (levels .entry)) (now (table .entry))) w h
+        (record { plane = now (plane .entry); across = now (across .entry); down = now (down .entry); saved = now (saved .entry) }) ⌝ }
+{
+    let o = Own {
+        width: width,
+        height: height,
+        across: fx,
+        down: fy,
+    };
+    scalar::projection::project_onto_box(plane, across, down, saved, o, w, h, levels, table);
+}
+
+// The condition of job 5, of the plane and the n saved coefficients: 1 where it holds, 0 where not.
+#[no_mangle]
+pub extern "C" fn probe_blown(plane: &[f32], saved: &[f32], n: usize) -> u32
+    requires { ⌜ n ≤ length (now saved) ⌝ }
+    ensures { λ r. ⌜ r ≡ cond (isBlown n (now (plane .entry)) (now (saved .entry))) 1 0 ⌝ }
+{
+    if scalar::blown::is_blown(plane, saved, n) {
+        return 1;
+    }
+    0
+}

@@ -1,0 +1,386 @@
+//! The proved jobs beside the published ones: all six buffers and the condition of job 5 after start and after each job, bit for bit.
+//!
+//!     jobs [SEED [COUNT]]     COUNT sheets (2,400) of sides up to 64, job after job; as many with other values in the buffers before each
+//!                             job; and six of 512 by 512
+//!     jobs --list N SEED      N of Rust's answers
+use oracle::{
+    floats::{any, at, bits, same, special, subnormal},
+    jobs::{self, JOBS, Lent},
+    random::Random,
+    run::{Run, runs},
+    sheet::{Channel, Sheet, Weight},
+    tally::Tally,
+    texts::legal,
+};
+use std::{collections::BTreeMap, process::ExitCode};
+
+fn main() -> ExitCode {
+    let args: Vec<String> = std::env::args().skip(1).collect();
+    let number = |i: usize, default: u64| args.get(i).map_or(default, |a| a.parse().expect("a whole number"));
+    match args.first().map(String::as_str) {
+        Some("--list") => list(number(1, 60), number(2, 1)),
+        _ => compare(number(0, 1), number(1, 2_400)),
+    }
+}
+
+/// Kinds of sheets; the number tells which of its kind it is.
+const KINDS: [(&str, fn(&mut Random, usize) -> Sheet); 4] = [
+    ("sheets", |r, _| legal(r, 64, 30)),
+    ("covers", covers),
+    ("weights", |r, _| Sheet {
+        smoothing: [0; 3].map(|_| r.pick(&WEIGHTS)),
+        data: [0; 3].map(|_| r.pick(&WEIGHTS)),
+        ..legal(r, 64, 30)
+    }),
+    ("levels", |r, _| {
+        let mut sheet = legal(r, 64, 30);
+        sheet.channels.iter_mut().for_each(|c| extreme(r, c));
+        sheet
+    }),
+];
+
+const WEIGHTS: [Weight; 12] = [
+    Weight::Whole(0),
+    Weight::Whole(1),
+    Weight::Whole(255),
+    Weight::Bits(0x0000_0001),
+    Weight::Bits(0x007f_ffff),
+    Weight::Bits(0x0080_0000),
+    Weight::Bits(0x3380_0000),
+    Weight::Bits(0x7100_0000),
+    Weight::Bits(0x7ab5_baae), // the largest data weight with a finite alpha, and the next
+    Weight::Bits(0x7ab5_baaf),
+    Weight::Bits(0x7f00_0000),
+    Weight::Bits(0x7f7f_ffff),
+];
+
+/// Three channels, all pairs of factors in turn, whose own sides cover as much as they can or a part; levels as pictures have them.
+fn covers(r: &mut Random, i: usize) -> Sheet {
+    let sides = [0; 2].map(|_| 8 * r.between(4, 8) as u32);
+    let mut channel = |k: usize| {
+        let factors = [k % 4 + 1, k / 4 % 4 + 1].map(|factor| factor as u32);
+        let [w, h] = [0, 1].map(|d| {
+            let most = sides[d] / 8 / factors[d];
+            8 * if r.one_in(2) { most } else { r.between(1, most.into()) as u32 }
+        });
+        let table = (0..64).map(|_| r.between(1, 255) as u32).collect();
+        let levels = (0..w * h).map(|_| if r.one_in(3) { r.between(-60, 60) as i32 } else { 0 }).collect();
+        Channel { w, h, across: factors[0], down: factors[1], table, levels }
+    };
+    let channels = (3 * i..3 * i + 3).map(&mut channel).collect();
+    Sheet { w: sides[0], h: sides[1], channels, ..legal(r, 8, 30) }
+}
+
+fn extreme(r: &mut Random, c: &mut Channel) {
+    let (levels, quantisers) =
+        (r.pick(&[&[-2047, 2047][..], &[2047], &[-2047, 0, 0, 1]]), r.pick(&[&[1, 255][..], &[1], &[255]]));
+    c.levels.iter_mut().for_each(|level| *level = r.pick(levels));
+    c.table.iter_mut().for_each(|quantiser| *quantiser = r.pick(quantisers));
+}
+
+type Make = fn(&mut Random) -> f32;
+
+/// Values for lent buffers that no run reaches, or few.
+const VALUES: [(&str, Make); 8] = [
+    ("samples", |r| r.between(-128 << 16, 128 << 16) as f32 / 65536.0),
+    ("small whole numbers", |r| r.between(-2, 2) as f32),
+    ("signed zeros", |r| r.pick(&[0.0, -0.0, 0.0, -0.0, 1.0])),
+    ("comparable sizes", |r| {
+        let e = r.between(-3, 3);
+        at(r, e)
+    }),
+    ("huge", |r| if r.one_in(9) { at(r, 126) } else { at(r, 60) }),
+    ("subnormal", subnormal),
+    ("any size", any),
+    ("infinities and NaNs", |r| if r.one_in(200) { special(r) } else { at(r, 3) }),
+];
+
+#[derive(Default)]
+struct Compare {
+    tally: Tally,
+    values: u64,
+    met: BTreeMap<&'static str, u64>,
+}
+
+impl Compare {
+    fn met(&mut self, what: &'static str, times: u64) {
+        *self.met.entry(what).or_default() += times;
+    }
+
+    /// Both sides after a job, in channel c.
+    fn look(&mut self, kind: &str, job: &str, run: &Run, lent: &Lent, c: usize) {
+        let buffers = run.buffers(c);
+        let row = format!("{kind}: {job}");
+        for (k, (name, rust)) in buffers.iter().enumerate() {
+            let proved = lent.part(k, c);
+            assert_eq!(rust.len(), proved.len());
+            self.values += rust.len() as u64;
+            let first = (0..rust.len()).find(|i| !same(rust[*i], proved[*i]));
+            self.tally.count_in(&row, first.is_none(), || {
+                let i = first.expect("a difference");
+                let (x, y) = (bits(rust[i]), bits(proved[i]));
+                format!("channel {c}, {name} at {i}: Rust's {x:08x}, proved {y:08x}, position {}", run.positions[c])
+            });
+        }
+        let equal = is_blown(&buffers, lent.own_count(c)) == lent.is_blown(c);
+        self.tally.count_in(&format!("{kind}: blown"), equal, || format!("channel {c} after {job}"));
+    }
+
+    /// A sheet's runs, job after job, on after a mark as `solve` does.
+    fn sheet(&mut self, kind: &str, sheet: &Sheet, fill: f32) {
+        let alone = sheet.channels.len() == 1;
+        self.met(
+            if alone {
+                "sheets of one channel"
+            } else if sheet.joint {
+                "sheets of three, joint"
+            } else {
+                "sheets of three, separate"
+            },
+            1,
+        );
+        for c in &sheet.channels {
+            self.met("channels", 1);
+            self.met("channels with a factor", (c.across * c.down > 1).into());
+            self.met("channels covering a part", (c.w * c.across < sheet.w || c.h * c.down < sheet.h).into());
+        }
+        for (mut run, mut lent) in runs(sheet).into_iter().zip(jobs::runs(sheet, fill)) {
+            for c in 0..run.channels() {
+                lent.job("start", c, 0);
+                self.look(kind, "start", &run, &lent, c);
+            }
+            while !run.is_done() {
+                let step = run.positions[0] / 5;
+                self.met("steps", 1);
+                run.step(|run, job, c| {
+                    if job != "blend" || c == 0 {
+                        lent.job(job, c, step);
+                    }
+                    self.look(kind, job, run, &lent, c);
+                    if job == "project" {
+                        self.met("marks after project", run.marks[c].into());
+                        self.tally.count_in("marks", run.marks[c] == lent.is_blown(c), || kind.into());
+                    }
+                });
+            }
+            self.met("runs with a mark at the end", run.is_blown().into());
+            if run.w < 512 {
+                self.tally.count_in("planes at the end as `solve` has them", run.check(), || kind.into());
+            }
+        }
+    }
+
+    /// Each job by itself, with other values in all buffers before it.
+    fn values(&mut self, r: &mut Random, sheet: &Sheet, make: Make) {
+        for (mut run, mut lent) in runs(sheet).into_iter().zip(jobs::runs(sheet, 0.0)) {
+            let (channels, step) = (0..run.channels(), r.below(30));
+            for job in &JOBS[1..] {
+                for c in channels.clone().take(if *job == "blend" { 1 } else { 3 }) {
+                    fill(&mut run, &mut lent, |_, n| (0..n).map(|_| make(r)).collect());
+                    rust(&mut run, job, c, step);
+                    lent.job(job, c, step);
+                    channels.clone().for_each(|c| self.look("other buffers", job, &run, &lent, c));
+                }
+            }
+        }
+    }
+}
+
+/// The condition of job 5, with as many saved coefficients as the channel has.
+fn is_blown(buffers: &[(&str, Vec<f32>); 6], own: usize) -> bool {
+    let ([plane, .., saved], finite) = (buffers, |x: &f32| x.is_finite());
+    !(plane.1.iter().all(finite) && saved.1[..own].iter().all(finite))
+}
+
+/// Other values on both sides, from a function of the buffer's number and its length. Saved is 0 past the own sides' places.
+fn fill(run: &mut Run, lent: &mut Lent, mut give: impl FnMut(usize, usize) -> Vec<f32>) {
+    let n = lent.count();
+    for k in 0..6 {
+        let mut values = give(k, n * run.channels());
+        for (c, aux) in run.auxs.iter_mut().enumerate() {
+            let part = &mut values[c * n..(c + 1) * n];
+            let to = match k {
+                0 => &mut aux.fdata,
+                1 => &mut aux.fista,
+                2 => &mut aux.obj_gradient,
+                3 => &mut aux.pixel_diff.x,
+                4 => &mut aux.pixel_diff.y,
+                _ => {
+                    part[lent.own_count(c)..].fill(0.0);
+                    &mut aux.cos
+                }
+            };
+            let length = to.len();
+            to.copy_from_slice(&part[..length]);
+        }
+        lent.buffers[k] = values;
+    }
+}
+
+fn rust(run: &mut Run, job: &str, c: usize, step: usize) {
+    let k = run.constants_of(step);
+    match job {
+        "push" => run.push(c, k.factor),
+        "data" => run.data(c),
+        "blend" => run.blend(k.second_order_weight),
+        "move" => run.move_plane(c, k.step_size),
+        "project" => run.project(c),
+        _ => assert_eq!(job, "start"),
+    }
+}
+
+/// 512 by 512: own side and factor by channel, mode, steps, weight.
+const LARGE: [(&[(u32, u32)], bool, u32, Weight); 6] = [
+    (&[(512, 1)], false, 3, Weight::Whole(1)),
+    (&[(512, 1), (512, 1), (512, 1)], true, 2, Weight::Whole(1)),
+    (&[(512, 1), (256, 2), (256, 2)], true, 3, Weight::Bits(0x3e99_999a)),
+    (&[(512, 1), (128, 4), (168, 3)], false, 2, Weight::Whole(255)),
+    (&[(128, 3), (120, 4), (240, 2)], true, 3, Weight::Bits(0x0000_0001)),
+    (&[(256, 2)], true, 2, Weight::Bits(0x7f00_0000)),
+];
+
+fn large(r: &mut Random, (owns, joint, count, weight): (&[(u32, u32)], bool, u32, Weight)) -> Sheet {
+    let mut channel = |&(side, factor): &(u32, u32)| Channel {
+        w: side,
+        h: side,
+        across: factor,
+        down: factor,
+        table: (0..64).map(|_| r.between(1, 99) as u32).collect(),
+        levels: (0..side * side).map(|_| if r.one_in(4) { r.between(-9, 9) as i32 } else { 0 }).collect(),
+    };
+    let channels = owns.iter().map(&mut channel).collect();
+    let (w, weights) = (512, [weight; 3]);
+    Sheet {
+        w,
+        h: w,
+        picture_w: w,
+        picture_h: w,
+        joint,
+        counts: [count; 3],
+        smoothing: weights,
+        data: weights,
+        channels,
+    }
+}
+
+fn compare(seed: u64, count: u64) -> ExitCode {
+    let (mut r, mut all) = (Random::new(seed), Compare::default());
+    println!("seed {seed}, {count} sheets");
+    for (i, (kind, make)) in (0..count as usize).map(|i| (i, KINDS[i % KINDS.len()])) {
+        let (sheet, left_over) = (make(&mut r, i / KINDS.len()), any(&mut r));
+        all.sheet(kind, &sheet, left_over);
+    }
+    for i in 0..count as usize {
+        let (_, make) = KINDS[i % KINDS.len()];
+        let sheet = make(&mut r, i / KINDS.len());
+        all.values(&mut r, &sheet, VALUES[i / KINDS.len() % VALUES.len()].1);
+    }
+    for one in LARGE {
+        let sheet = large(&mut r, one);
+        all.sheet("512 by 512", &sheet, f32::NAN);
+    }
+    all.met.iter().for_each(|(what, times)| println!("{what}: {times}"));
+    println!("{} values", all.values);
+    all.tally.close()
+}
+
+/// The numbers of the list's generator, which the crate `replay` has too.
+fn numbers(seed: u32) -> impl Iterator<Item = u32> {
+    let next = |x: u32| x.wrapping_mul(1_664_525).wrapping_add(1_013_904_223);
+    std::iter::successors(Some(next(seed)), move |x| Some(next(*x)))
+}
+
+/// All digits and sizes of 0.5 to 128 (kind 0), any bits (1), or a whole number to 3 (2).
+fn value(kind: usize, x: u32) -> f32 {
+    match kind {
+        0 => f32::from_bits(x & 0x8000_0000 | (0x3f00_0000 + (x & 0x03ff_ffff))),
+        1 => f32::from_bits(x),
+        _ => (x >> 16 & 3) as f32,
+    }
+}
+
+/// Full sides, own sides and factors.
+const SHAPES: [[u32; 6]; 8] = [
+    [8, 8, 8, 8, 1, 1],
+    [16, 8, 16, 8, 1, 1],
+    [16, 8, 8, 8, 2, 1],
+    [16, 16, 8, 8, 2, 2],
+    [16, 16, 8, 16, 1, 1],
+    [8, 16, 8, 8, 1, 2],
+    [16, 16, 16, 16, 1, 1],
+    [16, 8, 8, 8, 1, 1],
+];
+
+/// Each job in turn, of each shape in turn.
+fn list(count: u64, seed: u64) -> ExitCode {
+    let mut r = Random::new(seed);
+    for i in 0..count as usize {
+        let (job, shape, kind) = (JOBS[i % 6], SHAPES[i / 6 % 8], i / 6 % 3);
+        println!(
+            "{}",
+            if job == "blend" { blend_line(&mut r, shape, kind) } else { job_line(&mut r, job, shape, kind) }
+        );
+    }
+    ExitCode::SUCCESS
+}
+
+const WEIGHTS_LISTED: [Weight; 4] = [Weight::Whole(0), Weight::Whole(1), Weight::Whole(255), Weight::Bits(0x3e99_999a)];
+
+/// A run of n such channels with one weight, its step, and both as words: iterations, weight, step.
+fn run_of(r: &mut Random, [w, h, ..]: [u32; 6], channels: Vec<Channel>) -> (Run, Lent, usize, String) {
+    let (weights, counts, step) = ([r.pick(&WEIGHTS_LISTED); 3], [r.below(1001) as u32; 3], r.below(30));
+    let words = format!("{:x} {:x} {step:x}", counts[0], weights[0].value().to_bits());
+    let sheet =
+        Sheet { w, h, picture_w: w, picture_h: h, joint: true, counts, smoothing: weights, data: weights, channels };
+    (runs(&sheet).remove(0), jobs::runs(&sheet, 0.0).remove(0), step, words)
+}
+
+/// `job`, its number (0 start, 1 push, 2 data, 4 move, 5 project), full sides, own sides, factors, iterations, weight, step, kind of
+/// values, seed, and a digest of all six buffers and the condition of job 5. The numbers that follow the seed give the levels, the
+/// table, and the buffers.
+fn job_line(r: &mut Random, job: &str, shape: [u32; 6], kind: usize) -> String {
+    let seed = r.bits();
+    let mut numbers = numbers(seed);
+    let mut number = || numbers.next().expect("no end");
+    let [_, _, w, h, across, down] = shape;
+    let levels = (0..w * h).map(|_| (number() >> 16) as i32 % 129 - 64).collect();
+    let table = (0..64).map(|_| (number() >> 16) % 255 + 1).collect();
+    let (mut run, mut lent, step, words) = run_of(r, shape, vec![Channel { w, h, across, down, table, levels }]);
+    if job != "start" {
+        fill(&mut run, &mut lent, |_, n| (0..n).map(|_| value(kind, number())).collect());
+    }
+    rust(&mut run, job, 0, step);
+    let buffers = run.buffers(0);
+    let digest = buffers.iter().fold(0, |digest, (_, values)| with(digest, values));
+    let digest = next_digest(digest, is_blown(&buffers, lent.own_count(0)).into());
+    let at = JOBS.iter().position(|name| *name == job).expect("a job");
+    let shape: String = shape.iter().map(|n| format!("{n:x} ")).collect();
+    format!("job {at} {shape}{words} {kind} {seed:x} {digest:x}")
+}
+
+/// `blend`, channels, full sides, iterations, weight, step, kind of values, seed, and a digest of plane, gradient, across and down, which
+/// the numbers that follow the seed fill.
+fn blend_line(r: &mut Random, shape: [u32; 6], kind: usize) -> String {
+    let seed = r.bits();
+    let mut numbers = numbers(seed);
+    let channel = Channel { w: 8, h: 8, across: 1, down: 1, table: vec![1; 64], levels: vec![0; 64] };
+    let n = r.pick(&[1, 3]);
+    let (mut run, mut lent, step, words) = run_of(r, shape, vec![channel; n]);
+    const USED: [usize; 4] = [0, 2, 3, 4];
+    fill(&mut run, &mut lent, |k, n| {
+        if USED.contains(&k) { numbers.by_ref().take(n).map(|x| value(kind, x)).collect() } else { vec![0.0; n] }
+    });
+    rust(&mut run, "blend", 0, step);
+    let buffers: Vec<_> = (0..n).map(|c| run.buffers(c)).collect();
+    let values = USED.iter().flat_map(|k| buffers.iter().map(|buffers| &buffers[*k].1));
+    let digest = values.fold(0, |digest, values| with(digest, values));
+    format!("blend {n} {:x} {:x} {words} {kind} {seed:x} {digest:x}", shape[0], shape[1])
+}
+
+fn next_digest(digest: u32, number: u32) -> u32 {
+    digest.wrapping_mul(31).wrapping_add(number)
+}
+
+fn with(digest: u32, values: &[f32]) -> u32 {
+    values.iter().fold(digest, |digest, x| next_digest(digest, bits(*x)))
+}

@@ -1,0 +1,121 @@
+//! The proved jobs on lent buffers: document 01, "Each lent buffer has (channels of the run) × W × H values", and a job of one channel is lent
+//! that channel's part.
+use crate::{probe::*, sheet};
+
+/// plane, prior, gradient, across, down, saved
+pub type Buffers = [Vec<f32>; 6];
+
+pub const JOBS: [&str; 6] = ["start", "push", "data", "blend", "move", "project"];
+
+/// A channel of a run.
+pub struct Own {
+    w: usize,
+    h: usize,
+    across: usize,
+    down: usize,
+    weight: f32,
+    levels: Vec<i16>,
+    table: Vec<u16>,
+}
+
+pub struct Lent {
+    w: u32,
+    h: u32,
+    iterations: u32,
+    weight: f32,
+    channels: Vec<Own>,
+    pub buffers: Buffers,
+}
+
+/// A run of all channels in joint mode, and of each channel in separate mode, as `run::runs` has them. The buffers hold `fill`.
+pub fn runs(sheet: &sheet::Sheet, fill: f32) -> Vec<Lent> {
+    let own = |c: &sheet::Channel, weight: sheet::Weight| Own {
+        w: c.w as usize,
+        h: c.h as usize,
+        across: c.across as usize,
+        down: c.down as usize,
+        weight: weight.value(),
+        levels: c.levels.iter().map(|level| *level as i16).collect(),
+        table: c.table.iter().map(|quantiser| *quantiser as u16).collect(),
+    };
+    let lent = |c: usize, channels: Vec<Own>| Lent {
+        w: sheet.w,
+        h: sheet.h,
+        iterations: sheet.counts[c],
+        weight: sheet.smoothing[c].value(),
+        buffers: [0; 6].map(|_| vec![fill; channels.len() * (sheet.w * sheet.h) as usize]),
+        channels,
+    };
+    let each = sheet.channels.iter();
+    if sheet.joint {
+        return vec![lent(0, each.zip(sheet.data).map(|(c, weight)| own(c, weight)).collect())];
+    }
+    each.enumerate().map(|(i, c)| lent(i, vec![own(c, sheet.data[0])])).collect()
+}
+
+impl Lent {
+    pub fn count(&self) -> usize {
+        (self.w * self.h) as usize
+    }
+
+    /// How many saved coefficients channel c has.
+    pub fn own_count(&self, c: usize) -> usize {
+        self.channels[c].w * self.channels[c].h
+    }
+
+    /// Channel c's part of buffer k.
+    pub fn part(&self, k: usize, c: usize) -> &[f32] {
+        let n = self.count();
+        &self.buffers[k][c * n..(c + 1) * n]
+    }
+
+    fn parts(&mut self, c: usize) -> [*mut f32; 6] {
+        let n = self.count();
+        self.buffers.each_mut().map(|buffer| buffer[c * n..].as_mut_ptr())
+    }
+
+    /// A job of JOBS for channel c, or blend for all channels, in a step counted from 0.
+    pub fn job(&mut self, job: &str, c: usize, step: usize) {
+        let [plane, prior, gradient, across, down, saved] = self.parts(c);
+        let (n, o, step) = (self.count(), &self.channels[c], step as u32);
+        let (w, h, full_w, full_h) = (self.w, self.h, self.w as usize, self.h as usize);
+        let (iterations, weight) = (self.iterations, self.weight);
+        let (levels, levels_len, table) = (o.levels.as_ptr(), o.levels.len(), o.table.as_ptr());
+        match job {
+            "start" => unsafe {
+                probe_start(
+                    plane, n, prior, n, gradient, n, across, n, down, n, saved, n, o.w, o.h, o.across, o.down, full_w,
+                    full_h, levels, levels_len, table, 64,
+                );
+            },
+            "push" => unsafe { probe_push(plane, n, prior, n, w, h, iterations, weight, step) },
+            "data" => unsafe {
+                probe_data(
+                    saved, n, gradient, n, o.w, o.h, o.across, o.down, full_w, full_h, o.weight, levels, levels_len,
+                    table, 64,
+                );
+            },
+            "blend" => unsafe {
+                let channels = self.channels.len();
+                let all = channels * n;
+                probe_blend(
+                    plane, all, gradient, all, across, all, down, all, channels, w, h, iterations, weight, step,
+                );
+            },
+            "move" => unsafe { probe_move(plane, n, gradient, n, w, h, iterations, weight, step) },
+            "project" => unsafe {
+                probe_project(
+                    plane, n, across, n, down, n, saved, n, o.w, o.h, o.across, o.down, full_w, full_h, levels,
+                    levels_len, table, 64,
+                );
+            },
+            _ => panic!("{job} is no job"),
+        }
+    }
+
+    /// The condition of job 5.
+    pub fn is_blown(&self, c: usize) -> bool {
+        let (plane, saved) = (self.part(0, c), self.part(5, c));
+        unsafe { probe_blown(plane.as_ptr(), plane.len(), saved.as_ptr(), saved.len(), self.own_count(c)) != 0 }
+    }
+}
