@@ -18,13 +18,13 @@ use Rattle.scalar.specs.Coef.{Coef, Covers, levelAt, quantAt, pxCount}
 use Rattle.solver.specs.Solver as Solver
 use Rattle.solver.specs.Solver.{starting, pushing, fitting, blending, moving, projecting}
 use Rattle.solver.proofs.Laws as Solver-laws
-use Rattle.calls.specs.Run.{Given, own, count, area, coefs, level, quantiser, levelsBefore}
+use Rattle.calls.specs.Run.{Sheet, Given, own, count, area, coefs, level, quantiser, levelsBefore}
 use Rattle.calls.specs.Buffers.{Name, Plane, Prior, Gradient, Across, Down, Saved, get, channel, Sized}
 use Rattle.calls.specs.Jobs.{Job, push, fidelity, move, project}
 use Rattle.calls.specs.Calls.{all, levelOk, tableOk}
 use Rattle.calls.specs.Demand.{SavedIn}
 use Rattle.calls.proofs.Laws.{GivenOk, Laws, AllIn}
-use Rattle.calls.proofs.Facts.{sheet-is}
+use Rattle.calls.proofs.Facts.{SheetIs, sheet-is}
 use Rattle.calls.proofs.Tests.{all-part, all-anywhere}
 use Rattle.demand.specs.Solver.{coefOf, constantsOf, work, jobs}
 
@@ -44,6 +44,25 @@ coef-count : (G : Given) (c : ℕ) → pxCount (coefOf G c .own) ≡ coefs (G .s
 unfolding coefOf
 coef-count G c = refl
 
+-- a legal channel's sides cover no more than the full sides
+pub covers-of : (S : Sheet) → SheetIs S → (c : ℕ) → c < S .count
+    → Covers (record { width = own S c .width; height = own S c .height; across = own S c .across; down = own S c .down }) (S .W) (S .H)
+covers-of S f c h =
+    let o = f .each-own c h in
+    record {
+      eights = (o .width-8, o .height-8);
+      width-some = omega (arith, o .width-pos);
+      height-some = omega (arith, o .height-pos);
+      across-some = o .across-pos;
+      down-some = o .down-pos;
+      across-most = o .across-4;
+      down-most = o .down-4;
+      across-cover = o .covers-across;
+      down-cover = o .covers-down;
+      width-most = f .W-512;
+      height-most = f .H-512;
+    }
+
 table-small : (qs : List ℕ) → T (all tableOk qs) → (i : ℕ) → getD qs i 0 ≤ 255
 table-small [] t i = omega arith
 table-small (q ∷ qs) t zero = leb→le q 255 (and-r (leb 1 q) (leb q 255) (and-l (tableOk q) (all tableOk qs) t))
@@ -52,22 +71,7 @@ table-small (q ∷ qs) t (suc i) = table-small qs (and-r (tableOk q) (all tableO
 module _ (G : Given) (ok : GivenOk G) (c : ℕ) (h : c < count G) where
   covers : Covers (coefOf G c .own) (G .sheet .W) (G .sheet .H)
   unfolding coefOf
-  covers =
-      let f = sheet-is (G .sheet) (ok .sheet-ok) in
-      let o = f .each-own c h in
-      record {
-        eights = (o .width-8, o .height-8);
-        width-some = omega (arith, o .width-pos);
-        height-some = omega (arith, o .height-pos);
-        across-some = o .across-pos;
-        down-some = o .down-pos;
-        across-most = o .across-4;
-        down-most = o .down-4;
-        across-cover = o .covers-across;
-        down-cover = o .covers-down;
-        width-most = f .W-512;
-        height-most = f .H-512;
-      }
+  covers = covers-of (G .sheet) (sheet-is (G .sheet) (ok .sheet-ok)) c h
 
   legal : Solver.Legal (coefOf G c)
   unfolding coefOf

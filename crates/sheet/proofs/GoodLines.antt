@@ -2,17 +2,14 @@
 use Prim.Native.Nat.{ℕ, zero, suc, _<_}
 use mathlib.Core.Path.{_≡_, refl, sym, ap, _∙_}
 use mathlib.Core.List.{List, [], _∷_, _++_, append-nil}
-use mathlib.Core.Bool.{Bool, true, false, not, _&&_}
+use mathlib.Core.Bool.{Bool, true, not, _&&_}
 use mathlib.Core.Option.{Option, none, some}
 use native.Mathlib.Omega.{arith}
 use lib.ListN.{length, getD, drop, replicate}
-use lib.IntN.{ℤ}
 use borrow.Author.Tests.{not-true}
 use Rattle.text.specs.declared.field.Rule.{Rule}
 use Rattle.text.specs.declared.field.Rule.the-variants as rule
-use Rattle.text.specs.declared.field.Field.the-variants as field
-use Rattle.text.specs.Fields.{fieldOf, faultIn, levelsIn, tablesIn}
-use Rattle.text.specs.Legal.{Between, LegalLevel}
+use Rattle.text.specs.Fields.{fieldOf, faultIn}
 use Rattle.text.proofs.GoodLaws.{both-left, both-right, addsTable, addsLevel, tables-none, levels-none, quantiser-good, level-good}
 use Rattle.sheet.specs.Lines.{factor, ownSide, channelRules, blockRules, orElse, firstFault, lineLevels, lineTables}
 use Rattle.sheet.specs.Legal.{LegalLevels, LegalQuantisers}

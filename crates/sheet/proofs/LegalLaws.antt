@@ -2,8 +2,8 @@
 use Prim.Native.Nat.{ℕ, zero, suc, _+_, _-_, _*_, _/_, _%_, _<_, _≤_}
 use mathlib.Core.Path.{_≡_, refl, sym, ap, _∙_, subst}
 use mathlib.Core.List.{List, [], _∷_, _++_, append-nil}
-use mathlib.Core.Bool.{Bool, true, false, cond, _&&_}
-use mathlib.Core.Logic.{_⊎_, ⊎-elim}
+use mathlib.Core.Bool.{Bool, true, false, cond}
+use mathlib.Core.Logic.{⊎-elim}
 use mathlib.Core.Option.{Option, none, some}
 use native.Mathlib.Numerals.{add-one}
 use native.Mathlib.Nat.{mul-div-cancel-left, mul-le-mul-left}
@@ -11,8 +11,7 @@ use native.Mathlib.Omega.{arith}
 use lib.ListN.{length, getD, drop, replicate, length-append, length-drop}
 use lib.Dec.{eqb, leb, ltb}
 use lib.IntN.{ℤ}
-use borrow.Author.Tests.{eqb-true, eqb-false, leb-true, ltb-true, ltb-false, eq-eqb, ne-eqb}
-use Rattle.text.specs.declared.field.Rule.{Rule}
+use borrow.Author.Tests.{eqb-true, eqb-false, leb-true, ltb-true, ltb-false, ne-eqb}
 use Rattle.text.specs.declared.field.Rule.the-variants as rule
 use Rattle.text.specs.Pieces.{split}
 use Rattle.text.specs.Numbers.{numberAt}
@@ -222,7 +221,7 @@ module _ (limit : ℕ) (most : LegalSide 512 limit) (p : List ℕ) (rest : List 
           levels = more-levels ls vs (b .levels) (a .0);
           tables = b .tables;
         })
-        (rw (u, block-levels fs, tables-without blockRules fs refl, append-nil ts) at (l .more))
+        (rw (block-levels fs, tables-without blockRules fs refl, append-nil ts) at (l .more))
 
     channel-line : ltb 0 (s .left) ≡ false → ltb (s .read) (s .sheet .header .channels) ≡ true → readFrom limit s ls ts k (p ∷ rest) ≡ Gives C → LegalContents limit C
     unfolding rulesOf takenOf recordOf
@@ -230,7 +229,7 @@ module _ (limit : ℕ) (most : LegalSide 512 limit) (p : List ℕ) (rest : List 
         let g : expectedTag s ≡ 67 = tag-is false true u v in
         let l = line-is 67 limit k p rest _ C (rw g at e) in
         let fs = split 9 p in
-        covered (covers (s .sheet .header) (channelOf fs)) refl (l .count) (l .fault) (rw (v, channel-tables fs, levels-without channelRules fs refl, append-nil ls) at (l .more))
+        covered (covers (s .sheet .header) (channelOf fs)) refl (l .count) (l .fault) (rw (channel-tables fs, levels-without channelRules fs refl, append-nil ls) at (l .more))
       where
         fs : List (List ℕ)
         fs = split 9 p

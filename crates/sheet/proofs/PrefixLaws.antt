@@ -1,38 +1,34 @@
 -- The first bytes of a text decide it.
-use Prim.Native.Nat.{ℕ, zero, suc, _+_, _-_, _*_, _/_, _<_, _≤_}
+use Prim.Native.Nat.{ℕ, zero, suc, _+_, _-_, _*_, _<_, _≤_}
 use mathlib.Core.Path.{_≡_, refl, sym, ap, _∙_, subst, subst⁻¹}
 use mathlib.Core.List.{List, [], _∷_, _++_}
-use mathlib.Core.Bool.{Bool, true, false, cond, _&&_}
+use mathlib.Core.Bool.{Bool, true, false, cond}
 use mathlib.Core.Logic.{_⊎_, inl, inr}
 use mathlib.Core.Option.{Option, none, some}
 use native.Mathlib.Nat.{mul-le-mul-left, mul-le-mul-right, le-trans, suc-mul}
 use native.Mathlib.Omega.{arith}
 use lib.ListN.{length, getD, take, drop, replicate, length-drop, length-take, drop-of-length-le}
-use lib.Seq.{drop-cons, take-all, take-nil, drop-drop, length-take-le}
+use lib.Seq.{drop-cons, take-all, take-nil, length-take-le}
 use lib.Dec.{eqb, ltb, leb}
 use lib.IntN.{ℤ}
-use borrow.Author.Tests.{eq-eqb, ne-eqb, lt-ltb, le-ltb, ltb-true, ltb-false, eqb-true, eqb-false, leb-true, leb-false}
+use borrow.Author.Tests.{ltb-true, ltb-false, eqb-true, eqb-false, leb-true, leb-false}
 use Rattle.text.specs.declared.field.Rule.{Rule}
 use Rattle.text.specs.declared.field.Rule.the-variants as rule
 use Rattle.text.specs.Pieces.{split, before}
-use Rattle.text.specs.Numbers.{numberOf, numberValue, numberAt}
+use Rattle.text.specs.Numbers.{numberAt}
 use Rattle.text.specs.Fields.{isSide, fieldOf, faultIn}
-use Rattle.text.specs.Legal.{LegalSide}
-use Rattle.text.specs.Written.{decimal, joined, rowBytes}
-use Rattle.text.proofs.PieceLaws.{before-le, before-take, split-cut, split-whole, split-some}
+use Rattle.text.specs.Written.{decimal, rowBytes}
+use Rattle.text.proofs.PieceLaws.{split-cut, split-whole, split-some}
 use Rattle.text.proofs.GoodLaws.{side-is}
 use Rattle.text.proofs.DecimalLaws.{decimal-length}
 use Rattle.text.proofs.JoinLaws.{joined-split, joined-length, Within}
 use Rattle.text.proofs.SizeLaws.{tag-short, range-short, side-short, channels-short, mode-short, weight-short, quantiser-short, level-short}
-use Rattle.sheet.specs.declared.Header.{Header}
-use Rattle.sheet.specs.declared.Channel.{Channel}
 use Rattle.sheet.specs.declared.state.State.{State}
 use Rattle.sheet.specs.declared.state.Taken.{Taken}
 use Rattle.sheet.specs.declared.state.Taken.the-variants as taken
 use Rattle.sheet.specs.Lines.{headerRules, channelRules, blockRules, rulesOf, firstFault, fieldsFault, lineLevels, lineTables, headerOf, channelOf, recordOf}
 use Rattle.sheet.specs.Reading.{Outcome, Contents, contents, headed, blank, expectedTag, opened, covers, takenOf, isLast, lineFault, nothingLeft, onFault, onTaken, readFrom, readText}
 use Rattle.sheet.specs.Reading.Outcome.{Gives, Refused}
-use Rattle.sheet.specs.Legal.{LegalHeader, LegalChannel}
 use Rattle.sheet.specs.Longest.{headerSizes, channelSizes, blockSizes, channelBytes, longest, decisive}
 use Rattle.sheet.proofs.WalkLaws.{line-long, split-head, not-last, some-after}
 use Rattle.sheet.proofs.GoodLines.{or-left, or-right, fault-at, fault-drop}
@@ -214,10 +210,10 @@ module _ (limit : ℕ) (most : limit ≤ 512) (p : List ℕ) where
         two : (u v : Bool) → ltb 0 (s .left) ≡ u → ltb (s .read) (s .sheet .header .channels) ≡ v → Spent limit s p t
         two true v i j =
             let r : g ≡ 66 = q ∙ tag-is true v i j in
-            spent-block t (rw r at n) (rw r at e) (ltb-true 0 (s .left) i) (rw (r, i) at o)
+            spent-block t (rw r at n) (rw r at e) (ltb-true 0 (s .left) i) (rw r at o)
         two false true i j =
             let r : g ≡ 67 = q ∙ tag-is false true i j in
-            covering (covers (s .sheet .header) (channelOf (split 9 p))) refl (rw r at n) (rw r at e) (ltb-false 0 (s .left) i) (ltb-true (s .read) (s .sheet .header .channels) j) (rw (r, j) at o)
+            covering (covers (s .sheet .header) (channelOf (split 9 p))) refl (rw r at n) (rw r at e) (ltb-false 0 (s .left) i) (ltb-true (s .read) (s .sheet .header .channels) j) (rw r at o)
         two false false i j = absurd (x (q ∙ tag-is false false i j))
 
   abbrev Spends : State → State → Type 0
@@ -247,12 +243,6 @@ unfolding lineFault
 same-fault limit tag p rest more e = rw e
 
 module _ (limit : ℕ) (s : State) (ls : List ℤ) (ts : List ℕ) (k : ℕ) (p : List ℕ) (rest more : List (List ℕ)) where
-  fs : List (List ℕ)
-  fs = split 9 p
-
-  rs : List Rule
-  rs = rulesOf (expectedTag s) limit (split 9 p)
-
   same-line : isLast rest ≡ isLast more → nothingLeft rest ≡ nothingLeft more
       → (lineFault limit (expectedTag s) p more ≡ none → (expectedTag s ≡ 69 → ⊥) → (t : State) → takenOf s (recordOf (expectedTag s) (split 9 p)) ≡ taken.Good t
       → (us : List ℤ) (vs : List ℕ) → readFrom limit t us vs (k + 1) rest ≡ readFrom limit t us vs (k + 1) more)

@@ -1,37 +1,34 @@
 -- Reading what is written gives the sheet back, for every legal sheet.
 use Prim.Native.Nat.{ℕ, zero, suc, _+_, _-_, _*_, _/_, _<_, _≤_}
 use mathlib.Core.Path.{_≡_, refl, sym, ap, _∙_, subst⁻¹}
-use mathlib.Core.List.{List, [], _∷_, _++_, map, append-assoc, append-nil}
+use mathlib.Core.List.{List, [], _∷_, _++_, append-assoc, append-nil}
 use mathlib.Core.Bool.{Bool, true, false, cond, _&&_}
 use mathlib.Core.Logic.{_⊎_, inl, inr}
-use mathlib.Core.Option.{Option, none, some}
-use native.Mathlib.Numerals.{add-one}
+use mathlib.Core.Option.{none}
 use native.Mathlib.Omega.{arith}
-use lib.ListN.{length, take, drop, replicate, length-drop, length-map, length-append, take-append-drop}
-use lib.Seq.{length-take-le, take-add, drop-drop, take-all, take-length, drop-length}
-use lib.Dec.{eqb, ltb, leb}
+use lib.ListN.{length, take, drop, length-drop, length-map, take-append-drop}
+use lib.Seq.{length-take-le, take-add}
 use lib.IntN.{ℤ}
-use borrow.Author.Tests.{eq-eqb, ne-eqb, lt-ltb, le-ltb, le-leb}
-use Rattle.text.specs.declared.field.Rule.the-variants as rule
+use borrow.Author.Tests.{eq-eqb, lt-ltb, le-ltb, le-leb}
 use Rattle.text.specs.Pieces.{split}
 use Rattle.text.specs.Fields.{isSide}
 use Rattle.text.specs.Legal.{LegalSide}
-use Rattle.text.specs.Written.{decimal, weightText, levelText, joined, ended}
+use Rattle.text.specs.Written.{decimal, levelText, joined}
 use Rattle.text.proofs.JoinLaws.{free, allFree, split-joined, joined-free, split-ended}
 use Rattle.sheet.specs.declared.Header.{Header}
 use Rattle.sheet.specs.declared.Channel.{Channel}
 use Rattle.sheet.specs.declared.Sheet.{Sheet}
 use Rattle.sheet.specs.declared.state.State.{State}
 use Rattle.sheet.specs.declared.state.Taken.the-variants as taken
-use Rattle.sheet.specs.Lines.{headerRules, channelRules, blockRules, endRules, rulesOf, fieldCount, firstFault, lineLevels, lineTables, headerOf, channelOf, recordOf, noChannel}
-use Rattle.sheet.specs.Reading.{Outcome, Contents, contents, headed, blank, expectedTag, placed, opened, covers, takenOf, isLast, readFrom, readText}
-use Rattle.sheet.specs.Reading.Outcome.{Gives, Refused}
-use Rattle.sheet.specs.Legal.{LegalHeader, LegalChannel, LegalQuantisers, LegalLevels, channelAt, levelsTo, LegalSheet}
+use Rattle.sheet.specs.Lines.{headerRules, channelRules, blockRules, rulesOf, fieldCount, firstFault, lineLevels, lineTables, channelOf, recordOf}
+use Rattle.sheet.specs.Reading.{contents, headed, blank, expectedTag, placed, covers, takenOf, isLast, readFrom, readText}
+use Rattle.sheet.specs.Reading.Outcome.{Refused}
+use Rattle.sheet.specs.Legal.{LegalHeader, LegalChannel, LegalQuantisers, LegalLevels, levelsTo, LegalSheet}
 use Rattle.sheet.specs.Written.{headerFields, channelFields, blockFields, endFields, blockLines, channelLines, channelsOf, written}
 use Rattle.sheet.proofs.WalkLaws.{line-next, line-end}
 use Rattle.sheet.proofs.GoodLines.{tables-without, levels-without, channel-tables, block-levels}
 use Rattle.sheet.proofs.LegalLaws.{blocks}
-use Rattle.sheet.proofs.RowLaws.{SixDigits, header-good, header-back, header-free, header-short, channel-good, channel-said, channel-back, channel-free, channel-short, block-good, block-said, block-free, block-short, end-good, end-free}
+use Rattle.sheet.proofs.RowLaws.{SixDigits, header-good, header-back, header-free, header-short, channel-good, channel-said, channel-back, channel-free, channel-short, block-good, block-said, block-free, block-short, end-good}
 
 -- One good row
 
@@ -85,7 +82,7 @@ module _ (limit : ℕ) (rest : List (List ℕ)) (more : isLast rest ≡ false) (
       let fs = blockFields zs in
       let fewer : suc n - 1 ≡ n = omega arith in
       read-row limit (during s j (suc n)) ls ts k fs after 66 (rw (lt-ltb 0 (suc n) (omega arith))) (λ q. omega arith) (omega arith) (block-free 9 (omega arith) zs) (block-short zs m g) e
-      (omega (arith, length-map zs levelText)) (block-good zs m g) (during s j n) (rw (lt-ltb 0 (suc n) (omega arith), fewer))
+      (omega (arith, length-map zs levelText)) (block-good zs m g) (during s j n) (rw fewer)
       ∙ rw (block-levels fs, block-said zs m g, tables-without blockRules fs refl, append-nil ts)
 
   -- the blocks of a channel
@@ -116,7 +113,7 @@ module _ (limit : ℕ) (rest : List (List ℕ)) (more : isLast rest ≡ false) w
       read-row limit (during s j 0) ls ts k fs after 67 (rw (lt-ltb j (s .header .channels) h)) (λ q. omega arith) (omega arith) (channel-free 9 (omega arith) c qs)
       (channel-short (s .header) x c l qs m g) e
       (omega (arith, length-map qs decimal)) (channel-good (s .header) x c l qs m g) (during (placed s j c) (j + 1) (c .width * c .height / 64))
-      (rw (lt-ltb j (s .header .channels) h, b, covered (s .header) c l))
+      (rw (b, covered (s .header) c l))
       ∙ rw (channel-tables fs, channel-said (s .header) x c l qs m g, levels-without channelRules fs refl, append-nil ls)
 
   read-channel : (s : Sheet) (j : ℕ) (c : Channel) (ls zs : List ℤ) (ts us : List ℕ) (k : ℕ)

@@ -1,35 +1,33 @@
 -- The written rows: their fields are good, they say what was written, and they are short and free of tabs and line ends.
-use Prim.Native.Nat.{ℕ, zero, suc, _+_, _*_, _/_, _<_, _≤_}
-use mathlib.Core.Path.{_≡_, refl, sym, ap, _∙_}
+use Prim.Native.Nat.{ℕ, _<_, _≤_}
+use mathlib.Core.Path.{_≡_, refl, sym, ap}
 use mathlib.Core.List.{List, [], _∷_, _++_, map}
-use mathlib.Core.Bool.{Bool, true, false, cond, _&&_}
+use mathlib.Core.Bool.{Bool, true, false, cond}
 use mathlib.Core.Logic.{_⊎_, inl, inr}
-use mathlib.Core.Option.{Option, none, some}
+use mathlib.Core.Option.{none}
 use native.Mathlib.Nat.{le-trans}
 use native.Mathlib.Omega.{arith}
-use lib.ListN.{length, getD, take, drop, replicate, length-map}
-use lib.IntN.{ℤ, pos, negsuc}
+use lib.ListN.{length, replicate}
+use lib.IntN.{ℤ}
 use borrow.Author.Tests.{eq-eqb}
 use Rattle.text.specs.declared.number.Number.the-variants as number
 use Rattle.text.specs.declared.weight.Weight.{Weight}
 use Rattle.text.specs.declared.weight.WeightField.the-variants as weight-field
 use Rattle.text.specs.declared.field.Rule.{Rule}
 use Rattle.text.specs.declared.field.Rule.the-variants as rule
-use Rattle.text.specs.declared.field.Field.{Field}
 use Rattle.text.specs.declared.field.Field.the-variants as field
 use Rattle.text.specs.Numbers.{numberOf, numberValue, numberAt}
 use Rattle.text.specs.Weights.{weightOf, weightIn, weightAt}
-use Rattle.text.specs.Levels.{levelOf}
-use Rattle.text.specs.Fields.{letter, fieldOf, faultIn, levelsIn, tablesIn}
+use Rattle.text.specs.Fields.{letter, fieldOf, faultIn}
 use Rattle.text.specs.Legal.{Between, LegalSide, LegalWeight, LegalLevel}
-use Rattle.text.specs.Written.{decimal, hexOf, weightText, levelText, joined}
+use Rattle.text.specs.Written.{decimal, weightText, levelText, joined}
 use Rattle.text.proofs.FieldLaws.{range-in, side-in, channels-one, channels-three, quantiser-in, weight-is}
 use Rattle.text.proofs.DecimalLaws.{number-written, decimal-length}
 use Rattle.text.proofs.SpellingLaws.{weight-written, level-written, weight-length, level-length}
-use Rattle.text.proofs.JoinLaws.{above, above-free, above-less, above-decimal, above-weight, above-level, free, allFree, Within, joined-length}
+use Rattle.text.proofs.JoinLaws.{above, above-free, above-less, above-decimal, above-weight, above-level, allFree, Within, joined-length}
 use Rattle.sheet.specs.declared.Header.{Header}
 use Rattle.sheet.specs.declared.Channel.{Channel}
-use Rattle.sheet.specs.Lines.{count, factor, ownSide, headerRules, channelRules, blockRules, orElse, firstFault, lineLevels, lineTables, headerOf, channelOf}
+use Rattle.sheet.specs.Lines.{count, headerRules, channelRules, blockRules, firstFault, lineLevels, lineTables, headerOf, channelOf}
 use Rattle.sheet.specs.Legal.{LegalHeader, LegalChannel, LegalQuantisers, LegalLevels}
 use Rattle.sheet.specs.Written.{headerFields, channelFields, blockFields, endFields}
 
@@ -294,9 +292,6 @@ channel-free b k c qs =
 
 pub block-free : (b : ℕ) → b < 45 → (zs : List ℤ) → allFree b (blockFields zs) ≡ true
 block-free b k zs = cleans-free b k (blockFields zs) (refl, clean-levels zs)
-
-pub end-free : (b : ℕ) → b < 45 → allFree b endFields ≡ true
-end-free b k = cleans-free b k endFields (refl, tt)
 
 -- No row is over 1,024 bytes
 

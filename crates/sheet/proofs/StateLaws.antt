@@ -1,13 +1,13 @@
 -- What is read so far, by the tests that the code makes.
 use Prim.Native.Nat.{ℕ, _+_, _-_, _*_, _/_, _<_, _≤_}
-use mathlib.Core.Path.{_≡_, refl, sym, ap, _∙_}
+use mathlib.Core.Path.{_≡_, refl, subst, subst⁻¹}
+use mathlib.Core.List.{List}
 use mathlib.Core.Bool.{Bool, true, false, cond}
-use native.Mathlib.Omega.{arith}
 use native.Mathlib.Nat.{lt-of-le-of-lt, le-of-lt, mul-le-mul-left, mul-lt-mul-of-pos-right}
 use mir.Syntax.{w32, w64}
 use mir.Val.{Fits}
-use lib.Dec.{eqb, lit<}
-use borrow.Author.Tests.{le-leb, lt-leb, lt-ltb, le-ltb}
+use lib.Dec.{eqb, ltb, lit<}
+use borrow.Author.Tests.{le-leb, lt-leb, lt-ltb, le-ltb, ltb-true}
 use Rattle.sheet.specs.declared.Header.{Header}
 use Rattle.sheet.specs.declared.Channel.{Channel}
 use Rattle.sheet.specs.declared.Sheet.{Sheet}
@@ -16,8 +16,9 @@ use Rattle.sheet.specs.declared.line.Record.the-variants as line
 use Rattle.sheet.specs.declared.state.State.{State}
 use Rattle.sheet.specs.declared.state.Taken.{Taken}
 use Rattle.sheet.specs.declared.state.Taken.the-variants as taken
-use Rattle.sheet.specs.Lines.{noHeader, noChannel}
-use Rattle.sheet.specs.Reading.{headed, blank, expectedTag, placed, opened, takenOf}
+use Rattle.sheet.specs.Lines.{noHeader, noChannel, headerOf, channelOf, recordOf}
+use Rattle.sheet.specs.Walk.{Due}
+use Rattle.sheet.specs.Reading.{headed, blank, expectedTag, placed, takenOf}
 
 -- Nothing, and a header
 
@@ -61,29 +62,19 @@ pub product-fits : (a b : ℕ) → Fits w32 a → Fits w32 b → Fits w64 (a * b
 product-fits a b h k = record { fits = lt-of-le-of-lt (mul-le-mul-left a (le-of-lt (k .fits))) (mul-lt-mul-of-pos-right (h .fits) (lit< tt)) }
 
 module _ (s : State) (c : Channel) where
-  pub channel-over : s .sheet .header .channels ≤ s .read → taken.Bad 1 ≡ takenOf s (line.Channel c)
+  pub channel-wide : s .sheet .header .width < c .width * c .across → taken.Bad 2 ≡ takenOf s (line.Channel c)
   unfolding takenOf
-  channel-over h = rw (le-ltb (s .read) (s .sheet .header .channels) h)
+  channel-wide k = rw (lt-leb (c .width * c .across) (s .sheet .header .width) k)
 
-  module _ (h : s .read < s .sheet .header .channels) where
-    pub channel-wide : s .sheet .header .width < c .width * c .across → taken.Bad 2 ≡ takenOf s (line.Channel c)
+  module _ (k : c .width * c .across ≤ s .sheet .header .width) where
+    pub channel-high : s .sheet .header .height < c .height * c .down → taken.Bad 2 ≡ takenOf s (line.Channel c)
     unfolding takenOf
-    channel-wide k = rw (lt-ltb (s .read) (s .sheet .header .channels) h, lt-leb (c .width * c .across) (s .sheet .header .width) k)
+    channel-high l = rw (le-leb (c .width * c .across) (s .sheet .header .width) k, lt-leb (c .height * c .down) (s .sheet .header .height) l)
 
-    module _ (k : c .width * c .across ≤ s .sheet .header .width) where
-      pub channel-high : s .sheet .header .height < c .height * c .down → taken.Bad 2 ≡ takenOf s (line.Channel c)
-      unfolding takenOf
-      channel-high l =
-          rw (lt-ltb (s .read) (s .sheet .header .channels) h, le-leb (c .width * c .across) (s .sheet .header .width) k, lt-leb (c .height * c .down) (s .sheet .header .height) l)
-
-      pub channel-in : c .height * c .down ≤ s .sheet .header .height → taken.Good (opened s c) ≡ takenOf s (line.Channel c)
-      unfolding takenOf
-      channel-in l =
-          rw (lt-ltb (s .read) (s .sheet .header .channels) h, le-leb (c .width * c .across) (s .sheet .header .width) k, le-leb (c .height * c .down) (s .sheet .header .height) l)
-
-      pub channel-opened : c .height * c .down ≤ s .sheet .header .height → (t : Sheet) → t ≡ placed (s .sheet) (s .read) c
-          → taken.Good (record { begun = true; sheet = t; read = s .read + 1; left = c .width * c .height / 64 }) ≡ takenOf s (line.Channel c)
-      channel-opened l t e = rw e (channel-in l)
+    pub channel-opened : c .height * c .down ≤ s .sheet .header .height → (t : Sheet) → t ≡ placed (s .sheet) (s .read) c
+        → taken.Good (record { begun = true; sheet = t; read = s .read + 1; left = c .width * c .height / 64 }) ≡ takenOf s (line.Channel c)
+    unfolding takenOf
+    channel-opened l t e = rw (e, le-leb (c .width * c .across) (s .sheet .header .width) k, le-leb (c .height * c .down) (s .sheet .header .height) l)
 
 module _ (s : State) (rec : Record) where
   pub record-header : (h : Header) (t : Sheet) → rec ≡ line.Header h → t ≡ headed h → taken.Good (record { begun = true; sheet = t; read = 0; left = 0 }) ≡ takenOf s rec
@@ -93,12 +84,27 @@ module _ (s : State) (rec : Record) where
   pub record-channel : (c : Channel) (r : Taken) → rec ≡ line.Channel c → r ≡ takenOf s (line.Channel c) → r ≡ takenOf s rec
   record-channel c r e q = rw e q
 
-  pub record-none : rec ≡ line.Block → s .left < 1 → taken.Bad 1 ≡ takenOf s rec
+  pub record-block : rec ≡ line.Block → taken.Good (record { begun = s .begun; sheet = s .sheet; read = s .read; left = s .left - 1 }) ≡ takenOf s rec
   unfolding takenOf
-  record-none e h = rw (e, le-ltb 0 (s .left) (omega arith))
+  record-block e = rw e
 
-  pub record-block : rec ≡ line.Block → 1 ≤ s .left → taken.Good (record { begun = s .begun; sheet = s .sheet; read = s .read; left = s .left - 1 }) ≡ takenOf s rec
-  unfolding takenOf
-  record-block e h = rw (e, lt-ltb 0 (s .left) h)
+  module _ (d : Due s rec) where
+    pub due-channel : (c : Channel) → rec ≡ line.Channel c → s .read < s .sheet .header .channels
+    due-channel c e = subst (Due s) e d
 
-pub ruleset takes = (placed-is, channel-over, channel-wide, channel-high, channel-opened, product-fits, record-header, record-channel, record-none, record-block)
+    pub due-block : rec ≡ line.Block → 0 < s .left
+    due-block e = subst (Due s) e d
+
+-- what is due where the tag isn't E
+pub due : (s : State) (tag : ℕ) → tag ≡ expectedTag s → (tag ≡ 69 → ⊥) → (fs : List (List ℕ)) (rec : Record) → rec ≡ recordOf tag fs → Due s rec
+unfolding expectedTag recordOf
+due s tag e h fs rec q = subst⁻¹ (Due s) q (three (s .begun) (ltb 0 (s .left)) (ltb (s .read) (s .sheet .header .channels)) refl refl e)
+  where
+    three : (a b c : Bool) → ltb 0 (s .left) ≡ b → ltb (s .read) (s .sheet .header .channels) ≡ c → tag ≡ cond a (cond b 66 (cond c 67 69)) 83
+        → Due s (cond (eqb tag 83) (line.Header (headerOf fs)) (cond (eqb tag 67) (line.Channel (channelOf fs)) line.Block))
+    three false b c p r o = rw o tt
+    three true true c p r o = rw o (ltb-true 0 (s .left) p)
+    three true false true p r o = rw o (ltb-true (s .read) (s .sheet .header .channels) r)
+    three true false false p r o = absurd (h o)
+
+pub ruleset takes = (placed-is, channel-wide, channel-high, channel-opened, product-fits, record-header, record-channel, record-block, due-channel, due-block)

@@ -1,16 +1,16 @@
 -- A walk over a text: what is left to read, read after what was read, gives the whole answer.
 use Prim.Native.Nat.{ℕ, suc, _+_, _-_, _^_, _<_, _≤_}
 use mathlib.Core.Path.{_≡_, refl, sym, ap, _∙_}
-use mathlib.Core.List.{List, [], _∷_, _++_, append-assoc}
+use mathlib.Core.List.{List, [], _∷_, _++_}
 use mathlib.Core.Bool.{Bool, true, false, cond}
 use mathlib.Core.Logic.{⊎-elim}
-use mathlib.Core.Option.{Option, none, some}
+use mathlib.Core.Option.{none, some}
 use native.Mathlib.Numerals.{add-one}
 use native.Mathlib.Nat.{zero-add}
 use native.Mathlib.Omega.{arith}
 use lib.ListN.{length, getD, drop, take, set, length-append, length-drop, drop-of-length-le}
 use lib.Seq.{drop-cons, drop-drop, sets, length-sets}
-use lib.Dec.{eqb, ltb}
+use lib.Dec.{eqb}
 use lib.IntN.{ℤ}
 use borrow.Author.Tests.{eq-eqb, ne-eqb, lt-ltb, le-ltb}
 use denote.Enum.Declared.{tagOf}
@@ -29,12 +29,11 @@ use Rattle.sheet.specs.declared.line.Record.{Record}
 use Rattle.sheet.specs.declared.state.State.{State}
 use Rattle.sheet.specs.declared.state.Taken.{Taken}
 use Rattle.sheet.specs.declared.state.Taken.the-variants as taken
-use Rattle.sheet.specs.declared.walk.Walked.{Walked}
 use Rattle.sheet.specs.declared.walk.Walked.the-variants as walked
-use Rattle.sheet.specs.Lines.{headerRules, channelRules, blockRules, endRules, rulesOf, fieldCount, orElse, firstFault, fieldsFault, lineLevels, lineTables, recordOf}
-use Rattle.sheet.specs.Reading.{Outcome, Contents, contents, blank, expectedTag, takenOf, isLast, nothingLeft, onFault, onTaken, lineFault, readFrom, readText}
-use Rattle.sheet.specs.Reading.Outcome.{Gives, Refused}
-use Rattle.sheet.specs.Walk.{Stored, walkedOf, Stores, Walks}
+use Rattle.sheet.specs.Lines.{headerRules, channelRules, blockRules, endRules, rulesOf, fieldCount, firstFault, fieldsFault, lineLevels, lineTables, recordOf}
+use Rattle.sheet.specs.Reading.{Outcome, Contents, contents, blank, expectedTag, takenOf, isLast, nothingLeft, onTaken, lineFault, readFrom, readText}
+use Rattle.sheet.specs.Reading.Outcome.{Refused}
+use Rattle.sheet.specs.Walk.{Stored, Walks}
 
 -- Stores one after the other
 

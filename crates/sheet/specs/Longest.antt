@@ -1,6 +1,6 @@
 -- How many bytes a legal text has at most, and how many decide any text.
 use Prim.Native.Nat.{ℕ, _+_, _*_, _/_}
-use mathlib.Core.List.{List, [], _∷_, _++_}
+use mathlib.Core.List.{List, _∷_}
 use lib.ListN.{length, replicate}
 use Rattle.text.specs.Written.{decimal, rowBytes}
 

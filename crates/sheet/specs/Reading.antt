@@ -63,14 +63,11 @@ opened s c = record { begun = true; sheet = placed (s .sheet) (s .read) c; read 
 abbrev pub covers : Header → Channel → Bool
 covers h c = leb (c .width * c .across) (h .width) && leb (c .height * c .down) (h .height)
 
--- The state after a line whose fields are good, or its fault: "then cover (2)". (Where no channel or block is due no such
--- line is, so the two 1s are never given.)
+-- The state after a line whose fields are good, or its fault: "then cover (2)"
 unfoldable pub takenOf : State → Record → Taken
 takenOf s (line.Header h) = taken.Good (record { begun = true; sheet = headed h; read = 0; left = 0 })
-takenOf s (line.Channel c) =
-    cond (ltb (s .read) (s .sheet .header .channels)) (cond (covers (s .sheet .header) c) (taken.Good (opened s c)) (taken.Bad 2)) (taken.Bad 1)
-takenOf s line.Block =
-    cond (ltb 0 (s .left)) (taken.Good (record { begun = s .begun; sheet = s .sheet; read = s .read; left = s .left - 1 })) (taken.Bad 1)
+takenOf s (line.Channel c) = cond (covers (s .sheet .header) c) (taken.Good (opened s c)) (taken.Bad 2)
+takenOf s line.Block = taken.Good (record { begun = s .begun; sheet = s .sheet; read = s .read; left = s .left - 1 })
 
 -- The line p is the last piece: unended, or nothing at all
 abbrev pub isLast : List (List ℕ) → Bool
@@ -78,8 +75,8 @@ isLast [] = true
 isLast (p ∷ ps) = false
 
 -- "In any other line: 1 if over 1,024 bytes, 7 if unended, then tag and field count (1), then fields left to right": the
--- fault of the line p, before those in rest, where this tag is due. "7 .. for the one after the last when `E` is missing":
--- that one is the last piece too.
+-- fault of the line p, before those in rest, where this tag is due. "For 7 it is the unended line, the one after the last when
+-- `E` is missing": both are the last piece.
 unfoldable pub lineFault : ℕ → ℕ → List ℕ → List (List ℕ) → Option ℕ
 lineFault limit tag p rest =
     cond (ltb 1024 (length p)) (some 1) (cond (isLast rest) (some 7) (fieldsFault (rulesOf tag limit (split 9 p)) (split 9 p)))
@@ -100,7 +97,8 @@ abbrev pub onTaken : {A : Type 0} → Taken → ℕ → (State → Outcome A) �
 onTaken (taken.Good s) at more = more s
 onTaken (taken.Bad k) at more = Refused k at
 
--- The text from line `at` on, as its pieces, after what was read so far
+-- The text from line `at` on, as its pieces, after what was read so far. Levels and quantisers stand in the order of the
+-- text: "blocks and values row by row, not zigzag".
 abbrev pub readFrom : ℕ → State → List ℤ → List ℕ → ℕ → List (List ℕ) → Outcome Contents
 readFrom limit s ls ts at [] = Refused 7 at
 readFrom limit s ls ts at (p ∷ rest) =
@@ -112,7 +110,7 @@ readFrom limit s ls ts at (p ∷ rest) =
     (cond (nothingLeft rest) (contents (s .sheet) ls ts) (Refused 7 (at + 1)))
     (onTaken (takenOf s (recordOf tag fs)) at (λ t. readFrom limit t (ls ++ lineLevels rs fs) (ts ++ lineTables rs fs) (at + 1) rest)))
 
--- A text at a side limit, 512 in the library and 32 in `smooth`. A limit that could not be a side is 2 at line 0, before the
--- text is read: document 01 has no such limit, and this is M-106's answer to a bad parameter.
+-- A text at a side limit: 512 in the library; "W and H above 32 are 2 there, at that field" in `smooth`. A limit that could
+-- not be a side is 2 at line 0, before the text is read, as M-106 has it for a parameter of its own.
 unfoldable pub readText : ℕ → List ℕ → Outcome Contents
 readText limit text = cond (isSide 512 limit) (readFrom limit blank [] [] 1 (split 10 text)) (Refused 2 0)

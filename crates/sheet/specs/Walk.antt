@@ -1,14 +1,23 @@
 -- What the walk over a text promises its two callers.
-use Prim.Native.Nat.{ℕ, _+_}
+use Prim.Native.Nat.{ℕ, _+_, _<_}
 use mathlib.Core.Path.{_≡_}
 use mathlib.Core.List.{List}
 use lib.ListN.{length}
 use lib.Seq.{sets}
 use lib.IntN.{ℤ}
+use Rattle.sheet.specs.declared.line.Record.{Record}
+use Rattle.sheet.specs.declared.line.Record.the-variants as line
+use Rattle.sheet.specs.declared.state.State.{State}
 use Rattle.sheet.specs.declared.walk.Walked.{Walked}
 use Rattle.sheet.specs.declared.walk.Walked.the-variants as walked
 use Rattle.sheet.specs.Reading.{Outcome, Contents, readText}
 use Rattle.sheet.specs.Reading.Outcome.{Gives, Refused}
+
+-- The line is due: a channel is left, or a block of it
+abbrev pub Due : State → Record → Type 0
+Due s (line.Header h) = Unit {0}
+Due s (line.Channel c) = s .read < s .sheet .header .channels
+Due s line.Block = 0 < s .left
 
 -- The values vs were stored from place n on, as far as there is room, and r is the next place
 pub record Stored {A : Type 0} (entry exit : List A) (n r : ℕ) (vs : List A) : Type 0 where

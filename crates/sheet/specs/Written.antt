@@ -1,7 +1,7 @@
 -- A sheet written as text: the text that reads as it, for every legal sheet (proofs/RoundTrip.antt).
 use Prim.Native.Nat.{ℕ, zero, suc, _*_, _/_}
 use mathlib.Core.List.{List, [], _∷_, _++_, map}
-use mathlib.Core.Bool.{Bool, cond}
+use mathlib.Core.Bool.{cond}
 use lib.ListN.{take, drop}
 use lib.IntN.{ℤ}
 use Rattle.text.specs.Written.{decimal, weightText, levelText, joined, ended}

@@ -4,7 +4,8 @@ mod state;
 mod walk;
 
 use crate::walk::Walked;
-use text::weight::Weight;
+pub use text::weight::Weight;
+pub use text::weight::weight_value;
 ghost use mathlib.Core.Path.{_≡_};
 ghost use Rattle.sheet.specs.Calls.{measuring, measuredSays, Reads};
 

@@ -22,13 +22,13 @@ pub enum Record {
 pub fn field_count(tag: u8) -> usize
     ensures { λ r. ⌜ r ≡ fieldCount tag ⌝ }
 {
-    if tag == 83 {
+    if tag == b'S' {
         return 16;
     }
-    if tag == 67 {
+    if tag == b'C' {
         return 69;
     }
-    if tag == 66 {
+    if tag == b'B' {
         return 65;
     }
     1
@@ -39,7 +39,7 @@ fn header_rule(i: usize, limit: u32, row: &[u8]) -> Rule
     ensures { λ r. ⌜ r ≡ getD (headerRules limit (split 9 (now (row .entry)))) i (Rule.Tag 0) ⌝ }
 {
     if i == 0 {
-        return Rule::Tag(83);
+        return Rule::Tag(b'S');
     }
     if i <= 2 {
         return Rule::Side(limit);
@@ -79,7 +79,7 @@ fn channel_rule(i: usize) -> Rule
     ensures { λ r. ⌜ r ≡ getD channelRules i (Rule.Tag 0) ⌝ }
 {
     if i == 0 {
-        return Rule::Tag(67);
+        return Rule::Tag(b'C');
     }
     if i <= 2 {
         return Rule::Side(999999);
@@ -98,7 +98,7 @@ fn block_rule(i: usize) -> Rule
     requires { ⌜ i < 65 ⌝ }
     ensures { λ r. ⌜ r ≡ getD blockRules i (Rule.Tag 0) ⌝ }
 {
-    if i == 0 { Rule::Tag(66) } else { Rule::Level }
+    if i == 0 { Rule::Tag(b'B') } else { Rule::Level }
 }
 
 // The rule of field i of a line.
@@ -106,16 +106,16 @@ pub fn rule_at(tag: u8, i: usize, limit: u32, row: &[u8]) -> Rule
     requires { ⌜ i < fieldCount tag ⌝ }
     ensures { λ r. ⌜ r ≡ getD (rulesOf tag limit (split 9 (now (row .entry)))) i (Rule.Tag 0) ⌝ }
 {
-    if tag == 66 {
+    if tag == b'B' {
         return block_rule(i);
     }
-    if tag == 67 {
+    if tag == b'C' {
         return channel_rule(i);
     }
-    if tag == 83 {
+    if tag == b'S' {
         return header_rule(i, limit, row);
     }
-    Rule::Tag(69)
+    Rule::Tag(b'E')
 }
 
 fn header_of(row: &[u8]) -> Header
@@ -133,7 +133,7 @@ fn header_of(row: &[u8]) -> Header
         picture_width: number::number_at(row, 3),
         picture_height: number::number_at(row, 4),
         channels: number::number_at(row, 5),
-        joint: field::letter_at(row, 6, 106),
+        joint: field::letter_at(row, 6, b'j'),
         iterations0: number::number_at(row, 7),
         iterations1: number::number_at(row, 8),
         iterations2: number::number_at(row, 9),
@@ -161,10 +161,10 @@ fn channel_of(row: &[u8]) -> Channel
 pub fn record_of(tag: u8, row: &[u8]) -> Record
     ensures { λ r. ⌜ r ≡ recordOf tag (split 9 (now (row .entry))) ⌝ }
 {
-    if tag == 83 {
+    if tag == b'S' {
         return Record::Header(header_of(row));
     }
-    if tag == 67 {
+    if tag == b'C' {
         return Record::Channel(channel_of(row));
     }
     Record::Block

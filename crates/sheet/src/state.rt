@@ -7,6 +7,8 @@ use text::weight::Weight;
 ghost use mathlib.Core.Path.{_≡_};
 ghost use mathlib.Core.Bool.{cond};
 ghost use Rattle.sheet.specs.Lines.{noHeader, noChannel};
+ghost use Prim.Native.Nat.{_<_};
+ghost use Rattle.sheet.specs.Walk.{Due};
 ghost use Rattle.sheet.specs.Reading.{blank, headed, placed, expectedTag, takenOf};
 
 // The sheet so far: whether the header was read, how many channels were, and how many blocks of the last are still to come.
@@ -91,14 +93,14 @@ pub fn expected(s: State) -> u8
     let h = sheet.header;
     if s.begun {
         if 0 < s.left {
-            return 66;
+            return b'B';
         }
         if s.read < h.channels {
-            return 67;
+            return b'C';
         }
-        return 69;
+        return b'E';
     }
-    83
+    b'S'
 }
 
 fn channel_if(new: bool, c: Channel, old: Channel) -> Channel
@@ -128,14 +130,12 @@ fn place(sheet: Sheet, j: u32, c: Channel) -> Sheet
 
 // The next channel's line. Blocks and cover are products of 64 bits, which hold every product of two u32.
 fn take_channel(s: State, c: Channel) -> Taken
+    requires { ⌜ s .read < s .sheet .header .channels ⌝ }
     ensures { λ r. ⌜ r ≡ takenOf s (Record.Channel c) ⌝ }
 {
     let sheet = s.sheet;
     let h = sheet.header;
     let read = s.read;
-    if h.channels <= read {
-        return Taken::Bad(1);
-    }
     let w = c.width as u64;
     let v = c.height as u64;
     if (h.width as u64) < w * (c.across as u64) {
@@ -156,6 +156,7 @@ fn take_channel(s: State, c: Channel) -> Taken
 
 // The state after a good line, or the number of its fault.
 pub fn take_record(s: State, rec: Record) -> Taken
+    requires { ⌜ Due s rec ⌝ }
     ensures { λ r. ⌜ r ≡ takenOf s rec ⌝ }
 {
     match rec {
@@ -170,9 +171,6 @@ pub fn take_record(s: State, rec: Record) -> Taken
         }
         Record::Channel(c) => take_channel(s, c),
         Record::Block => {
-            if s.left < 1 {
-                return Taken::Bad(1);
-            }
             let mut t = s;
             t.left = s.left - 1;
             Taken::Good(t)

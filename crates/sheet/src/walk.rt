@@ -81,6 +81,7 @@ pub fn walk(text: &[u8], limit: u32, levels: &mut [i16], tables: &mut [u16]) -> 
     let mut held: usize = 0;
     let mut listed: usize = 0;
     let answer: Walked = 'lines: loop {
+        // the line's length, then its end, then tag and field count
         let l = pieces::line_at(text, at);
         let end = l.end;
         if 1024 < end - at {
@@ -94,6 +95,7 @@ pub fn walk(text: &[u8], limit: u32, levels: &mut [i16], tables: &mut [u16]) -> 
         if l.fields != count {
             break 'lines Walked::Refused { number: 1, line };
         }
+        // its fields, left to right
         let row = &text[at..end];
         let mut i: usize = 0;
         let mut a: usize = 0;
@@ -108,7 +110,8 @@ pub fn walk(text: &[u8], limit: u32, levels: &mut [i16], tables: &mut [u16]) -> 
             a = e + 1;
             i += 1;
         }
-        if tag == 69 {
+        // nothing after E; cover after a channel's fields
+        if tag == b'E' {
             if end + 1 == text.len() {
                 let sheet = state.sheet;
                 break 'lines Walked::Sheet {

@@ -5,16 +5,14 @@ use mathlib.Core.List.{List, [], _∷_, _++_}
 use mathlib.Core.Bool.{Bool, true, false, cond, _&&_}
 use native.Mathlib.Nat.{pow-succ'}
 use native.Mathlib.Omega.{arith}
-use lib.ListN.{length, getD, take, drop, length-append, length-take, List·getD-append}
+use lib.ListN.{length, getD, take, length-append, List·getD-append}
 use lib.Seq.{take-suc, take-all, getD-take, length-take-le}
-use lib.Dec.{eqb, leb, ltb}
-use borrow.Author.Tests.{eq-eqb, ne-eqb, le-leb, lt-leb, lt-ltb, le-ltb, ltb-true, ltb-false, leb-true, leb-false}
-use Rattle.text.specs.declared.number.Number.{Number}
+use lib.Dec.{leb, ltb}
+use borrow.Author.Tests.{eq-eqb, le-leb, lt-ltb, le-ltb, ltb-true, ltb-false, leb-true}
 use Rattle.text.specs.declared.number.Number.the-variants as number
 use Rattle.text.specs.Numbers.{digits, padded, numberOf}
 use Rattle.text.specs.Written.{digitsOf, decimal}
 use Rattle.text.proofs.NumberLaws.{number-one, number-two}
-use Rattle.text.proofs.GoodLaws.{both-left, both-right}
 
 pub is-not : {n : ℕ} {A : Type 0} → number.Not ≡ number.Is n → A
 is-not e = let z : _≡_ {A = ℕ} 0 1 = cc in let y : ⊥ = omega arith in absurd y

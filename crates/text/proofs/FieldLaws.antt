@@ -1,6 +1,6 @@
 -- Fields by the tests that the code makes. r is what the field was read as.
 use Prim.Native.Nat.{ℕ, _%_, _-_, _<_, _≤_}
-use mathlib.Core.Path.{_≡_, refl, sym, ap, _∙_}
+use mathlib.Core.Path.{_≡_, refl, sym, _∙_}
 use mathlib.Core.List.{List, [], _∷_}
 use mathlib.Core.Bool.{Bool, true, false}
 use native.Mathlib.Omega.{arith}

@@ -1,13 +1,13 @@
 -- What a field with no fault says, and which fields add nothing to the levels or the tables.
-use Prim.Native.Nat.{ℕ, zero, suc, _%_, _<_, _≤_}
-use mathlib.Core.Path.{_≡_, refl, sym, ap, _∙_}
+use Prim.Native.Nat.{ℕ, zero, suc, _%_, _≤_}
+use mathlib.Core.Path.{_≡_, refl}
 use mathlib.Core.List.{List, [], _∷_}
-use mathlib.Core.Bool.{Bool, true, false, not, cond, _&&_, _||_}
+use mathlib.Core.Bool.{Bool, true, false, cond, _&&_, _||_}
 use mathlib.Core.Logic.{_⊎_, inl, inr}
-use mathlib.Core.Option.{Option, none, some}
+use mathlib.Core.Option.{none, some}
 use native.Mathlib.Omega.{arith}
 use lib.Dec.{eqb, leb, ltb}
-use lib.IntN.{ℤ, pos, negsuc, negℤ}
+use lib.IntN.{ℤ, pos, negℤ}
 use borrow.Author.Tests.{eqb-true, leb-true, ltb-true}
 use Rattle.text.specs.declared.number.Number.{Number}
 use Rattle.text.specs.declared.number.Number.the-variants as number
@@ -19,7 +19,7 @@ use Rattle.text.specs.declared.field.Rule.the-variants as rule
 use Rattle.text.specs.declared.field.Field.{Field}
 use Rattle.text.specs.declared.field.Field.the-variants as field
 use Rattle.text.specs.Numbers.{numberOf, numberValue}
-use Rattle.text.specs.Weights.{bitForm, bitsWeight, wholeWeight, orWhole, afterLetter, weightOf, weightIn}
+use Rattle.text.specs.Weights.{bitForm, wholeWeight, orWhole, afterLetter, weightOf, weightIn}
 use Rattle.text.specs.Legal.{Between, LegalSide, LegalWeight, LegalLevel}
 use Rattle.text.specs.Levels.{fromZero, belowZero, levelOf}
 use Rattle.text.specs.Fields.{letter, isSide, numberField, quantiserField, weightField, fieldOf, faultIn, levelsIn, tablesIn}

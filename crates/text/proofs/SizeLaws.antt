@@ -1,14 +1,14 @@
 -- How long a good field is.
-use Prim.Native.Nat.{ℕ, zero, suc, _+_, _/_, _%_, _^_, _<_, _≤_}
-use mathlib.Core.Path.{_≡_, refl, sym, ap, _∙_}
+use Prim.Native.Nat.{ℕ, zero, suc, _+_, _/_, _%_, _≤_}
+use mathlib.Core.Path.{_≡_, refl, sym, ap}
 use mathlib.Core.List.{List, [], _∷_, _++_}
 use mathlib.Core.Bool.{Bool, true, false, cond, _&&_, _||_}
 use mathlib.Core.Logic.{_⊎_, inl, inr}
-use mathlib.Core.Option.{Option, none, some}
+use mathlib.Core.Option.{none, some}
 use native.Mathlib.Omega.{arith}
 use lib.ListN.{length, length-append}
 use lib.Dec.{eqb, leb, ltb}
-use borrow.Author.Tests.{ltb-true, ltb-false, lt-ltb, le-ltb}
+use borrow.Author.Tests.{ltb-true, ltb-false}
 use Rattle.text.specs.declared.number.Number.{Number}
 use Rattle.text.specs.declared.number.Number.the-variants as number
 use Rattle.text.specs.declared.weight.Weight.{Weight}
@@ -18,10 +18,9 @@ use Rattle.text.specs.declared.field.Rule.the-variants as rule
 use Rattle.text.specs.declared.field.Field.the-variants as field
 use Rattle.text.specs.Numbers.{numberOf, numberValue}
 use Rattle.text.specs.Weights.{weightOf, weightIn}
-use Rattle.text.specs.Levels.{levelOf}
 use Rattle.text.specs.Fields.{letter, isSide, numberField, quantiserField, weightField, fieldOf, faultIn}
-use Rattle.text.specs.Written.{digitsOf, decimal, weightText, levelText}
-use Rattle.text.proofs.GoodLaws.{range-good, channels-good, quantiser-good, level-good, weight-good}
+use Rattle.text.specs.Written.{digitsOf, decimal}
+use Rattle.text.proofs.GoodLaws.{range-good, channels-good, level-good, weight-good}
 use Rattle.text.proofs.DecimalLaws.{number-canonical, decimal-length}
 use Rattle.text.proofs.SpellingLaws.{weight-canonical, level-canonical, weight-length, level-length}
 

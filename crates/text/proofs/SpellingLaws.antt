@@ -8,19 +8,17 @@ use native.Mathlib.Omega.{arith}
 use lib.ListN.{length, getD, take, length-append}
 use lib.Seq.{length-take-le}
 use lib.IntN.{ℤ, pos, negsuc, negℤ}
-use lib.Dec.{eqb, leb, ltb, lit<}
+use lib.Dec.{eqb, leb, ltb}
 use native.Mathlib.Nat.{lt-of-lt-of-le}
-use borrow.Author.Tests.{eq-eqb, ne-eqb, le-leb, lt-leb, lt-ltb, le-ltb, ltb-true, ltb-false, leb-true, leb-false, eqb-true}
+use borrow.Author.Tests.{eq-eqb, ne-eqb, le-leb, lt-leb, lt-ltb, le-ltb, ltb-true, ltb-false, leb-true, eqb-true}
 use Rattle.text.specs.declared.number.Number.{Number}
 use Rattle.text.specs.declared.number.Number.the-variants as number
 use Rattle.text.specs.declared.weight.Weight.{Weight}
 use Rattle.text.specs.declared.weight.Weight.the-variants as weight
-use Rattle.text.specs.declared.weight.WeightField.{WeightField}
 use Rattle.text.specs.declared.weight.WeightField.the-variants as weight-field
-use Rattle.text.specs.declared.field.Field.{Field}
 use Rattle.text.specs.declared.field.Field.the-variants as field
 use Rattle.text.specs.Numbers.{numberOf}
-use Rattle.text.specs.Weights.{hexDigit, hexDigits, afterLetter, bitForm, bitsWeight, wholeWeight, orWhole, weightOf}
+use Rattle.text.specs.Weights.{hexDigit, hexDigits, afterLetter, bitForm, wholeWeight, orWhole, weightOf}
 use Rattle.text.specs.Levels.{fromZero, belowZero, levelOf}
 use Rattle.text.specs.Legal.{LegalWeight, LegalLevel}
 use Rattle.text.specs.Written.{decimal, hexByte, hexOf, weightText, levelText}

@@ -1,15 +1,15 @@
 -- A weight as an f32: by the tests that the code makes, and that a legal weight's value is finite and has no sign bit.
 use Prim.Native.Nat.{ℕ, zero, suc, _+_, _*_, _%_, _/_, _^_, _<_, _≤_}
 use mathlib.Core.Path.{_≡_, refl, sym, ap, _∙_}
-use mathlib.Core.Bool.{Bool, true, false, not, cond}
+use mathlib.Core.Bool.{true, false, not}
 use native.Mathlib.Omega.{arith}
 use native.Mathlib.Nat.{lt-of-le-of-lt, mul-le-mul-right, mul-one}
-use lib.Dec.{T, eqb, leb, ltb, lit<}
+use lib.Dec.{T, ltb, lit<}
 use lib.IntN.{pos}
-use lib.Ieee.{Float, nan, inf, fin, binary32, prec, emax, low, hid, ones, top, odd, div, round, ofInt, ofBits, ofFields, nanBits, isNan}
-use lib.Ieee.Bits.{nanBits-is, nanBits-above, is-true}
+use lib.Ieee.{Float, nan, inf, fin, binary32, hid, odd, div, ofInt, ofBits, ofFields, nanBits, isNan}
+use lib.Ieee.Bits.{nanBits-is, nanBits-above}
 use lib.Ieee.Exact.{HasValue, odd-sign, round-exact}
-use borrow.Author.Tests.{eq-eqb, ne-eqb, le-leb, lt-leb, lt-ltb, le-ltb}
+use borrow.Author.Tests.{ne-eqb, lt-leb, lt-ltb, le-ltb}
 use Rattle.text.specs.declared.weight.Weight.{Weight}
 use Rattle.text.specs.declared.weight.Weight.the-variants as weight
 use Rattle.text.specs.Weights.{valueOf, plain}

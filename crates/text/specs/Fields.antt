@@ -42,7 +42,8 @@ abbrev pub weightField : WeightField → Field
 weightField (weight-field.Is w) = field.Good
 weightField (weight-field.Bad k) = field.Bad k
 
--- "a bad mode letter is 1"; "side, channel count, iterations" out of range are 2; "factor not 1 to 4" is 3
+-- "mode `j` joint or `s` separate" (106, 115), "a bad mode letter is 1"; "side, channel count, iterations .. against the
+-- rules" is 2, and the number of any other range stands in its rule
 unfoldable pub fieldOf : Rule → List ℕ → Field
 fieldOf (rule.Tag t) f = cond (letter t f) field.Good (field.Bad 1)
 fieldOf (rule.Range k low high) f = numberField k (λ n. leb low n && leb n high) (numberOf f)

@@ -20,6 +20,7 @@ abbrev pub belowZero : Number → Field
 belowZero (number.Is n) = cond (eqb n 0) (field.Bad 1) (cond (leb n 2047) (field.Level (negℤ (pos n))) (field.Bad 5))
 belowZero number.Not = field.Bad 1
 
+-- a level, with a minus (45) or without
 unfoldable pub levelOf : List ℕ → Field
 levelOf [] = field.Bad 1
 levelOf (b ∷ l) = cond (eqb b 45) (belowZero (numberOf l)) (fromZero (numberOf (b ∷ l)))

@@ -7,7 +7,7 @@ use lib.Dec.{eqb, leb}
 use Rattle.text.specs.declared.number.Number.{Number}
 use Rattle.text.specs.declared.number.Number.the-variants as number
 
--- decimal digits, after digits of the value n
+-- decimal digits, bytes 48 to 57, after digits of the value n
 abbrev pub digits : ℕ → List ℕ → Number
 digits n [] = number.Is n
 digits n (b ∷ l) = cond (leb 48 b && leb b 57) (digits (n * 10 + (b - 48)) l) number.Not

@@ -15,7 +15,7 @@ use Rattle.text.specs.declared.weight.WeightField.{WeightField}
 use Rattle.text.specs.declared.weight.WeightField.the-variants as weight-field
 use Rattle.text.specs.Numbers.{numberOf}
 
--- the value of one lowercase hexadecimal digit, 16 for any other byte
+-- the value of one lowercase hexadecimal digit, bytes 48 to 57 and 97 to 102; 16 for any other byte
 abbrev pub hexDigit : ℕ → ℕ
 hexDigit b = cond (leb 48 b && leb b 57) (b - 48) (cond (leb 97 b && leb b 102) (b - 87) 16)
 
@@ -29,7 +29,7 @@ abbrev pub afterLetter : ℕ → List ℕ → List ℕ
 afterLetter t [] = []
 afterLetter t (b ∷ l) = cond (eqb b t) l []
 
--- `h` with eight lowercase hexadecimal digits
+-- `h` (104) with eight lowercase hexadecimal digits
 unfoldable pub bitForm : List ℕ → Number
 bitForm f = cond (eqb (length (afterLetter 104 f)) 8) (hexDigits 0 (afterLetter 104 f)) number.Not
 
@@ -42,7 +42,7 @@ abbrev pub wholeWeight : Number → WeightField
 wholeWeight (number.Is n) = cond (leb n 255) (weight-field.Is (weight.Whole n)) (weight-field.Bad 6)
 wholeWeight number.Not = weight-field.Bad 1
 
--- the bits, or else the whole number after its `w`
+-- the bits, or else the whole number after its `w` (119)
 abbrev pub orWhole : List ℕ → Number → WeightField
 orWhole f (number.Is n) = bitsWeight n
 orWhole f number.Not = wholeWeight (numberOf (afterLetter 119 f))

@@ -112,10 +112,10 @@ fn read_channels(f: &[u8]) -> Field
 fn read_mode(f: &[u8]) -> Field
     ensures { λ r. ⌜ r ≡ fieldOf Rule.Mode (now (f .entry)) ⌝ }
 {
-    if is_letter(f, 106) {
+    if is_letter(f, b'j') {
         return Field::Good;
     }
-    if is_letter(f, 115) {
+    if is_letter(f, b's') {
         return Field::Good;
     }
     Field::Bad(1)

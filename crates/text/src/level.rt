@@ -12,7 +12,7 @@ pub fn read_level(f: &[u8]) -> Field
     if f.len() < 1 {
         return Field::Bad(1);
     }
-    if f[0] == 45 {
+    if f[0] == b'-' {
         let Number::Is(n) = number::read_number(&f[1..]) else {
             return Field::Bad(1);
         };

@@ -22,7 +22,7 @@ pub fn read_number(f: &[u8]) -> Number
         return Number::Not;
     }
     if 1 < n {
-        if f[0] == 48 {
+        if f[0] == b'0' {
             return Number::Not;
         }
     }

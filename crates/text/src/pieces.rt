@@ -26,10 +26,10 @@ pub fn line_at(text: &[u8], at: usize) -> Line
     let mut fields: usize = 1;
     while end < text.len() {
         let b = text[end];
-        if b == 10 {
+        if b == b'\n' {
             return Line { end, fields };
         }
-        if b == 9 {
+        if b == b'\t' {
             fields += 1;
         }
         end += 1;
@@ -44,7 +44,7 @@ pub fn field_end(row: &[u8], from: usize) -> usize
 {
     let mut i = from;
     while i < row.len() {
-        if row[i] == 9 {
+        if row[i] == b'\t' {
             return i;
         }
         i += 1;

@@ -22,16 +22,16 @@ pub enum WeightField {
 pub fn hex_digit(b: u8) -> u32
     ensures { λ r. ⌜ r ≡ hexDigit b ⌝ }
 {
-    if b < 48 {
+    if b < b'0' {
         return 16;
     }
-    if b <= 57 {
-        return (b - 48) as u32;
+    if b <= b'9' {
+        return (b - b'0') as u32;
     }
-    if b < 97 {
+    if b < b'a' {
         return 16;
     }
-    if b <= 102 {
+    if b <= b'f' {
         return (b - 87) as u32;
     }
     16
@@ -44,7 +44,7 @@ pub fn bit_form(f: &[u8]) -> Number
     if f.len() != 9 {
         return Number::Not;
     }
-    if f[0] != 104 {
+    if f[0] != b'h' {
         return Number::Not;
     }
     let mut v: u32 = 0;
@@ -68,7 +68,7 @@ pub fn read_weight(f: &[u8]) -> WeightField
         if f.len() < 1 {
             return WeightField::Bad(1);
         }
-        if f[0] != 119 {
+        if f[0] != b'w' {
             return WeightField::Bad(1);
         }
         let Number::Is(n) = number::read_number(&f[1..]) else {
@@ -99,6 +99,7 @@ pub fn weight_at(row: &[u8], i: usize) -> Weight
 }
 
 // The weight as an f32: by its bits, or the whole number exactly. Bits that no legal weight has count too; all NaNs are one.
+// Ruled out: the bits 1 of a whole weight 1; another sign of zero for w0.
 pub fn weight_value(w: Weight) -> f32
     ensures { λ r. ⌜ r ≡ valueOf w ⌝ }
 {

@@ -1,5 +1,4 @@
 -- `sheet::line::channel_rule` meets its contract.
-use borrow.Author.Needs.{needs}
 use Rattle.sheet.proofs.LineLaws.{rules}
 use Rattle.sheet.proofs.line.channel_rule.Statement.{statement}
 use Rattle.sheet.proofs.line.channel_rule.Tie as tie

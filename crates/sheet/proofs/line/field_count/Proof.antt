@@ -1,5 +1,4 @@
 -- `sheet::line::field_count` meets its contract.
-use borrow.Author.Needs.{needs}
 use Rattle.sheet.proofs.LineLaws.{tags}
 use Rattle.sheet.proofs.line.field_count.Statement.{statement}
 use Rattle.sheet.proofs.line.field_count.Tie as tie

@@ -1,5 +1,4 @@
 -- `sheet::line::rule_at` meets its contract.
-use borrow.Author.Needs.{needs}
 use Rattle.sheet.proofs.LineLaws.{places}
 use Rattle.sheet.proofs.line.rule_at.Statement.{statement}
 use Rattle.sheet.proofs.line.rule_at.Tie as tie

@@ -1,5 +1,4 @@
 -- `sheet::state::expected` meets its contract.
-use borrow.Author.Needs.{needs}
 use Rattle.sheet.proofs.StateLaws.{nexts}
 use Rattle.sheet.proofs.state.expected.Statement.{statement}
 use Rattle.sheet.proofs.state.expected.Tie as tie

@@ -7,6 +7,6 @@ use Rattle.sheet.proofs.state.take_channel.Tie as tie
 pub take-channel-spec : {M : Type 1} → statement M
 take-channel-spec =
     tie.close
-    (tie.spec (λ c. search takes) (λ c. search needs) (λ c. search needs) (λ c. search needs) (λ c. search needs)
-    (λ c. search takes) (λ c. search takes) (λ c. search needs) (λ c. search needs) (λ c. search takes)
-    (λ c. search takes) (λ c. search takes) (λ c κs. search needs) (λ c. search needs) (λ c. search takes))
+    (tie.spec (λ c. search needs) (λ c. search needs) (λ c. search needs) (λ c. search needs) (λ c. search takes)
+    (λ c. search takes) (λ c. search needs) (λ c. search needs) (λ c. search takes) (λ c. search takes)
+    (λ c. search takes) (λ c κs. search needs) (λ c. search needs) (λ c. search takes))

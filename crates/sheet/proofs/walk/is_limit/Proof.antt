@@ -1,5 +1,4 @@
 -- `sheet::walk::is_limit` meets its contract.
-use borrow.Author.Needs.{needs}
 use Rattle.sheet.proofs.StoreLaws.{limits}
 use Rattle.sheet.proofs.walk.is_limit.Statement.{statement}
 use Rattle.sheet.proofs.walk.is_limit.Tie as tie

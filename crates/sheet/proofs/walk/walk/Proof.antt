@@ -7,6 +7,7 @@ use borrow.Author.Tests.{not-true, not-false}
 use lib.ListN.{length}
 use Rattle.text.specs.Pieces.{split}
 use Rattle.sheet.specs.Lines.{rulesOf}
+use Rattle.sheet.proofs.StateLaws.{due}
 use Rattle.sheet.proofs.WalkLaws.{good-field, Checking, check-begin, check-levels, check-tables, check-at, check-in, check-bad, check-step, Reading, read-begin, walk-limit, OnLine, same-levels, same-tables, end-inside, walk-long, walk-cut, on-line, walk-count, row-count, rules-count, level-room, table-room, walk-fault, walk-end, walk-after, walk-bad, walk-next}
 use Rattle.sheet.proofs.walk.walk.Statement.{statement}
 use Rattle.sheet.proofs.walk.walk.Tie as tie
@@ -102,6 +103,9 @@ add-next : tie.Need-add-next Inv-loop μ-loop Inv-lines μ-lines
 add-next c =
     let o = c .before .before .before .before .before .before .before .before .before .before .before .before in
     omega (arith, o .lines .inv .lines, o .lines .inv .inside, o .before .before .before .before .before .before .good .0)
+
+take-record-requires : tie.Need-take-record-requires Inv-loop μ-loop Inv-lines μ-lines
+take-record-requires c κs = due _ _ (c .before .before .before .before .before .before .before .before .expected .ensures) (c .before .if5 .left) _ _ (c .record-of .ensures)
 
 add-at : tie.Need-add-at Inv-loop μ-loop Inv-lines μ-lines
 add-at c =
@@ -222,8 +226,8 @@ walk-spec =
     line-at-requires sub-if2 (λ c κs. search needs) (λ c κs. search needs) sub-row part-row-start part-row-end
     loop-holds field-end-requires rule-at-requires sub-read-field part-read-field-start part-read-field-end
     (λ c κs. search needs) (λ c. search needs) put-level-requires put-quantiser-requires add-a (λ c. omega arith)
-    (λ c. omega arith) loop-again add-if6 add-next (λ c κs. search needs) (λ c κs. search needs)
-    (λ c. search needs) (λ c. search needs) add-at add-line lines-less lines-again same-length same-length-2
-    returns-2 same-length-3 same-length-4 returns-3 same-length-5 same-length-6 returns-4 same-length-7
-    same-length-8 returns-5 same-length-9 same-length-10 returns-6 same-length-11 same-length-12 returns-7
-    same-length-13 same-length-14 returns-8)
+    (λ c. omega arith) loop-again add-if6 add-next (λ c κs. search needs) take-record-requires (λ c. search needs)
+    (λ c. search needs) add-at add-line lines-less lines-again same-length same-length-2 returns-2 same-length-3
+    same-length-4 returns-3 same-length-5 same-length-6 returns-4 same-length-7 same-length-8 returns-5
+    same-length-9 same-length-10 returns-6 same-length-11 same-length-12 returns-7 same-length-13 same-length-14
+    returns-8)

@@ -1,5 +1,5 @@
 -- `text::number::read_number` meets its contract: the digits from i on, after the value so far, give the number.
-use Prim.Native.Nat.{_+_, _≤_, _<_, _-_, _^_}
+use Prim.Native.Nat.{_≤_, _<_, _-_, _^_}
 use mathlib.Core.Path.{_≡_, sym, _∙_}
 use mathlib.Core.Logic.{⊎-elim}
 use native.Mathlib.Omega.{arith}

@@ -1,0 +1,36 @@
+-- What a legal record tells the solver of a channel: its cover, and the lengths of what it is handed.
+use mathlib.Core.Path.{_≡_, _∙_}
+use mathlib.Core.List.{List}
+use Prim.Native.Nat.{ℕ, _+_, _*_, _<_, _≤_}
+use native.Mathlib.Omega.{arith}
+use lib.IntN.{ℤ}
+use lib.ListN.{length}
+use Rattle.fold.specs.Part.{part}
+use Rattle.fold.proofs.Parts.{part-length}
+use Rattle.scalar.specs.declared.coef.Own as Sides
+use Rattle.scalar.specs.Coef.{Covers, Lent}
+use Rattle.calls.specs.Run.{own, coefs, levelsBefore}
+use Rattle.demand.proofs.Laws.{covers-of}
+use Rattle.record.specs.declared.Run.{Run}
+use Rattle.record.specs.Model.{Legal, sheetOf}
+use Rattle.record.proofs.Sizes.{facts, levels-rise}
+use Rattle.run.specs.Parts.{Fed}
+
+abbrev pub sides : Run → ℕ → Sides.Own
+sides r c =
+    record { width = own (sheetOf r) c .width; height = own (sheetOf r) c .height; across = own (sheetOf r) c .across; down = own (sheetOf r) c .down }
+
+pub covers : (r : Run) → Legal r → (c : ℕ) → c < r .count → Covers (sides r c) (r .w) (r .h)
+covers r ok c h = covers-of (sheetOf r) (facts r ok) c h
+
+pub lent-long : (r : Run) (c : ℕ) (levels : List ℤ) (tables : List ℕ) → Fed r c levels tables
+    → let at = levelsBefore (sheetOf r) c in
+    Lent (sides r c) (part levels at (at + coefs (sheetOf r) c)) (part tables (c * 64) (c * 64 + 64))
+lent-long r c levels tables f =
+    let S = sheetOf r in
+    let at : ℕ = levelsBefore S c in
+    let n : at + coefs S c ≤ length levels = omega (arith, levels-rise S c (r .count) (f .below), f .levels-long) in
+    let m : c * 64 + 64 ≤ length tables = omega (arith, f .below, f .tables-long) in (
+      part-length levels at (at + coefs S c) (omega arith) n ∙ omega arith,
+      part-length tables (c * 64) (c * 64 + 64) (omega arith) m ∙ omega arith,
+    )

@@ -1,0 +1,107 @@
+-- The lent buffers after each job of a channel: what it writes is put back into its part, and the rest stays.
+use mathlib.Core.Path.{_≡_}
+use mathlib.Core.List.{List}
+use Prim.Native.Nat.{ℕ, _+_, _*_, _<_}
+use lib.Ieee.{Float}
+use Rattle.scalar.specs.Buffers.{Buffers}
+use Rattle.steps.specs.declared.solve.Constants.{Constants}
+use Rattle.steps.specs.Solve.{Planes, pushedPart}
+use Rattle.steps.specs.Step.{movedPart}
+use Rattle.scalar.specs.Projection.{Box, projectOntoBox}
+use Rattle.scalar.specs.Blown.{isBlown}
+use Rattle.scalar.proofs.Lengths.{BoxLong, projected-long}
+use Rattle.calls.specs.Run.{Given, own, count, area, coefs}
+use Rattle.calls.specs.Buffers.{partOf, channel, putChannel}
+use Rattle.calls.proofs.Parts.{put-part, length-part, part-put-same}
+use Rattle.solver.specs.Solver.{pushing, fitting, moving, projecting}
+use Rattle.demand.specs.Solver.{coefOf}
+use Rattle.run.specs.Public.{forPush, forData, forMove, forProject}
+use Rattle.run.specs.Parts.{partBox, fittedPart, projectedPart}
+
+module _ (n c : ℕ) (o : Buffers) (k : Constants) where
+  pub push-buffers : (plane prior : List Float)
+      → let s = pushedPart (k .factor) (c * n) (c * n + n) (record { plane = plane; prior = prior }) in
+      putChannel n c (forPush o plane prior) (pushing k (channel n c (forPush o plane prior))) ≡ forPush o (s .plane) (s .prior)
+  unfolding channel putChannel pushing
+  push-buffers plane prior =
+      let s = pushedPart (k .factor) (c * n) (c * n + n) (record { plane = plane; prior = prior }) in
+      λ i.
+      record {
+        plane = s .plane;
+        prior = s .prior;
+        gradient = put-part n c (o .gradient) i;
+        across = put-part n c (o .across) i;
+        down = put-part n c (o .down) i;
+        saved = put-part n c (o .saved) i;
+      }
+
+  pub move-buffers : (plane gradient : List Float)
+      → putChannel n c (forMove o plane gradient) (moving k (channel n c (forMove o plane gradient)))
+      ≡ forMove o (movedPart (k .step) (c * n) (c * n + n) gradient plane) gradient
+  unfolding channel putChannel moving
+  move-buffers plane gradient =
+      λ i.
+      record {
+        plane = movedPart (k .step) (c * n) (c * n + n) gradient plane;
+        prior = put-part n c (o .prior) i;
+        gradient = put-part n c gradient i;
+        across = put-part n c (o .across) i;
+        down = put-part n c (o .down) i;
+        saved = put-part n c (o .saved) i;
+      }
+
+module _ (G : Given) (c : ℕ) (o : Buffers) where
+  pub data-buffers : (gradient saved : List Float)
+      → putChannel (area G) c (forData o gradient saved)
+      (fitting (coefOf G c) (G .sheet .W) (G .sheet .H) (own (G .sheet) c .data-weight) (channel (area G) c (forData o gradient saved)))
+      ≡ forData o (fittedPart G c gradient saved) saved
+  unfolding channel putChannel fitting
+  data-buffers gradient saved =
+      λ i.
+      record {
+        plane = put-part (area G) c (o .plane) i;
+        prior = put-part (area G) c (o .prior) i;
+        gradient = fittedPart G c gradient saved;
+        across = put-part (area G) c (o .across) i;
+        down = put-part (area G) c (o .down) i;
+        saved = put-part (area G) c saved i;
+      }
+
+  pub project-buffers : (plane across down saved : List Float)
+      → let y = projectedPart G c (record { plane = plane; across = across; down = down; saved = saved }) in
+      putChannel (area G) c (forProject o plane across down saved)
+      (projecting (coefOf G c) (G .sheet .W) (G .sheet .H) (channel (area G) c (forProject o plane across down saved)))
+      ≡ forProject o (y .plane) (y .across) (y .down) (y .saved)
+  unfolding channel putChannel projecting
+  project-buffers plane across down saved =
+      let y = projectedPart G c (record { plane = plane; across = across; down = down; saved = saved }) in
+      λ i.
+      record {
+        plane = y .plane;
+        prior = put-part (area G) c (o .prior) i;
+        gradient = put-part (area G) c (o .gradient) i;
+        across = y .across;
+        down = y .down;
+        saved = y .saved;
+      }
+
+-- channel c's part of the four buffers after project: what the condition of job 5 looks at
+module _ (G : Given) (c : ℕ) (below : c < count G) (b : Box) (long : BoxLong (count G * area G) b) where
+  parts-long : BoxLong (area G) (partBox (area G) c b)
+  parts-long =
+      record {
+        plane-long = length-part (area G) c (count G) (b .plane) (long .plane-long) below;
+        across-long = length-part (area G) c (count G) (b .across) (long .across-long) below;
+        down-long = length-part (area G) c (count G) (b .down) (long .down-long) below;
+        saved-long = length-part (area G) c (count G) (b .saved) (long .saved-long) below;
+      }
+
+  pub project-blown : let x = projectOntoBox (coefOf G c) (G .sheet .W) (G .sheet .H) (partBox (area G) c b) in
+      isBlown (coefs (G .sheet) c) (partOf (area G) c (projectedPart G c b .plane)) (partOf (area G) c (projectedPart G c b .saved))
+      ≡ isBlown (coefs (G .sheet) c) (x .plane) (x .saved)
+  project-blown =
+      let x = projectOntoBox (coefOf G c) (G .sheet .W) (G .sheet .H) (partBox (area G) c b) in
+      let l = projected-long (coefOf G c) (G .sheet .W) (G .sheet .H) (area G) (partBox (area G) c b) parts-long in
+      λ i.
+      isBlown (coefs (G .sheet) c) (part-put-same (area G) c (count G) (b .plane) (long .plane-long) below (x .plane) (l .plane-long) i)
+      (part-put-same (area G) c (count G) (b .saved) (long .saved-long) below (x .saved) (l .saved-long) i)

@@ -1,0 +1,124 @@
+-- How a call ends, for the proofs of the public calls: refused, with all as it was, or accepted.
+use mathlib.Core.Path.{_≡_, refl, sym, ap, _∙_, subst}
+use mathlib.Core.Logic.{_≢_}
+use mathlib.Core.Bool.{Bool, true, false, not, _&&_, _||_}
+use mathlib.Core.List.{List, [], _∷_}
+use Prim.Native.Nat.{ℕ, zero, suc, _+_, _*_, _≤_, _<_}
+use native.Mathlib.Omega.{arith}
+use lib.Dec.{T, eqb, eqb→eq}
+use lib.Ieee.Fits.{and-l, and-r}
+use lib.IntN.{ℤ}
+use lib.ListN.{length, set}
+use Rattle.scalar.specs.Buffers.{Buffers}
+use Rattle.calls.specs.Run.{Given, Place, place, legal, count, area, levelsBefore}
+use Rattle.calls.specs.Buffers.{putChannel}
+use Rattle.calls.specs.Jobs.{Job, Call, on, blend, turn, isBlown}
+use Rattle.calls.specs.Calls as Calls
+use Rattle.calls.specs.Calls.{all, buffersLong, valuesLong, lengths, lent, lentLevels, lendTests, refusal, call, settle, accept, worked, reply, advance}
+use Rattle.calls.proofs.Tests.{passed-all, not-is, or-r}
+use Rattle.calls.proofs.Legal.{Ready, ready-of}
+use Rattle.demand.specs.Solver.{jobs}
+use Rattle.record.specs.declared.Run.{Run}
+use Rattle.record.specs.declared.Answer.the-variants.{Refused}
+use Rattle.record.specs.Model.{Legal, sheetOf, placesOf, givenOf, placed}
+use Rattle.record.proofs.Placed.{placed-same}
+use Rattle.run.specs.Parts.{Fed}
+use Rattle.run.specs.Public.{Result, result, gave, stateOf, callOf}
+
+-- ---- refused
+
+module _ (r : Run) (levels : List ℤ) (tables : List ℕ) (x : Call) (B : Buffers) where
+  settled : (t : ℕ) → t ≢ 0 → (o : Calls.Outcome) → result r (settle t (stateOf r B) o) ≡ gave (Refused t) r B
+  settled zero n o = absurd (n refl)
+  settled (suc t) n o = ap (λ (q : Run). gave (Refused (suc t)) q B) (placed-same r)
+
+  pub call-refused : (t : ℕ) → t ≡ refusal (givenOf r levels tables) (placesOf r) x (lengths (lent x) B) → t ≢ 0
+      → callOf r x levels tables B ≡ gave (Refused t) r B
+  unfolding call
+  call-refused t e n = rw (← e) (settled t n (accept jobs (givenOf r levels tables) x (stateOf r B)))
+
+  pub call-accepted : refusal (givenOf r levels tables) (placesOf r) x (lengths (lent x) B) ≡ 0
+      → callOf r x levels tables B ≡ result r (accept jobs (givenOf r levels tables) x (stateOf r B))
+  unfolding call
+  call-accepted e = rw e
+
+-- ---- accepted
+
+-- each length is n
+abbrev pub AllAre : ℕ → List ℕ → Type 0
+AllAre n [] = Unit {0}
+AllAre n (m ∷ ms) = (m ≡ n) × AllAre n ms
+
+all-are : (n : ℕ) (ms : List ℕ) → T (all (λ m. eqb m n) ms) → AllAre n ms
+all-are n [] t = tt
+all-are n (m ∷ ms) t = (eqb→eq m n (and-l (eqb m n) (all (λ m. eqb m n) ms) t), all-are n ms (and-r (eqb m n) (all (λ m. eqb m n) ms) t))
+
+-- what an accepted job of channel c has passed
+pub record Accepted (r : Run) (j : Job) (c : ℕ) (ls : List ℕ) : Type 0 where
+  pub is-legal : Legal r
+  pub below : c < r .count
+  pub ready : Ready (sheetOf r) (placesOf r) (turn j) c
+  pub long : AllAre (r .count * (r .w * r .h)) ls
+
+pub accepted : (r : Run) (levels : List ℤ) (tables : List ℕ) (j : Job) (c : ℕ) (ls : List ℕ)
+    → refusal (givenOf r levels tables) (placesOf r) (on j c) ls ≡ 0 → Accepted r j c ls
+accepted r levels tables j c ls e =
+    let G = givenOf r levels tables in
+    let p = passed-all G (placesOf r) (on j c) ls e in
+    let t = ready-of (sheetOf r) (placesOf r) j c (p .1) in
+    record {
+      is-legal = not-is (legal (sheetOf r) (placesOf r)) (p .0 .0);
+      below = t .0;
+      ready = t .1;
+      long = all-are (r .count * (r .w * r .h)) ls (and-l (buffersLong G ls) (not (lentLevels (on j c)) || valuesLong G) (not-is (buffersLong G ls && (not (lentLevels (on j c)) || valuesLong G)) (p .0 .1 .0)));
+    }
+
+-- and where it is lent levels and tables
+pub fed : (r : Run) (levels : List ℤ) (tables : List ℕ) (j : Job) (c : ℕ) (ls : List ℕ) → lentLevels (on j c) ≡ true
+    → refusal (givenOf r levels tables) (placesOf r) (on j c) ls ≡ 0 → Fed r c levels tables
+fed r levels tables j c ls l e =
+    let G = givenOf r levels tables in
+    let a = accepted r levels tables j c ls e in
+    let long : T (valuesLong G) =
+    or-r (lentLevels (on j c)) (valuesLong G)
+    (and-r (buffersLong G ls) (not (lentLevels (on j c)) || valuesLong G)
+    (not-is (buffersLong G ls && (not (lentLevels (on j c)) || valuesLong G)) (passed-all G (placesOf r) (on j c) ls e .0 .1 .0)))
+    l in
+    record {
+      is-legal = a .is-legal;
+      below = a .below;
+      levels-long = eqb→eq _ _ (and-l (eqb (length levels) (levelsBefore (sheetOf r) (r .count))) (eqb (length tables) (r .count * 64)) long);
+      tables-long = eqb→eq _ _ (and-r (eqb (length levels) (levelsBefore (sheetOf r) (r .count))) (eqb (length tables) (r .count * 64)) long);
+    }
+
+-- what an accepted blend has passed
+pub record Blendable (r : Run) (ls : List ℕ) : Type 0 where
+  pub is-legal : Legal r
+  pub long : AllAre (r .count * (r .w * r .h)) ls
+
+pub blendable : (r : Run) (levels : List ℤ) (tables : List ℕ) (ls : List ℕ) → refusal (givenOf r levels tables) (placesOf r) blend ls ≡ 0 → Blendable r ls
+blendable r levels tables ls e =
+    let G = givenOf r levels tables in
+    let p = passed-all G (placesOf r) blend ls e .0 in
+    record {
+      is-legal = not-is (legal (sheetOf r) (placesOf r)) (p .0);
+      long = all-are (r .count * (r .w * r .h)) ls (and-l (buffersLong G ls) true (not-is (buffersLong G ls && true) (p .1 .0)));
+    }
+
+-- channel c's place one job on
+abbrev pub next : Run → ℕ → Bool → Place
+next r c m = record { position = suc (place (placesOf r) c .position); mark = m }
+
+-- an accepted job of channel c: with the mark m, the buffers B′ and the record r′ afterwards
+module _ (r : Run) (levels : List ℤ) (tables : List ℕ) (j : Job) (c : ℕ) (B : Buffers) where
+  abbrev bad : Bool
+  bad = isBlown (givenOf r levels tables) c (worked jobs (givenOf r levels tables) j c (stateOf r B))
+
+  pub job-result : refusal (givenOf r levels tables) (placesOf r) (on j c) (lengths (lent (on j c)) B) ≡ 0
+      → (m : Bool) → advance j bad (place (placesOf r) c) ≡ next r c m
+      → {r′ : Run} → r′ ≡ placed r (set (placesOf r) c (next r c m))
+      → {B′ : Buffers} → putChannel (r .w * r .h) c B (worked jobs (givenOf r levels tables) j c (stateOf r B)) ≡ B′
+      → callOf r (on j c) levels tables B ≡ record { answer = reply j bad; run = r′; buffers = B′ }
+  job-result e m a {r′} p {B′} b =
+      call-accepted r levels tables (on j c) B e
+      ∙ (λ i. record { answer = reply j bad; run = (ap (λ (q : Place). placed r (set (placesOf r) c q)) a ∙ sym p) i; buffers = b i })

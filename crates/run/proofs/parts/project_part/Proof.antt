@@ -1,0 +1,56 @@
+-- `project_part`: the parts that are lent on are channel c's.
+use mathlib.Core.Path.{_≡_, refl, _∙_}
+use Prim.Native.Nat.{_*_}
+use lib.ListN.{length}
+use Rattle.demand.specs.Solver.{coefOf}
+use Rattle.calls.proofs.Parts.{length-part}
+use Rattle.run.proofs.Covered.{covers, lent-long}
+use borrow.Author.Needs.{needs}
+use Rattle.run.proofs.parts.project_part.Statement.{statement}
+use Rattle.run.proofs.parts.project_part.Tie as tie
+
+span-of-requires : tie.Need-span-of-requires
+span-of-requires c κs = (c .before .before .before .before .before .pre .0 .is-legal, c .before .before .before .before .before .pre .0 .below)
+
+own-of-requires : tie.Need-own-of-requires
+own-of-requires c κs = (c .before .before .before .before .before .before .pre .0 .is-legal, c .before .before .before .before .before .before .pre .0 .below)
+
+levels-of-requires : tie.Need-levels-of-requires
+levels-of-requires c κs = (c .before .before .before .before .before .before .before .pre .0 .is-legal, c .before .before .before .before .before .before .before .pre .0 .below, c .before .before .before .before .before .before .before .pre .0 .levels-long)
+
+table-of-requires : tie.Need-table-of-requires
+table-of-requires c κs = (c .before .before .before .before .before .before .before .before .pre .0 .below, c .before .before .before .before .before .before .before .before .pre .0 .tables-long)
+
+project-onto-box-requires : tie.Need-project-onto-box-requires
+project-onto-box-requires c κs =
+    let a = c .before .before .before .before .before .before .before .before .before .before .before .before .before .before .before .args in
+    let f = c .before .before .before .before .before .before .before .before .before .before .before .before .before .before .before .pre .0 in (
+      rw (c .before .before .before .before .before .before .before .before .own-of .ensures) (covers (a .run) (f .is-legal) (a .c) (f .below)),
+      rw (c .before .before .before .before .before .before .before .before .own-of .ensures, c .before .before .before .before .before .before .before .levels-of .ensures, c .before .before .before .before .before .before .table-of .ensures) (lent-long (a .run) (a .c) (a .levels .now) (a .tables .now) f),
+      rw (c .before .before .before .before .before .before .before .before .before .span-of .ensures .1, c .before .before .before .before .before .before .before .before .before .span-of .ensures .0) (length-part (a .run .w * a .run .h) (a .c) (a .run .count) (a .plane .now) (c .before .before .before .before .before .before .before .before .before .before .before .before .before .before .before .pre .1) (f .below)),
+      rw (c .before .before .before .before .before .before .before .before .before .span-of .ensures .1, c .before .before .before .before .before .before .before .before .before .span-of .ensures .0) (length-part (a .run .w * a .run .h) (a .c) (a .run .count) (a .across .now) (c .before .before .before .before .before .before .before .before .before .before .before .before .before .before .before .pre .2) (f .below)),
+      rw (c .before .before .before .before .before .before .before .before .before .span-of .ensures .1, c .before .before .before .before .before .before .before .before .before .span-of .ensures .0) (length-part (a .run .w * a .run .h) (a .c) (a .run .count) (a .down .now) (c .before .before .before .before .before .before .before .before .before .before .before .before .before .before .before .pre .3) (f .below)),
+      rw (c .before .before .before .before .before .before .before .before .before .span-of .ensures .1, c .before .before .before .before .before .before .before .before .before .span-of .ensures .0) (length-part (a .run .w * a .run .h) (a .c) (a .run .count) (a .saved .now) (c .before .before .before .before .before .before .before .before .before .before .before .before .before .before .before .pre .4) (f .below)),
+    )
+
+returns : tie.Need-returns
+unfolding coefOf
+returns c =
+    rw (
+      ← c .before .before .before .before .before .before .before .before .before .before .before .before .before .before .before .before .before .before .span-of .ensures .1,
+      ← c .before .before .before .before .before .before .before .before .before .before .before .before .before .before .before .before .before .before .span-of .ensures .0,
+      ← c .before .before .before .before .before .before .before .before .before .before .before .before .before .before .before .before .before .own-of .ensures,
+      ← c .before .before .before .before .before .before .before .before .before .before .before .before .before .before .before .before .levels-of .ensures,
+      ← c .before .before .before .before .before .before .before .before .before .before .before .before .before .before .before .table-of .ensures,
+      ← c .before .before .before .before .before .before .before .before .project-onto-box .ensures,
+    )
+
+pub project-part-spec : {M : Type 1} → statement M
+project-part-spec =
+    tie.close
+    (tie.spec span-of-requires own-of-requires levels-of-requires table-of-requires (λ c. search needs)
+    (λ c. search needs) (λ c. search needs) (λ c. search needs) (λ c. search needs) (λ c. search needs)
+    (λ c. search needs) (λ c. search needs) (λ c. search needs) (λ c. search needs) (λ c. search needs)
+    (λ c. search needs) (λ c. search needs) (λ c. search needs) (λ c. search needs) (λ c. search needs)
+    (λ c. search needs) (λ c. search needs) project-onto-box-requires (λ c. search needs) (λ c. search needs)
+    (λ c. search needs) (λ c. search needs) returns)

@@ -1,0 +1,55 @@
+-- `data_value`: refused as it was, or the channel's gradient anew.
+use mathlib.Core.Path.{_≡_, refl, sym, ap, _∙_}
+use mathlib.Core.Bool.{false}
+use mathlib.Core.List.{List, [], _∷_}
+use lib.Ieee.{Float}
+use lib.ListN.{length}
+use Rattle.calls.specs.Jobs.{fidelity, on}
+use Rattle.record.specs.Model.{givenOf}
+use Rattle.run.specs.Parts.{Fed}
+use Rattle.run.specs.Public.{forData}
+use Rattle.run.proofs.Ready.{call-refused, Accepted, accepted, fed, job-result, next}
+use Rattle.run.proofs.Jobs.{data-buffers}
+use borrow.Author.Needs.{needs}
+use Rattle.run.proofs.values.data_value.Statement.{statement}
+use Rattle.run.proofs.values.data_value.Tie as tie
+
+passed : (c : tie.Else1) → Accepted (c .before .before .before .before .before .before .args .run) fidelity (c .before .before .before .before .before .before .args .c) (length (c .before .before .before .before .before .before .args .gradient .now) ∷ length (c .before .before .before .before .before .before .args .saved .now) ∷ [])
+passed c =
+    accepted (c .before .before .before .before .before .before .args .run) (c .before .before .before .before .before .before .args .levels .now) (c .before .before .before .before .before .before .args .tables .now) fidelity (c .before .before .before .before .before .before .args .c) (length (c .before .before .before .before .before .before .args .gradient .now) ∷ length (c .before .before .before .before .before .before .args .saved .now) ∷ [])
+    (sym (c .before .fed-refusal .ensures fidelity refl refl) ∙ c .if1 .left)
+
+given : (c : tie.Else1) → Fed (c .before .before .before .before .before .before .args .run) (c .before .before .before .before .before .before .args .c) (c .before .before .before .before .before .before .args .levels .now) (c .before .before .before .before .before .before .args .tables .now)
+given c =
+    fed (c .before .before .before .before .before .before .args .run) (c .before .before .before .before .before .before .args .levels .now) (c .before .before .before .before .before .before .args .tables .now) fidelity (c .before .before .before .before .before .before .args .c) (length (c .before .before .before .before .before .before .args .gradient .now) ∷ length (c .before .before .before .before .before .before .args .saved .now) ∷ []) refl
+    (sym (c .before .fed-refusal .ensures fidelity refl refl) ∙ c .if1 .left)
+
+returns : tie.Need-returns
+returns c =
+    let a = c .before .before .before .before .before .before .args in
+    λ o.
+    call-refused (a .run) (a .levels .now) (a .tables .now) (on fidelity (a .c)) (forData o (a .gradient .now) (a .saved .now)) (c .before .fed-refusal .result)
+    (c .before .fed-refusal .ensures fidelity refl refl) (c .if1 .taken)
+
+data-part-requires : tie.Need-data-part-requires
+data-part-requires c κs = (given (c .before), passed (c .before) .long .0, passed (c .before) .long .1 .0)
+
+advanced-requires : tie.Need-advanced-requires
+advanced-requires c κs = (passed (c .before .before .before .before) .is-legal, passed (c .before .before .before .before) .below)
+
+returns-2 : tie.Need-returns-2
+returns-2 c =
+    let a = c .before .before .before .before .before .before .before .before .before .before .before .args in
+    let r = a .run in
+    λ o.
+    job-result r (a .levels .now) (a .tables .now) fidelity (a .c) (forData o (a .gradient .now) (a .saved .now))
+    (sym (c .before .before .before .before .before .before .fed-refusal .ensures fidelity refl refl) ∙ c .before .before .before .before .before .if1 .left)
+    false (ap (next r (a .c)) (passed (c .before .before .before .before .before) .ready .unmarked)) (c .advanced .ensures)
+    (data-buffers (givenOf r (a .levels .now) (a .tables .now)) (a .c) o (a .gradient .now) (a .saved .now)
+    ∙ sym (ap (λ (g : List Float). forData o g (a .saved .now)) (c .before .before .before .data-part .ensures)))
+
+pub data-value-spec : {M : Type 1} → statement M
+data-value-spec =
+    tie.close
+    (tie.spec (λ c. search needs) (λ c κs. search needs) returns data-part-requires advanced-requires
+    (λ c. search needs) returns-2)

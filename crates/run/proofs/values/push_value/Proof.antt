@@ -1,0 +1,61 @@
+-- `push_value`: refused as it was, or the channel's part pushed.
+use mathlib.Core.Path.{_≡_, refl, sym, ap, _∙_}
+use mathlib.Core.Bool.{false}
+use mathlib.Core.List.{[], _∷_}
+use Prim.Native.Nat.{_*_, _/_}
+use lib.ListN.{length}
+use Rattle.calls.specs.Run.{place}
+use Rattle.calls.specs.Jobs.{push, on}
+use Rattle.steps.specs.Solve.{Planes}
+use Rattle.demand.specs.Solver.{constantsOf}
+use Rattle.record.specs.Model.{sheetOf, placesOf}
+use Rattle.record.proofs.Sizes.{part-ends}
+use Rattle.run.specs.Public.{forPush}
+use Rattle.run.proofs.Ready.{call-refused, Accepted, accepted, job-result, next}
+use Rattle.run.proofs.Jobs.{push-buffers}
+use borrow.Author.Needs.{needs}
+use Rattle.run.proofs.values.push_value.Statement.{statement}
+use Rattle.run.proofs.values.push_value.Tie as tie
+
+passed : (c : tie.Else1) → Accepted (c .before .before .before .before .before .args .run) push (c .before .before .before .before .before .args .c) (length (c .before .before .before .before .before .args .plane .now) ∷ length (c .before .before .before .before .before .args .prior .now) ∷ [])
+passed c = accepted (c .before .before .before .before .before .args .run) [] [] push (c .before .before .before .before .before .args .c) (length (c .before .before .before .before .before .args .plane .now) ∷ length (c .before .before .before .before .before .args .prior .now) ∷ []) (sym (c .before .job-refusal .ensures push [] [] refl refl) ∙ c .if1 .left)
+
+returns : tie.Need-returns
+returns c =
+    let a = c .before .before .before .before .before .args in
+    λ levels tables o.
+    call-refused (a .run) levels tables (on push (a .c)) (forPush o (a .plane .now) (a .prior .now)) (c .before .job-refusal .result)
+    (c .before .job-refusal .ensures push levels tables refl refl) (c .if1 .taken)
+
+constants-of-requires : tie.Need-constants-of-requires
+constants-of-requires c κs = (passed c .is-legal, passed c .below)
+
+area-requires : tie.Need-area-requires
+area-requires c κs = passed (c .before) .is-legal
+
+push-channel-requires : tie.Need-push-channel-requires
+push-channel-requires c κs =
+    let h = passed (c .before .before .before .before) in
+    (rw (c .before .before .area .ensures, h .long .0) (part-ends (c .before .before .before .before .before .before .before .before .before .args .run) (h .is-legal) (c .before .before .before .before .before .before .before .before .before .args .c) (h .below)), h .long .0 ∙ sym (h .long .1 .0))
+
+advanced-requires : tie.Need-advanced-requires
+advanced-requires c κs = (passed (c .before .before .before .before .before .before .before .before .before) .is-legal, passed (c .before .before .before .before .before .before .before .before .before) .below)
+
+returns-2 : tie.Need-returns-2
+returns-2 c =
+    let a = c .before .before .before .before .before .before .before .before .before .before .before .before .before .before .before .args in
+    let r = a .run in
+    let h = passed (c .before .before .before .before .before .before .before .before .before .before) in
+    let done = rw (c .before .before .before .before .before .before .before .before .before .constants-of .ensures, c .before .before .before .before .before .before .before .before .area .ensures) at (c .before .before .before .before .before .push-channel .ensures) in
+    λ levels tables o.
+    job-result r levels tables push (a .c) (forPush o (a .plane .now) (a .prior .now))
+    (sym (c .before .before .before .before .before .before .before .before .before .before .before .job-refusal .ensures push levels tables refl refl) ∙ c .before .before .before .before .before .before .before .before .before .before .if1 .left)
+    false (ap (next r (a .c)) (h .ready .unmarked)) (c .advanced .ensures)
+    (push-buffers (r .w * r .h) (a .c) o (constantsOf (sheetOf r) (place (placesOf r) (a .c) .position / 5)) (a .plane .now) (a .prior .now)
+    ∙ sym (ap (λ (s : Planes). forPush o (s .plane) (s .prior)) done))
+
+pub push-value-spec : {M : Type 1} → statement M
+push-value-spec =
+    tie.close
+    (tie.spec (λ c. search needs) (λ c κs. search needs) returns constants-of-requires area-requires
+    push-channel-requires advanced-requires (λ c. search needs) (λ c. search needs) returns-2)

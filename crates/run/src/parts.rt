@@ -1,0 +1,135 @@
+// What a job of one channel is handed: its own sides, and its part of the levels and of the tables.
+use record::Run;
+use scalar::coef::Own;
+ghost use mathlib.Core.Path.{_≡_};
+ghost use Prim.Native.Nat.{_+_, _*_, _<_};
+ghost use lib.ListN.{length};
+ghost use Rattle.fold.specs.Part.{part};
+ghost use Rattle.calls.specs.Run.{own, coefs, levelsBefore};
+ghost use Rattle.calls.specs.Buffers.{partOf};
+ghost use Rattle.scalar.specs.Blown.{isBlown};
+ghost use Rattle.record.specs.Model.{Legal, sheetOf, givenOf};
+ghost use Rattle.run.specs.Parts.{Fed, Whole, fittedPart, projectedPart};
+
+pub fn own_of(run: Run, c: u32) -> Own
+    requires { ⌜ Legal run × (c < run .count) ⌝ }
+    ensures { λ r. ⌜ r ≡ record { width = own (sheetOf run) c .width; height = own (sheetOf run) c .height; across = own (sheetOf run) c .across; down = own (sheetOf run) c .down } ⌝ }
+{
+    let x = run.channels[c as usize];
+    Own {
+        width: x.width as usize,
+        height: x.height as usize,
+        across: x.across as usize,
+        down: x.down as usize,
+    }
+}
+
+pub fn weight_of(run: Run, c: u32) -> f32
+    requires { ⌜ Legal run × (c < run .count) ⌝ }
+    ensures { λ r. ⌜ r ≡ own (sheetOf run) c .data-weight ⌝ }
+{
+    let x = run.channels[c as usize];
+    x.weight
+}
+
+pub fn levels_of(run: Run, c: u32, levels: &[i16]) -> &[i16]
+    requires { ⌜ Legal run × (c < run .count) × (length (now levels) ≡ levelsBefore (sheetOf run) (run .count)) ⌝ }
+    ensures { λ r. ⌜ now r ≡ part (now (levels .entry)) (levelsBefore (sheetOf run) c) (levelsBefore (sheetOf run) c + coefs (sheetOf run) c) ⌝ }
+{
+    let x = run.channels[c as usize];
+    let from = record::refusals::levels_before(run, c);
+    let to = from + (x.width as usize) * (x.height as usize);
+    &levels[from..to]
+}
+
+pub fn table_of(run: Run, c: u32, tables: &[u16]) -> &[u16]
+    requires { ⌜ (c < run .count) × (length (now tables) ≡ run .count * 64) ⌝ }
+    ensures { λ r. ⌜ now r ≡ part (now (tables .entry)) (c * 64) (c * 64 + 64) ⌝ }
+{
+    let from = (c as usize) * 64;
+    let to = from + 64;
+    &tables[from..to]
+}
+
+// Job 2 on channel c's part.
+pub fn data_part(
+    run: Run,
+    c: u32,
+    levels: &[i16],
+    tables: &[u16],
+    gradient: &mut [f32],
+    saved: &[f32],
+)
+    requires { ⌜ Fed run c (now levels) (now tables) × Whole run (now gradient) × Whole run (now saved) ⌝ }
+    ensures { λ _. ⌜ now (gradient .exit) ≡ fittedPart (givenOf run (now (levels .entry)) (now (tables .entry))) c (now (gradient .entry)) (now (saved .entry)) ⌝ }
+{
+    let s = record::places::span_of(run, c);
+    let from = s.from;
+    let to = s.to;
+    let o = own_of(run, c);
+    let weight = weight_of(run, c);
+    let ls = levels_of(run, c, levels);
+    let ts = table_of(run, c, tables);
+    let w = run.w as usize;
+    let h = run.h as usize;
+    scalar::dct_gradient::data(
+        &saved[from..to],
+        &mut gradient[from..to],
+        o,
+        w,
+        h,
+        weight,
+        ls,
+        ts,
+    );
+}
+
+// Job 5 on channel c's part.
+pub fn project_part(
+    run: Run,
+    c: u32,
+    levels: &[i16],
+    tables: &[u16],
+    plane: &mut [f32],
+    across: &mut [f32],
+    down: &mut [f32],
+    saved: &mut [f32],
+)
+    requires { ⌜ Fed run c (now levels) (now tables) × Whole run (now plane) × Whole run (now across) × Whole run (now down) × Whole run (now saved) ⌝ }
+    ensures { λ _. ⌜ record { plane = now (plane .exit); across = now (across .exit); down = now (down .exit); saved = now (saved .exit) }
+        ≡ projectedPart (givenOf run (now (levels .entry)) (now (tables .entry))) c
+        (record { plane = now (plane .entry); across = now (across .entry); down = now (down .entry); saved = now (saved .entry) }) ⌝ }
+{
+    let s = record::places::span_of(run, c);
+    let from = s.from;
+    let to = s.to;
+    let o = own_of(run, c);
+    let ls = levels_of(run, c, levels);
+    let ts = table_of(run, c, tables);
+    let w = run.w as usize;
+    let h = run.h as usize;
+    scalar::projection::project_onto_box(
+        &mut plane[from..to],
+        &mut across[from..to],
+        &mut down[from..to],
+        &mut saved[from..to],
+        o,
+        w,
+        h,
+        ls,
+        ts,
+    );
+}
+
+// Whether channel c is blown: a value of its plane or a saved coefficient is NaN or infinite.
+pub fn blown_part(run: Run, c: u32, plane: &[f32], saved: &[f32]) -> bool
+    requires { ⌜ Legal run × (c < run .count) × Whole run (now plane) × Whole run (now saved) ⌝ }
+    ensures { λ r. ⌜ r ≡ isBlown (coefs (sheetOf run) c) (partOf (run .w * run .h) c (now (plane .entry))) (partOf (run .w * run .h) c (now (saved .entry))) ⌝ }
+{
+    let s = record::places::span_of(run, c);
+    let from = s.from;
+    let to = s.to;
+    let x = run.channels[c as usize];
+    let n = (x.width as usize) * (x.height as usize);
+    scalar::blown::is_blown(&plane[from..to], &saved[from..to], n)
+}

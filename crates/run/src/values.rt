@@ -1,0 +1,126 @@
+// The public calls with the record by value: each looks at everything it is lent, and refuses or does its job.
+use crate::parts;
+use gradients::grid::Grid;
+use record::Answer;
+use record::Run;
+use record::Told;
+use steps::solve::Constants;
+ghost use mathlib.Core.Path.{_≡_};
+ghost use Prim.Native.Nat.{_/_, _<_};
+ghost use Rattle.calls.specs.Run.{place};
+ghost use Rattle.demand.specs.Solver.{constantsOf};
+ghost use Rattle.record.specs.Model.{Legal, sheetOf, placesOf};
+ghost use Rattle.run.specs.Public.{PushIs, DataIs, BlendIs, MoveIs};
+
+// The constants of the step that channel c's next job belongs to.
+fn constants_of(run: Run, c: u32) -> Constants
+    requires { ⌜ Legal run × (c < run .count) ⌝ }
+    ensures { λ r. ⌜ r ≡ constantsOf (sheetOf run) (place (placesOf run) c .position / 5) ⌝ }
+{
+    let s = record::places::span_of(run, c);
+    steps::solve::step_constants(run.w, run.h, run.n, run.smoothing, s.step)
+}
+
+// Push. Rules out: a plane handed back unmoved, and a position counted up without the job.
+pub fn push_value(run: Run, c: u32, plane: &mut [f32], prior: &mut [f32]) -> Told
+    ensures { λ r. ⌜ PushIs run c (now (plane .entry)) (now (prior .entry)) (r .answer) (r .run) (now (plane .exit)) (now (prior .exit)) ⌝ }
+{
+    let lengths = [plane.len(), prior.len()];
+    let r = record::refusals::job_refusal(run, c, 0, &lengths);
+    if r != 0 {
+        return Told {
+            answer: Answer::Refused(r),
+            run,
+        };
+    }
+    let k = constants_of(run, c);
+    let n = record::refusals::area(run);
+    steps::solve::push_channel(plane, prior, k, c as usize, n);
+    let next = record::places::advanced(run, c, false);
+    Told {
+        answer: Answer::Done,
+        run: next,
+    }
+}
+
+// Data. Rules out: saved coefficients changed, and the levels of another channel taken for this one's.
+pub fn data_value(
+    run: Run,
+    c: u32,
+    levels: &[i16],
+    tables: &[u16],
+    gradient: &mut [f32],
+    saved: &[f32],
+) -> Told
+    ensures { λ r. ⌜ DataIs run c (now (levels .entry)) (now (tables .entry)) (now (gradient .entry)) (now (saved .entry)) (r .answer) (r .run) (now (gradient .exit)) ⌝ }
+{
+    let lengths = [gradient.len(), saved.len()];
+    let r = record::refusals::fed_refusal(run, c, 1, &lengths, levels, tables);
+    if r != 0 {
+        return Told {
+            answer: Answer::Refused(r),
+            run,
+        };
+    }
+    parts::data_part(run, c, levels, tables, gradient, saved);
+    let next = record::places::advanced(run, c, false);
+    Told {
+        answer: Answer::Done,
+        run: next,
+    }
+}
+
+// Blend. Rules out: a gradient that only one channel's plane goes into, and positions of some channels left behind.
+pub fn blend_value(
+    run: Run,
+    plane: &[f32],
+    gradient: &mut [f32],
+    across: &mut [f32],
+    down: &mut [f32],
+) -> Told
+    ensures { λ r. ⌜ BlendIs run (now (plane .entry)) (now (gradient .entry)) (now (across .entry)) (now (down .entry))
+        (r .answer) (r .run) (now (gradient .exit)) (now (across .exit)) (now (down .exit)) ⌝ }
+{
+    let lengths = [plane.len(), gradient.len(), across.len(), down.len()];
+    let r = record::refusals::blend_refusal(run, &lengths);
+    if r != 0 {
+        return Told {
+            answer: Answer::Refused(r),
+            run,
+        };
+    }
+    let k = constants_of(run, 0);
+    let g = Grid {
+        n: run.count as usize,
+        w: run.w as usize,
+        h: run.h as usize,
+    };
+    gradients::blend(plane, gradient, across, down, g, k);
+    let next = record::places::blended(run);
+    Told {
+        answer: Answer::Done,
+        run: next,
+    }
+}
+
+// Move. Rules out: a move up the gradient, and the step size of another step.
+pub fn move_value(run: Run, c: u32, plane: &mut [f32], gradient: &[f32]) -> Told
+    ensures { λ r. ⌜ MoveIs run c (now (plane .entry)) (now (gradient .entry)) (r .answer) (r .run) (now (plane .exit)) ⌝ }
+{
+    let lengths = [plane.len(), gradient.len()];
+    let r = record::refusals::job_refusal(run, c, 3, &lengths);
+    if r != 0 {
+        return Told {
+            answer: Answer::Refused(r),
+            run,
+        };
+    }
+    let k = constants_of(run, c);
+    let n = record::refusals::area(run);
+    steps::step::move_channel(plane, gradient, k, c as usize, n);
+    let next = record::places::advanced(run, c, false);
+    Told {
+        answer: Answer::Done,
+        run: next,
+    }
+}
