@@ -7,5 +7,6 @@ out=../crates/replay
     cargo run -q --release --bin arith -- --list 3000
     cargo run -q --release --bin utils -- --list 64
     cargo run -q --release --bin sheets -- --list 120 1
+    cargo run -q --release --bin jobs -- --list 60 1
 } > $out/stdin
 echo "$(wc -l < $out/stdin) same, 0 other" > $out/stdout

@@ -2,6 +2,7 @@
 // Writes how many of the lines have the answer that the proved code gives, and how many have another.
 mod arith;
 mod sheets;
+mod solver;
 mod transforms;
 
 use words::Tally;
@@ -28,6 +29,11 @@ fn same_line(s: &[u8], at: usize) -> bool
     }
     if first == b'u' {
         return transforms::same_up(s, at);
+    }
+    if second == b'o' {
+        if first == b's' {
+            return solver::same_solve(s, at);
+        }
     }
     if first == b'r' {
         return sheets::same_read(s, at);

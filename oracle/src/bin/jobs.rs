@@ -283,104 +283,39 @@ fn compare(seed: u64, count: u64) -> ExitCode {
     println!("{} values", all.values);
     all.tally.close()
 }
-
-/// The numbers of the list's generator, which the crate `replay` has too.
-fn numbers(seed: u32) -> impl Iterator<Item = u32> {
-    let next = |x: u32| x.wrapping_mul(1_664_525).wrapping_add(1_013_904_223);
-    std::iter::successors(Some(next(seed)), move |x| Some(next(*x)))
-}
-
-/// All digits and sizes of 0.5 to 128 (kind 0), any bits (1), or a whole number to 3 (2).
-fn value(kind: usize, x: u32) -> f32 {
-    match kind {
-        0 => f32::from_bits(x & 0x8000_0000 | (0x3f00_0000 + (x & 0x03ff_ffff))),
-        1 => f32::from_bits(x),
-        _ => (x >> 16 & 3) as f32,
-    }
-}
-
-/// Full sides, own sides and factors.
-const SHAPES: [[u32; 6]; 8] = [
-    [8, 8, 8, 8, 1, 1],
-    [16, 8, 16, 8, 1, 1],
-    [16, 8, 8, 8, 2, 1],
-    [16, 16, 8, 8, 2, 2],
-    [16, 16, 8, 16, 1, 1],
-    [8, 16, 8, 8, 1, 2],
-    [16, 16, 16, 16, 1, 1],
-    [16, 8, 8, 8, 1, 1],
-];
-
-/// Each job in turn, of each shape in turn.
+/// `solve`, iterations, smoothing weight, data weight, a digest of all six buffers after each step, 64 levels and 64 quantisers less one, all
+/// in hexadecimal: sheets of one block. The digest is 31 times what it was plus the bits of the next value, modulo 2^32.
 fn list(count: u64, seed: u64) -> ExitCode {
     let mut r = Random::new(seed);
-    for i in 0..count as usize {
-        let (job, shape, kind) = (JOBS[i % 6], SHAPES[i / 6 % 8], i / 6 % 3);
-        println!(
-            "{}",
-            if job == "blend" { blend_line(&mut r, shape, kind) } else { job_line(&mut r, job, shape, kind) }
-        );
+    for i in 0..count {
+        let levels: Vec<i32> =
+            (0..64).map(|_| if r.one_in(3) { r.between(0, 2047 >> (i % 11)) as i32 } else { 0 }).collect();
+        let table: Vec<u32> = (0..64).map(|_| r.between(1, 255 >> (i % 7)) as u32).collect();
+        let (smoothing, data, n) = (r.pick(&WEIGHTS), r.pick(&WEIGHTS), r.between(1, 20) as u32);
+        let words = |xs: Vec<u32>| xs.iter().map(|x| format!(" {x:x}")).collect::<String>();
+        let listed =
+            words(levels.iter().map(|level| *level as u32).collect()) + &words(table.iter().map(|q| q - 1).collect());
+        let sheet = Sheet {
+            w: 8,
+            h: 8,
+            picture_w: 8,
+            picture_h: 8,
+            joint: true,
+            counts: [n; 3],
+            smoothing: [smoothing; 3],
+            data: [data; 3],
+            channels: vec![Channel { w: 8, h: 8, across: 1, down: 1, table, levels }],
+        };
+        let mut run = runs(&sheet).remove(0);
+        let mut digest = 0u64;
+        for _ in 0..n {
+            run.step(|_, _, _| ());
+            let buffers = run.buffers(0);
+            let values = buffers.iter().flat_map(|(_, values)| values);
+            digest = values.fold(digest, |digest, x| (digest * 31 + u64::from(bits(*x))) % (1 << 32));
+        }
+        let [smoothing, data] = [smoothing, data].map(|weight| weight.value().to_bits());
+        println!("solve {n:x} {smoothing:x} {data:x} {digest:x}{listed}");
     }
     ExitCode::SUCCESS
-}
-
-const WEIGHTS_LISTED: [Weight; 4] = [Weight::Whole(0), Weight::Whole(1), Weight::Whole(255), Weight::Bits(0x3e99_999a)];
-
-/// A run of n such channels with one weight, its step, and both as words: iterations, weight, step.
-fn run_of(r: &mut Random, [w, h, ..]: [u32; 6], channels: Vec<Channel>) -> (Run, Lent, usize, String) {
-    let (weights, counts, step) = ([r.pick(&WEIGHTS_LISTED); 3], [r.below(1001) as u32; 3], r.below(30));
-    let words = format!("{:x} {:x} {step:x}", counts[0], weights[0].value().to_bits());
-    let sheet =
-        Sheet { w, h, picture_w: w, picture_h: h, joint: true, counts, smoothing: weights, data: weights, channels };
-    (runs(&sheet).remove(0), jobs::runs(&sheet, 0.0).remove(0), step, words)
-}
-
-/// `job`, its number (0 start, 1 push, 2 data, 4 move, 5 project), full sides, own sides, factors, iterations, weight, step, kind of
-/// values, seed, and a digest of all six buffers and the condition of job 5. The numbers that follow the seed give the levels, the
-/// table, and the buffers.
-fn job_line(r: &mut Random, job: &str, shape: [u32; 6], kind: usize) -> String {
-    let seed = r.bits();
-    let mut numbers = numbers(seed);
-    let mut number = || numbers.next().expect("no end");
-    let [_, _, w, h, across, down] = shape;
-    let levels = (0..w * h).map(|_| (number() >> 16) as i32 % 129 - 64).collect();
-    let table = (0..64).map(|_| (number() >> 16) % 255 + 1).collect();
-    let (mut run, mut lent, step, words) = run_of(r, shape, vec![Channel { w, h, across, down, table, levels }]);
-    if job != "start" {
-        fill(&mut run, &mut lent, |_, n| (0..n).map(|_| value(kind, number())).collect());
-    }
-    rust(&mut run, job, 0, step);
-    let buffers = run.buffers(0);
-    let digest = buffers.iter().fold(0, |digest, (_, values)| with(digest, values));
-    let digest = next_digest(digest, is_blown(&buffers, lent.own_count(0)).into());
-    let at = JOBS.iter().position(|name| *name == job).expect("a job");
-    let shape: String = shape.iter().map(|n| format!("{n:x} ")).collect();
-    format!("job {at} {shape}{words} {kind} {seed:x} {digest:x}")
-}
-
-/// `blend`, channels, full sides, iterations, weight, step, kind of values, seed, and a digest of plane, gradient, across and down, which
-/// the numbers that follow the seed fill.
-fn blend_line(r: &mut Random, shape: [u32; 6], kind: usize) -> String {
-    let seed = r.bits();
-    let mut numbers = numbers(seed);
-    let channel = Channel { w: 8, h: 8, across: 1, down: 1, table: vec![1; 64], levels: vec![0; 64] };
-    let n = r.pick(&[1, 3]);
-    let (mut run, mut lent, step, words) = run_of(r, shape, vec![channel; n]);
-    const USED: [usize; 4] = [0, 2, 3, 4];
-    fill(&mut run, &mut lent, |k, n| {
-        if USED.contains(&k) { numbers.by_ref().take(n).map(|x| value(kind, x)).collect() } else { vec![0.0; n] }
-    });
-    rust(&mut run, "blend", 0, step);
-    let buffers: Vec<_> = (0..n).map(|c| run.buffers(c)).collect();
-    let values = USED.iter().flat_map(|k| buffers.iter().map(|buffers| &buffers[*k].1));
-    let digest = values.fold(0, |digest, values| with(digest, values));
-    format!("blend {n} {:x} {:x} {words} {kind} {seed:x} {digest:x}", shape[0], shape[1])
-}
-
-fn next_digest(digest: u32, number: u32) -> u32 {
-    digest.wrapping_mul(31).wrapping_add(number)
-}
-
-fn with(digest: u32, values: &[f32]) -> u32 {
-    values.iter().fold(digest, |digest, x| next_digest(digest, bits(*x)))
 }
