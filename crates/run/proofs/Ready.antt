@@ -12,15 +12,16 @@ use lib.ListN.{length, set}
 use Rattle.scalar.specs.Buffers.{Buffers}
 use Rattle.calls.specs.Run.{Given, Place, place, legal, count, area, levelsBefore}
 use Rattle.calls.specs.Buffers.{putChannel}
-use Rattle.calls.specs.Jobs.{Job, Call, on, blend, turn, isBlown}
+use Rattle.calls.specs.Jobs.{Job, project, Call, on, blend, turn, isBlown}
 use Rattle.calls.specs.Calls as Calls
 use Rattle.calls.specs.Calls.{all, buffersLong, valuesLong, lengths, lent, lentLevels, lendTests, refusal, call, settle, accept, worked, reply, advance}
 use Rattle.calls.proofs.Tests.{passed-all, not-is, or-r}
 use Rattle.calls.proofs.Legal.{Ready, ready-of}
 use Rattle.demand.specs.Solver.{jobs}
 use Rattle.record.specs.declared.Run.{Run}
+use Rattle.record.specs.declared.Answer.{Answer}
 use Rattle.record.specs.declared.Answer.the-variants.{Refused}
-use Rattle.record.specs.Model.{Legal, sheetOf, placesOf, givenOf, placed}
+use Rattle.record.specs.Model.{Legal, sheetOf, placesOf, givenOf, placed, answerOf}
 use Rattle.record.proofs.Placed.{placed-same}
 use Rattle.run.specs.Parts.{Fed}
 use Rattle.run.specs.Public.{Result, result, gave, stateOf, callOf}
@@ -122,3 +123,15 @@ module _ (r : Run) (levels : List ℤ) (tables : List ℕ) (j : Job) (c : ℕ) (
   job-result e m a {r′} p {B′} b =
       call-accepted r levels tables (on j c) B e
       ∙ (λ i. record { answer = reply j bad; run = (ap (λ (q : Place). placed r (set (placesOf r) c q)) a ∙ sym p) i; buffers = b i })
+
+-- an accepted project, whose answer says the mark
+module _ (r : Run) (levels : List ℤ) (tables : List ℕ) (c : ℕ) (B : Buffers) where
+  pub project-result : refusal (givenOf r levels tables) (placesOf r) (on project c) (lengths (lent (on project c)) B) ≡ 0
+      → (m : Bool) → isBlown (givenOf r levels tables) c (worked jobs (givenOf r levels tables) project c (stateOf r B)) ≡ m
+      → (a : Answer) → answerOf a ≡ reply project m
+      → {r′ : Run} → r′ ≡ placed r (set (placesOf r) c (next r c m))
+      → {B′ : Buffers} → putChannel (r .w * r .h) c B (worked jobs (givenOf r levels tables) project c (stateOf r B)) ≡ B′
+      → callOf r (on project c) levels tables B ≡ gave a r′ B′
+  project-result e m b a q {r′} p {B′} w =
+      job-result r levels tables project c B e m (ap (next r c) b) p w
+      ∙ (λ i. record { answer = (ap (reply project) b ∙ sym q) i; run = r′; buffers = B′ })

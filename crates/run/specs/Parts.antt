@@ -1,13 +1,15 @@
 -- What a job of channel c is handed, once the call has looked at everything: asked by the functions that do the jobs.
 use Prim.Native.Nat.{ℕ, _*_, _<_}
 use mathlib.Core.Path.{_≡_}
+use mathlib.Core.Bool.{Bool}
 use mathlib.Core.List.{List}
 use lib.IntN.{ℤ}
 use lib.ListN.{length}
 use lib.Ieee.{Float}
 use Rattle.scalar.specs.DctGradient.{dataGradient}
 use Rattle.scalar.specs.Projection.{Box, projectOntoBox}
-use Rattle.calls.specs.Run.{Given, own, area, levelsBefore}
+use Rattle.scalar.specs.Blown.{isBlown}
+use Rattle.calls.specs.Run.{Given, own, area, coefs, levelsBefore}
 use Rattle.calls.specs.Buffers.{partOf, putPart}
 use Rattle.demand.specs.Solver.{coefOf}
 use Rattle.record.specs.declared.Run.{Run}
@@ -37,9 +39,17 @@ putBox n c b x =
       saved = putPart n c (b .saved) (x .saved);
     }
 
+-- channel c's values after job 5
+abbrev pub projectedBox : Given → ℕ → Box → Box
+projectedBox G c b = projectOntoBox (coefOf G c) (G .sheet .W) (G .sheet .H) (partBox (area G) c b)
+
 -- job 5 on channel c's part
 abbrev pub projectedPart : Given → ℕ → Box → Box
-projectedPart G c b = putBox (area G) c b (projectOntoBox (coefOf G c) (G .sheet .W) (G .sheet .H) (partBox (area G) c b))
+projectedPart G c b = putBox (area G) c b (projectedBox G c b)
+
+-- the condition of job 5: the mark that channel c's values then give
+abbrev pub blownPart : Given → ℕ → Box → Bool
+blownPart G c b = isBlown (coefs (G .sheet) c) (projectedBox G c b .plane) (projectedBox G c b .saved)
 
 -- job 2 on channel c's part: its gradient from its saved coefficients
 abbrev pub fittedPart : Given → ℕ → List Float → List Float → List Float

@@ -9,7 +9,7 @@ ghost use Rattle.calls.specs.Run.{own, coefs, levelsBefore};
 ghost use Rattle.calls.specs.Buffers.{partOf};
 ghost use Rattle.scalar.specs.Blown.{isBlown};
 ghost use Rattle.record.specs.Model.{Legal, sheetOf, givenOf};
-ghost use Rattle.run.specs.Parts.{Fed, Whole, fittedPart, projectedPart};
+ghost use Rattle.run.specs.Parts.{Fed, Whole, fittedPart, projectedPart, blownPart};
 
 pub fn own_of(run: Run, c: u32) -> Own
     requires { ⌜ Legal run × (c < run .count) ⌝ }
@@ -132,4 +132,26 @@ pub fn blown_part(run: Run, c: u32, plane: &[f32], saved: &[f32]) -> bool
     let x = run.channels[c as usize];
     let n = (x.width as usize) * (x.height as usize);
     scalar::blown::is_blown(&plane[from..to], &saved[from..to], n)
+}
+
+// Job 5 on channel c's part, and whether the channel is blown then.
+pub fn project_mark(
+    run: Run,
+    c: u32,
+    levels: &[i16],
+    tables: &[u16],
+    plane: &mut [f32],
+    across: &mut [f32],
+    down: &mut [f32],
+    saved: &mut [f32],
+) -> bool
+    requires { ⌜ Fed run c (now levels) (now tables) × Whole run (now plane) × Whole run (now across) × Whole run (now down) × Whole run (now saved) ⌝ }
+    ensures { λ r. ⌜ (record { plane = now (plane .exit); across = now (across .exit); down = now (down .exit); saved = now (saved .exit) }
+        ≡ projectedPart (givenOf run (now (levels .entry)) (now (tables .entry))) c
+        (record { plane = now (plane .entry); across = now (across .entry); down = now (down .entry); saved = now (saved .entry) }))
+        × (r ≡ blownPart (givenOf run (now (levels .entry)) (now (tables .entry))) c
+        (record { plane = now (plane .entry); across = now (across .entry); down = now (down .entry); saved = now (saved .entry) })) ⌝ }
+{
+    project_part(run, c, levels, tables, plane, across, down, saved);
+    blown_part(run, c, plane, saved)
 }

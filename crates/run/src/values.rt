@@ -8,9 +8,11 @@ use steps::solve::Constants;
 ghost use mathlib.Core.Path.{_≡_};
 ghost use Prim.Native.Nat.{_/_, _<_};
 ghost use Rattle.calls.specs.Run.{place};
+ghost use Rattle.calls.specs.Jobs.{project};
+ghost use Rattle.calls.specs.Calls.{reply};
 ghost use Rattle.demand.specs.Solver.{constantsOf};
-ghost use Rattle.record.specs.Model.{Legal, sheetOf, placesOf};
-ghost use Rattle.run.specs.Public.{PushIs, DataIs, BlendIs, MoveIs};
+ghost use Rattle.record.specs.Model.{Legal, sheetOf, placesOf, answerOf};
+ghost use Rattle.run.specs.Public.{PushIs, DataIs, BlendIs, MoveIs, ProjectIs};
 
 // The constants of the step that channel c's next job belongs to.
 fn constants_of(run: Run, c: u32) -> Constants
@@ -123,4 +125,42 @@ pub fn move_value(run: Run, c: u32, plane: &mut [f32], gradient: &[f32]) -> Told
         answer: Answer::Done,
         run: next,
     }
+}
+
+// The answer of an accepted project: done, or done and blown.
+fn project_reply(mark: bool) -> Answer
+    ensures { λ r. ⌜ answerOf r ≡ reply project mark ⌝ }
+{
+    if mark {
+        return Answer::Blown;
+    }
+    Answer::Done
+}
+
+// Project. Rules out: every coefficient set to level × quantiser, and a mark given before the values are blown.
+pub fn project_value(
+    run: Run,
+    c: u32,
+    levels: &[i16],
+    tables: &[u16],
+    plane: &mut [f32],
+    across: &mut [f32],
+    down: &mut [f32],
+    saved: &mut [f32],
+) -> Told
+    ensures { λ r. ⌜ ProjectIs run c (now (levels .entry)) (now (tables .entry)) (now (plane .entry)) (now (across .entry)) (now (down .entry)) (now (saved .entry))
+        (r .answer) (r .run) (now (plane .exit)) (now (across .exit)) (now (down .exit)) (now (saved .exit)) ⌝ }
+{
+    let lengths = [plane.len(), across.len(), down.len(), saved.len()];
+    let r = record::refusals::fed_refusal(run, c, 4, &lengths, levels, tables);
+    if r != 0 {
+        return Told {
+            answer: Answer::Refused(r),
+            run,
+        };
+    }
+    let mark = parts::project_mark(run, c, levels, tables, plane, across, down, saved);
+    let next = record::places::advanced(run, c, mark);
+    let answer = project_reply(mark);
+    Told { answer, run: next }
 }

@@ -1,0 +1,48 @@
+-- `project_mark`: project keeps the buffers' lengths, and what is looked at afterwards is channel c's part as project left it.
+use mathlib.Core.Path.{_≡_, ap, _∙_}
+use Prim.Native.Nat.{_*_}
+use lib.ListN.{length}
+use Rattle.scalar.specs.Projection.{Box}
+use Rattle.scalar.specs.Blown.{isBlown}
+use Rattle.scalar.proofs.Lengths.{BoxLong}
+use Rattle.calls.specs.Run.{Given, coefs}
+use Rattle.calls.specs.Buffers.{partOf}
+use Rattle.record.specs.Model.{sheetOf, givenOf}
+use Rattle.run.proofs.Jobs.{project-long, project-blown}
+use borrow.Author.Needs.{needs}
+use Rattle.run.proofs.parts.project_mark.Statement.{statement}
+use Rattle.run.proofs.parts.project_mark.Tie as tie
+
+-- the four buffers as they were lent, and what the channel is given
+abbrev box : tie.After-project-part → Box
+box c = record { plane = c .before .before .before .before .before .before .before .before .before .before .args .plane .now; across = c .before .before .before .before .before .before .before .before .before .before .args .across .now; down = c .before .before .before .before .before .before .before .before .before .before .args .down .now; saved = c .before .before .before .before .before .before .before .before .before .before .args .saved .now }
+
+abbrev given : tie.After-project-part → Given
+given c = givenOf (c .before .before .before .before .before .before .before .before .before .before .args .run) (c .before .before .before .before .before .before .before .before .before .before .args .levels .now) (c .before .before .before .before .before .before .before .before .before .before .args .tables .now)
+
+long : (c : tie.After-project-part) → BoxLong (c .before .before .before .before .before .before .before .before .before .before .args .run .count * (c .before .before .before .before .before .before .before .before .before .before .args .run .w * c .before .before .before .before .before .before .before .before .before .before .args .run .h)) (box c)
+long c = record { plane-long = c .before .before .before .before .before .before .before .before .before .before .pre .1; across-long = c .before .before .before .before .before .before .before .before .before .before .pre .2; down-long = c .before .before .before .before .before .before .before .before .before .before .pre .3; saved-long = c .before .before .before .before .before .before .before .before .before .before .pre .4 }
+
+blown-part-requires : tie.Need-blown-part-requires
+blown-part-requires c κs =
+    let f = c .before .before .before .before .before .before .before .before .before .before .before .before .before .before .before .before .before .before .before .before .pre .0 in
+    let l = project-long (given (c .before .before .before .before .before .before .before .before .before .before)) (c .before .before .before .before .before .before .before .before .before .before .before .before .before .before .before .before .before .before .before .before .args .c) (f .below) (box (c .before .before .before .before .before .before .before .before .before .before)) (long (c .before .before .before .before .before .before .before .before .before .before)) in
+    let e = c .before .before .before .before .before .before .before .before .before .before .project-part .ensures in
+    (f .is-legal, f .below, ap (λ (b : Box). length (b .plane)) e ∙ l .plane-long, ap (λ (b : Box). length (b .saved)) e ∙ l .saved-long)
+
+returns : tie.Need-returns
+returns c =
+    let a = c .before .before .before .before .before .before .before .before .before .before .before .before .before .before .before .before .before .before .before .before .before .args in
+    let r = a .run in
+    let e = c .before .before .before .before .before .before .before .before .before .before .before .project-part .ensures in (
+      e,
+      c .blown-part .ensures
+          ∙ ap (λ (b : Box). isBlown (coefs (sheetOf r) (a .c)) (partOf (r .w * r .h) (a .c) (b .plane)) (partOf (r .w * r .h) (a .c) (b .saved))) e
+          ∙ project-blown (given (c .before .before .before .before .before .before .before .before .before .before .before)) (a .c) (c .before .before .before .before .before .before .before .before .before .before .before .before .before .before .before .before .before .before .before .before .before .pre .0 .below) (box (c .before .before .before .before .before .before .before .before .before .before .before)) (long (c .before .before .before .before .before .before .before .before .before .before .before)),
+    )
+
+pub project-mark-spec : {M : Type 1} → statement M
+project-mark-spec =
+    tie.close
+    (tie.spec (λ c κs. search needs) blown-part-requires
+    (λ c. search needs) (λ c. search needs) (λ c. search needs) (λ c. search needs) returns)

@@ -1,0 +1,62 @@
+-- `project_value`: refused as it was, or the channel's part projected, with the mark that its new values give.
+use mathlib.Core.Path.{_≡_, refl, sym, ap, _∙_}
+use mathlib.Core.List.{List, [], _∷_}
+use Prim.Native.Nat.{ℕ}
+use lib.ListN.{length}
+use Rattle.scalar.specs.Projection.{Box}
+use Rattle.calls.specs.Jobs.{project, on}
+use Rattle.record.specs.Model.{givenOf}
+use Rattle.run.specs.Parts.{Fed}
+use Rattle.run.specs.Public.{forProject}
+use Rattle.run.proofs.Ready.{call-refused, Accepted, accepted, fed, project-result}
+use Rattle.run.proofs.Jobs.{project-buffers, project-marks}
+use borrow.Author.Needs.{needs}
+use Rattle.run.proofs.values.project_value.Statement.{statement}
+use Rattle.run.proofs.values.project_value.Tie as tie
+
+abbrev lens : tie.Else1 → List ℕ
+lens c = length (c .before .before .before .before .before .before .before .before .args .plane .now) ∷ length (c .before .before .before .before .before .before .before .before .args .across .now) ∷ length (c .before .before .before .before .before .before .before .before .args .down .now) ∷ length (c .before .before .before .before .before .before .before .before .args .saved .now) ∷ []
+
+passed : (c : tie.Else1) → Accepted (c .before .before .before .before .before .before .before .before .args .run) project (c .before .before .before .before .before .before .before .before .args .c) (lens c)
+passed c =
+    accepted (c .before .before .before .before .before .before .before .before .args .run) (c .before .before .before .before .before .before .before .before .args .levels .now) (c .before .before .before .before .before .before .before .before .args .tables .now) project (c .before .before .before .before .before .before .before .before .args .c) (lens c)
+    (sym (c .before .fed-refusal .ensures project refl refl) ∙ c .if1 .left)
+
+given : (c : tie.Else1) → Fed (c .before .before .before .before .before .before .before .before .args .run) (c .before .before .before .before .before .before .before .before .args .c) (c .before .before .before .before .before .before .before .before .args .levels .now) (c .before .before .before .before .before .before .before .before .args .tables .now)
+given c =
+    fed (c .before .before .before .before .before .before .before .before .args .run) (c .before .before .before .before .before .before .before .before .args .levels .now) (c .before .before .before .before .before .before .before .before .args .tables .now) project (c .before .before .before .before .before .before .before .before .args .c) (lens c) refl
+    (sym (c .before .fed-refusal .ensures project refl refl) ∙ c .if1 .left)
+
+returns : tie.Need-returns
+returns c =
+    let a = c .before .before .before .before .before .before .before .before .args in
+    λ o.
+    call-refused (a .run) (a .levels .now) (a .tables .now) (on project (a .c)) (forProject o (a .plane .now) (a .across .now) (a .down .now) (a .saved .now)) (c .before .fed-refusal .result)
+    (c .before .fed-refusal .ensures project refl refl) (c .if1 .taken)
+
+project-mark-requires : tie.Need-project-mark-requires
+project-mark-requires c κs =
+    let l = passed (c .before .before .before .before) .long in
+    (given (c .before .before .before .before), l .0, l .1 .0, l .1 .1 .0, l .1 .1 .1 .0)
+
+advanced-requires : tie.Need-advanced-requires
+advanced-requires c κs = (passed (c .before .before .before .before .before .before .before .before .before .before .before .before .before) .is-legal, passed (c .before .before .before .before .before .before .before .before .before .before .before .before .before) .below)
+
+returns-2 : tie.Need-returns-2
+returns-2 c =
+    let a = c .before .before .before .before .before .before .before .before .before .before .before .before .before .before .before .before .before .before .before .before .before .before .before .args in
+    let G = givenOf (a .run) (a .levels .now) (a .tables .now) in
+    let p = c .before .before .before .before .before .before .before .before .before .before .project-mark .ensures in
+    λ o.
+    project-result (a .run) (a .levels .now) (a .tables .now) (a .c) (forProject o (a .plane .now) (a .across .now) (a .down .now) (a .saved .now))
+    (sym (c .before .before .before .before .before .before .before .before .before .before .before .before .before .before .before .before .fed-refusal .ensures project refl refl) ∙ c .before .before .before .before .before .before .before .before .before .before .before .before .before .before .before .if1 .left)
+    (c .before .before .before .before .before .before .before .before .before .before .project-mark .result) (project-marks G (a .c) o (a .plane .now) (a .across .now) (a .down .now) (a .saved .now) ∙ sym (p .1))
+    (c .project-reply .result) (c .project-reply .ensures) (c .before .advanced .ensures)
+    (project-buffers G (a .c) o (a .plane .now) (a .across .now) (a .down .now) (a .saved .now)
+    ∙ sym (ap (λ (b : Box). forProject o (b .plane) (b .across) (b .down) (b .saved)) (p .0)))
+
+pub project-value-spec : {M : Type 1} → statement M
+project-value-spec =
+    tie.close
+    (tie.spec (λ c. search needs) (λ c κs. search needs) returns project-mark-requires advanced-requires
+    (λ c κs. search needs) (λ c. search needs) (λ c. search needs) (λ c. search needs) (λ c. search needs) returns-2)
