@@ -114,16 +114,16 @@ def main(name):
     buffers, marks, constants = trace(t)
     n = len(channels)
     last = max(p for p, c in buffers)
-    o = ['-- Made by tools/trial.py: the sheet sheets/%s.tsv, and the bits that the unchanged Rust has after each job.' % name, OTHER]
+    o = ['-- Made by oracle/trial.py: the sheet sheets/%s.tsv, and the bits that the unchanged Rust has after each job.' % name, OTHER]
     o += ['use %s.{%s}' % (m, ', '.join(v.split())) for m, v in USES.items()]
     o.append('')
     for c, k in enumerate(channels):
-        o.append('c%d : Coef\nc%d =\n    record {\n      own = record { width = %d; height = %d; across = %d; down = %d };\n      levels = %s;\n      table = %s;\n    }\n' % (
+        o.append('unfoldable pub c%d : Coef\nc%d =\n    record {\n      own = record { width = %d; height = %d; across = %d; down = %d };\n      levels = %s;\n      table = %s;\n    }\n' % (
             c, c, k['w'], k['h'], k['across'], k['down'], items(whole(v) for b in k['blocks'] for v in b), items(k['table'])))
     for step, k in sorted(constants.items()):
         values = '; '.join('%s = ofBits binary32 %d' % (f, v) for f, v in zip(['term', 'factor', 'step', 'second'], k))
-        o.append('k%d : Constants\nk%d = record { %s }\n' % (step, step, values))
-        o.append('constants-%d : constants %d %d %d (ofBits binary32 %d) %d ≡ k%d\nunfolding k%d %s\nconstants-%d = refl\n' % (
+        o.append('unfoldable pub k%d : Constants\nk%d = record { %s }\n' % (step, step, values))
+        o.append('pub constants-%d : constants %d %d %d (ofBits binary32 %d) %d ≡ k%d\nunfolding k%d %s\nconstants-%d = refl\n' % (
             step, W, H, N, bits(smoothing), step, step, step, UNFOLD, step))
     lists = {}
 
@@ -131,11 +131,11 @@ def main(name):
         key = tuple(xs)
         if key not in lists:
             lists[key] = 'l%d' % len(lists)
-            o.append('%s : List Float\n%s = map (ofBits binary32) (%s)\n' % (lists[key], lists[key], items(xs)))
+            o.append('unfoldable pub %s : List Float\n%s = map (ofBits binary32) (%s)\n' % (lists[key], lists[key], items(xs)))
         return lists[key]
 
     def record(name, values):
-        o.append('%s : Buffers\n%s = record { %s }\n' % (name, name, '; '.join('%s = %s' % v for v in zip(NAMES, values))))
+        o.append('unfoldable pub %s : Buffers\n%s = record { %s }\n' % (name, name, '; '.join('%s = %s' % v for v in zip(NAMES, values))))
 
     names = {}
     for p in range(last + 1):
@@ -148,7 +148,7 @@ def main(name):
 
     def theorem(label, left, right, opened):
         used = sorted({l for b in opened for l in b[1]}, key=lambda l: int(l[1:]))
-        o.append('%s : %s ≡ %s\nunfolding %s %s %s\n%s = refl\n' % (label, left, right, ' '.join(b[0] for b in opened), ' '.join(used), UNFOLD, label))
+        o.append('pub %s : %s ≡ %s\nunfolding %s %s %s\n%s = refl\n' % (label, left, right, ' '.join(b[0] for b in opened), ' '.join(used), UNFOLD, label))
 
     for p in range(last + 1):
         step, job = (p - 1) // 5, (p - 1) % 5

@@ -1,0 +1,3 @@
+-- Solvers that would fool a glance (document 01), each against demand 3.
+pub mod Fixed
+pub mod Wrong
