@@ -2,3 +2,4 @@
 pub mod Ready
 pub mod Jobs
 pub mod Covered
+pub mod Started

@@ -28,15 +28,15 @@ use Rattle.run.specs.Public.{Result, result, gave, stateOf, callOf}
 
 -- ---- refused
 
-module _ (r : Run) (levels : List ℤ) (tables : List ℕ) (x : Call) (B : Buffers) where
-  settled : (t : ℕ) → t ≢ 0 → (o : Calls.Outcome) → result r (settle t (stateOf r B) o) ≡ gave (Refused t) r B
-  settled zero n o = absurd (n refl)
-  settled (suc t) n o = ap (λ (q : Run). gave (Refused (suc t)) q B) (placed-same r)
+pub settled : (r : Run) (B : Buffers) (t : ℕ) → t ≢ 0 → (o : Calls.Outcome) → result r (settle t (stateOf r B) o) ≡ gave (Refused t) r B
+settled r B zero n o = absurd (n refl)
+settled r B (suc t) n o = ap (λ (q : Run). gave (Refused (suc t)) q B) (placed-same r)
 
+module _ (r : Run) (levels : List ℤ) (tables : List ℕ) (x : Call) (B : Buffers) where
   pub call-refused : (t : ℕ) → t ≡ refusal (givenOf r levels tables) (placesOf r) x (lengths (lent x) B) → t ≢ 0
       → callOf r x levels tables B ≡ gave (Refused t) r B
   unfolding call
-  call-refused t e n = rw (← e) (settled t n (accept jobs (givenOf r levels tables) x (stateOf r B)))
+  call-refused t e n = rw (← e) (settled r B t n (accept jobs (givenOf r levels tables) x (stateOf r B)))
 
   pub call-accepted : refusal (givenOf r levels tables) (placesOf r) x (lengths (lent x) B) ≡ 0
       → callOf r x levels tables B ≡ result r (accept jobs (givenOf r levels tables) x (stateOf r B))
@@ -50,7 +50,7 @@ abbrev pub AllAre : ℕ → List ℕ → Type 0
 AllAre n [] = Unit {0}
 AllAre n (m ∷ ms) = (m ≡ n) × AllAre n ms
 
-all-are : (n : ℕ) (ms : List ℕ) → T (all (λ m. eqb m n) ms) → AllAre n ms
+pub all-are : (n : ℕ) (ms : List ℕ) → T (all (λ m. eqb m n) ms) → AllAre n ms
 all-are n [] t = tt
 all-are n (m ∷ ms) t = (eqb→eq m n (and-l (eqb m n) (all (λ m. eqb m n) ms) t), all-are n ms (and-r (eqb m n) (all (λ m. eqb m n) ms) t))
 

@@ -6,12 +6,13 @@ use mathlib.Core.List.{List}
 use lib.IntN.{ℤ}
 use lib.ListN.{length}
 use lib.Ieee.{Float}
+use Rattle.scalar.specs.Buffers.{Buffers}
 use Rattle.scalar.specs.DctGradient.{dataGradient}
 use Rattle.scalar.specs.Projection.{Box, projectOntoBox}
 use Rattle.scalar.specs.Blown.{isBlown}
 use Rattle.calls.specs.Run.{Given, own, area, coefs, levelsBefore}
-use Rattle.calls.specs.Buffers.{partOf, putPart}
-use Rattle.demand.specs.Solver.{coefOf}
+use Rattle.calls.specs.Buffers.{partOf, putPart, putChannel}
+use Rattle.demand.specs.Solver.{coefOf, jobs}
 use Rattle.record.specs.declared.Run.{Run}
 use Rattle.record.specs.Model.{Legal, sheetOf}
 
@@ -55,3 +56,11 @@ blownPart G c b = isBlown (coefs (G .sheet) c) (projectedBox G c b .plane) (proj
 abbrev pub fittedPart : Given → ℕ → List Float → List Float → List Float
 fittedPart G c gradient saved =
     putPart (area G) c gradient (dataGradient (coefOf G c) (G .sheet .W) (G .sheet .H) (own (G .sheet) c .data-weight) (partOf (area G) c saved))
+
+-- start of channel c: its part of each of the six is its start's
+abbrev pub startedPart : Given → ℕ → Buffers → Buffers
+startedPart G c B = putChannel (area G) c B (jobs .start G c)
+
+-- levels and tables of the record's lengths, for every channel of a legal record
+abbrev pub FedAll : Run → List ℤ → List ℕ → Type 0
+FedAll r levels tables = (c : ℕ) → c < r .count → Fed r c levels tables

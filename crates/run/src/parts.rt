@@ -4,12 +4,13 @@ use scalar::coef::Own;
 ghost use mathlib.Core.Path.{_≡_};
 ghost use Prim.Native.Nat.{_+_, _*_, _<_};
 ghost use lib.ListN.{length};
+ghost use Rattle.fold.specs.Fold.{upto};
 ghost use Rattle.fold.specs.Part.{part};
 ghost use Rattle.calls.specs.Run.{own, coefs, levelsBefore};
 ghost use Rattle.calls.specs.Buffers.{partOf};
 ghost use Rattle.scalar.specs.Blown.{isBlown};
 ghost use Rattle.record.specs.Model.{Legal, sheetOf, givenOf};
-ghost use Rattle.run.specs.Parts.{Fed, Whole, fittedPart, projectedPart, blownPart};
+ghost use Rattle.run.specs.Parts.{Fed, FedAll, Whole, fittedPart, projectedPart, blownPart, startedPart};
 
 pub fn own_of(run: Run, c: u32) -> Own
     requires { ⌜ Legal run × (c < run .count) ⌝ }
@@ -154,4 +155,78 @@ pub fn project_mark(
 {
     project_part(run, c, levels, tables, plane, across, down, saved);
     blown_part(run, c, plane, saved)
+}
+
+// Start of channel c: its part of each of the six.
+pub fn start_part(
+    run: Run,
+    c: u32,
+    levels: &[i16],
+    tables: &[u16],
+    plane: &mut [f32],
+    prior: &mut [f32],
+    gradient: &mut [f32],
+    across: &mut [f32],
+    down: &mut [f32],
+    saved: &mut [f32],
+)
+    requires { ⌜ Fed run c (now levels) (now tables) × Whole run (now plane) × Whole run (now prior) × Whole run (now gradient) × Whole run (now across) × Whole run (now down) × Whole run (now saved) ⌝ }
+    ensures { λ _. ⌜ record { plane = now (plane .exit); prior = now (prior .exit); gradient = now (gradient .exit); across = now (across .exit); down = now (down .exit); saved = now (saved .exit) }
+        ≡ startedPart (givenOf run (now (levels .entry)) (now (tables .entry))) c
+        (record { plane = now (plane .entry); prior = now (prior .entry); gradient = now (gradient .entry); across = now (across .entry); down = now (down .entry); saved = now (saved .entry) }) ⌝ }
+{
+    let s = record::places::span_of(run, c);
+    let from = s.from;
+    let to = s.to;
+    let o = own_of(run, c);
+    let ls = levels_of(run, c, levels);
+    let ts = table_of(run, c, tables);
+    let w = run.w as usize;
+    let h = run.h as usize;
+    scalar::auxiliary::start(
+        &mut plane[from..to],
+        &mut prior[from..to],
+        &mut gradient[from..to],
+        &mut across[from..to],
+        &mut down[from..to],
+        &mut saved[from..to],
+        o,
+        w,
+        h,
+        ls,
+        ts,
+    );
+}
+
+// Start of every channel, one after the other.
+pub fn start_parts(
+    run: Run,
+    levels: &[i16],
+    tables: &[u16],
+    plane: &mut [f32],
+    prior: &mut [f32],
+    gradient: &mut [f32],
+    across: &mut [f32],
+    down: &mut [f32],
+    saved: &mut [f32],
+)
+    requires { ⌜ FedAll run (now levels) (now tables) × Whole run (now plane) × Whole run (now prior) × Whole run (now gradient) × Whole run (now across) × Whole run (now down) × Whole run (now saved) ⌝ }
+    ensures { λ _. ⌜ record { plane = now (plane .exit); prior = now (prior .exit); gradient = now (gradient .exit); across = now (across .exit); down = now (down .exit); saved = now (saved .exit) }
+        ≡ upto (startedPart (givenOf run (now (levels .entry)) (now (tables .entry)))) (run .count)
+        (record { plane = now (plane .entry); prior = now (prior .entry); gradient = now (gradient .entry); across = now (across .entry); down = now (down .entry); saved = now (saved .entry) }) ⌝ }
+{
+    for c in 0..run.count {
+        start_part(
+            run,
+            c,
+            levels,
+            tables,
+            plane,
+            prior,
+            gradient,
+            across,
+            down,
+            saved,
+        );
+    }
 }

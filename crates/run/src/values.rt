@@ -12,7 +12,7 @@ ghost use Rattle.calls.specs.Jobs.{project};
 ghost use Rattle.calls.specs.Calls.{reply};
 ghost use Rattle.demand.specs.Solver.{constantsOf};
 ghost use Rattle.record.specs.Model.{Legal, sheetOf, placesOf, answerOf};
-ghost use Rattle.run.specs.Public.{PushIs, DataIs, BlendIs, MoveIs, ProjectIs};
+ghost use Rattle.run.specs.Public.{StartIs, PushIs, DataIs, BlendIs, MoveIs, ProjectIs};
 
 // The constants of the step that channel c's next job belongs to.
 fn constants_of(run: Run, c: u32) -> Constants
@@ -163,4 +163,54 @@ pub fn project_value(
     let next = record::places::advanced(run, c, mark);
     let answer = project_reply(mark);
     Told { answer, run: next }
+}
+
+// Start. Rules out: values left over in a buffer, and the levels of one channel taken for every channel's.
+pub fn start_value(
+    run: Run,
+    levels: &[i16],
+    tables: &[u16],
+    plane: &mut [f32],
+    prior: &mut [f32],
+    gradient: &mut [f32],
+    across: &mut [f32],
+    down: &mut [f32],
+    saved: &mut [f32],
+) -> Told
+    ensures { λ r. ⌜ StartIs run (now (levels .entry)) (now (tables .entry))
+        (record { plane = now (plane .entry); prior = now (prior .entry); gradient = now (gradient .entry); across = now (across .entry); down = now (down .entry); saved = now (saved .entry) })
+        (r .answer) (r .run)
+        (record { plane = now (plane .exit); prior = now (prior .exit); gradient = now (gradient .exit); across = now (across .exit); down = now (down .exit); saved = now (saved .exit) }) ⌝ }
+{
+    let lengths = [
+        plane.len(),
+        prior.len(),
+        gradient.len(),
+        across.len(),
+        down.len(),
+        saved.len(),
+    ];
+    let r = record::refusals::start_refusal(run, &lengths, levels, tables);
+    if r != 0 {
+        return Told {
+            answer: Answer::Refused(r),
+            run,
+        };
+    }
+    parts::start_parts(
+        run,
+        levels,
+        tables,
+        plane,
+        prior,
+        gradient,
+        across,
+        down,
+        saved,
+    );
+    let next = record::places::cleared(run);
+    Told {
+        answer: Answer::Done,
+        run: next,
+    }
 }
