@@ -1,0 +1,3 @@
+-- Laws of a list of calls.
+pub mod Numbered
+pub mod Listed

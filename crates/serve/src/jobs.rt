@@ -1,0 +1,46 @@
+// One call of any job, by the job's number and the channel's.
+use record::Answer;
+use record::Run;
+use record::Told;
+ghost use Rattle.serve.specs.Serve.{NumberedIs};
+
+// The call of job 0 push, 1 data, 2 blend, 3 move or 4 project, lent all that any of them is lent; 9 for any other number.
+// Rules out: the job of another number made, and a number that is no job taken for one.
+pub fn job_value(
+    run: Run,
+    job: u8,
+    c: u32,
+    levels: &[i16],
+    tables: &[u16],
+    plane: &mut [f32],
+    prior: &mut [f32],
+    gradient: &mut [f32],
+    across: &mut [f32],
+    down: &mut [f32],
+    saved: &mut [f32],
+) -> Told
+    ensures { λ r. ⌜ NumberedIs run job c (now (levels .entry)) (now (tables .entry))
+        (record { plane = now (plane .entry); prior = now (prior .entry); gradient = now (gradient .entry); across = now (across .entry); down = now (down .entry); saved = now (saved .entry) })
+        (r .answer) (r .run)
+        (record { plane = now (plane .exit); prior = now (prior .exit); gradient = now (gradient .exit); across = now (across .exit); down = now (down .exit); saved = now (saved .exit) }) ⌝ }
+{
+    if job == 0 {
+        return run::values::push_value(run, c, plane, prior);
+    }
+    if job == 1 {
+        return run::values::data_value(run, c, levels, tables, gradient, &saved[..]);
+    }
+    if job == 2 {
+        return run::values::blend_value(run, &plane[..], gradient, across, down);
+    }
+    if job == 3 {
+        return run::values::move_value(run, c, plane, &gradient[..]);
+    }
+    if job == 4 {
+        return run::values::project_value(run, c, levels, tables, plane, across, down, saved);
+    }
+    Told {
+        answer: Answer::Refused(9),
+        run,
+    }
+}

@@ -1,0 +1,2 @@
+// A call of any job by its numbers.
+pub mod jobs;
