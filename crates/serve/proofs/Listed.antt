@@ -1,13 +1,15 @@
 -- A list of calls, call by call: each hands on the record and the buffers that the next is lent.
-use mathlib.Core.Path.{_≡_, refl, sym, ap, _∙_}
+use mathlib.Core.Path.{_≡_, refl, sym, ap, _∙_, subst}
 use Prim.Native.Nat.{ℕ, zero, suc, _+_, _≤_, _<_}
 use native.Mathlib.Nat.{le-of-suc-le-suc, not-suc-le-zero}
 use native.Mathlib.Omega.{arith}
 use native.Mathlib.Numerals.{add-one}
-use mathlib.Core.List.{List, [], _∷_, _++_, map}
+use mathlib.Core.Bool.{Bool, true, false}
+use mathlib.Core.List.{List, [], _∷_, _++_, map, append-nil}
 use lib.IntN.{ℤ}
-use lib.ListN.{length, getD, set, take, drop, length-map, length-set}
-use lib.Seq.{take-all}
+use lib.Dec.{T, ltb}
+use lib.ListN.{length, getD, set, take, drop, length-map, length-set, drop-of-length-le}
+use lib.Seq.{take-all, drop-cons, take-suc-set, append-snoc}
 use Rattle.scalar.specs.Buffers.{Buffers}
 use Rattle.calls.specs.Run.{Given, Place, Sheet}
 use Rattle.calls.specs.Jobs.{Call, on, blend}
@@ -19,7 +21,9 @@ use Rattle.record.specs.declared.Answer.{Answer}
 use Rattle.record.specs.Model.{placeOf, sheetOf, placesOf, givenOf, withPlace, withPlaces, placed, answerOf}
 use Rattle.record.proofs.Placed.{placed-same, sheet-stays}
 use Rattle.run.specs.Public.{Result, gave, stateOf, callOf}
-use Rattle.serve.specs.Serve.{numbered, callList, byteOf, Listed, ran, listOf}
+use Rattle.calls.proofs.Tests.{all-anywhere}
+use Rattle.serve.specs.Serve.{numbered, numberedOf, callList, allJobs, byteOf, Listed, ran, listOf}
+use Rattle.serve.proofs.Numbered.{is-job}
 
 -- ---- places keep their number
 
@@ -28,7 +32,7 @@ module _ (G : Given) where
   accept-long (on j c) s = simp length-set
   accept-long blend s = length-map (s .places) blended
 
-  settle-long : (t : ℕ) (s : State) (o : Outcome) → length (o .after .places) ≡ length (s .places) → length (settle t s o .after .places) ≡ length (s .places)
+  pub settle-long : (t : ℕ) (s : State) (o : Outcome) → length (o .after .places) ≡ length (s .places) → length (settle t s o .after .places) ≡ length (s .places)
   settle-long zero s o e = e
   settle-long (suc t) s o e = refl
 
@@ -108,3 +112,50 @@ module _ (levels : List ℤ) (tables : List ℕ) where
   pub no-call : (r : Run) (B : Buffers) → listOf r levels tables [] B ≡ record { bytes = []; run = r; buffers = B }
   unfolding ran answers final
   no-call r B = ap (λ (q : Run). record { bytes = []; run = q; buffers = B }) (placed-same r)
+
+-- ---- the code's loop: the bytes written by the first i calls, and what the calls left give
+
+module _ (levels : List ℤ) (tables : List ℕ) (js cs : List ℕ) where
+  abbrev pub sofar : Run → Buffers → List ℕ → ℕ → Listed
+  sofar r B bytes i =
+      let l = listOf r levels tables (callList (drop i js) (drop i cs)) B in record { bytes = take i bytes ++ l .bytes; run = l .run; buffers = l .buffers }
+
+  calls-left : (i : ℕ) → i < length js → i < length cs
+      → callList (drop i js) (drop i cs) ≡ numbered (getD js i 0) (getD cs i 0) ∷ callList (drop (suc i) js) (drop (suc i) cs)
+  calls-left i h l = λ k. callList (drop-cons js i 0 h k) (drop-cons cs i 0 l k)
+
+  is-number : (i : ℕ) → allJobs js ≡ true → ltb (getD js i 0) 5 ≡ true
+  is-number i e = truth (ltb (getD js i 0) 5) (all-anywhere (λ j. ltb j 5) js 0 (subst T (sym e) tt) tt i)
+    where
+      truth : (b : Bool) → T b → b ≡ true
+      truth true t = refl
+      truth false t = absurd t
+
+  -- one call more, its answer written
+  pub one-turn : (r : Run) (B : Buffers) (bytes : List ℕ) (i : ℕ) → i < length js → length cs ≡ length js → length bytes ≡ length js → allJobs js ≡ true
+      → (a : Answer) {r′ : Run} {B′ : Buffers} → numberedOf r (getD js i 0) (getD cs i 0) levels tables B ≡ gave a r′ B′
+      → {b : ℕ} → b ≡ byteOf (answerOf a)
+      → sofar r′ B′ (set bytes i b) (i + 1) ≡ sofar r B bytes i
+  one-turn r B bytes i h long-cs long-bytes numbers a {r′} {B′} e {b} w =
+      let xs : List Call = callList (drop (suc i) js) (drop (suc i) cs) in
+      let l = listOf r′ levels tables xs B′ in
+      let whole : listOf r levels tables (callList (drop i js) (drop i cs)) B ≡ record { bytes = byteOf (answerOf a) ∷ l .bytes; run = l .run; buffers = l .buffers } =
+      ap (λ (ys : List Call). listOf r levels tables ys B) (calls-left i h (omega arith))
+      ∙ call-first levels tables r (numbered (getD js i 0) (getD cs i 0)) xs B a
+      (sym (is-job r (getD js i 0) (getD cs i 0) levels tables B (is-number i numbers)) ∙ e) in
+      let written : take (suc i) (set bytes i b) ++ l .bytes ≡ take i bytes ++ (byteOf (answerOf a) ∷ l .bytes) =
+      ap (λ (ys : List ℕ). ys ++ l .bytes) (take-suc-set bytes i b (omega arith))
+      ∙ append-snoc (take i bytes) b (l .bytes)
+      ∙ ap (λ (y : ℕ). take i bytes ++ (y ∷ l .bytes)) w in
+      rw add-one
+      ((λ k. record { bytes = written k; run = l .run; buffers = l .buffers })
+      ∙ sym (ap (λ (m : Listed). record { bytes = take i bytes ++ m .bytes; run = m .run; buffers = m .buffers }) whole))
+
+  -- no call is left
+  pub last-turn : (r : Run) (B : Buffers) (bytes : List ℕ) (i : ℕ) → length js ≤ i → length bytes ≡ length js
+      → sofar r B bytes i ≡ record { bytes = bytes; run = r; buffers = B }
+  last-turn r B bytes i h long =
+      ap (λ (ys : List ℕ). let l = listOf r levels tables (callList ys (drop i cs)) B in record { bytes = take i bytes ++ l .bytes; run = l .run; buffers = l .buffers })
+      (drop-of-length-le js h)
+      ∙ ap (λ (m : Listed). record { bytes = take i bytes ++ m .bytes; run = m .run; buffers = m .buffers }) (no-call levels tables r B)
+      ∙ ap (λ (ys : List ℕ). record { bytes = ys; run = r; buffers = B }) (append-nil (take i bytes) ∙ take-all i bytes (omega arith))

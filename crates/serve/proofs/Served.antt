@@ -1,0 +1,104 @@
+-- Demand 3 of the code: start, and then the list of calls.
+use mathlib.Core.Path.{_≡_, refl, sym, ap, _∙_, subst}
+use mathlib.Core.Logic.{_≢_}
+use mathlib.Core.Bool.{Bool, true, false, not, _&&_, cond}
+use mathlib.Core.List.{List, map}
+use Prim.Native.Nat.{ℕ}
+use native.Mathlib.Omega.{arith}
+use lib.Dec.{T, eqb, eqb→eq}
+use lib.Ieee.Fits.{and-l, and-r, eq→eqb}
+use lib.IntN.{ℤ}
+use lib.ListN.{length, length-map}
+use Rattle.scalar.specs.Buffers.{Buffers}
+use Rattle.calls.specs.Run.{Given, Place, fresh, area}
+use Rattle.calls.specs.Buffers.{channel}
+use Rattle.calls.specs.Jobs.{Call}
+use Rattle.calls.specs.Calls as Calls
+use Rattle.calls.specs.Calls.{State, begin, start, startRefusal, allSix, lengths, noneYet, plainPlaces}
+use Rattle.calls.specs.Demand.{SavedIn}
+use Rattle.demand.specs.Solver.{jobs}
+use Rattle.demand.proofs.Demand3.{demand3}
+use Rattle.record.specs.declared.Run.{Run}
+use Rattle.record.specs.declared.Answer.{Answer}
+use Rattle.record.specs.declared.Answer.the-variants.{Refused, Done}
+use Rattle.record.specs.Model.{placesOf, givenOf, placed}
+use Rattle.run.specs.Public.{Result, gave, stateOf, startOf}
+use Rattle.serve.specs.Serve.{callList, allJobs, byteOf, Listed, ran, listOf, serveRefusal, serveRefusalOf, Served, ServeIs}
+use Rattle.serve.proofs.Listed.{settle-long, from-placed}
+
+-- ---- what a list that is not refused has passed
+
+pub record Passed (r : ℕ) (js : List ℕ) (channels bytes : ℕ) : Type 0 where
+  pub startable : r ≡ 0
+  pub channels-long : channels ≡ length js
+  pub bytes-long : bytes ≡ length js
+  pub all-jobs : allJobs js ≡ true
+
+pub passed : (r : ℕ) (js : List ℕ) (channels bytes : ℕ) → serveRefusal r js channels bytes ≡ 0 → Passed r js channels bytes
+unfolding serveRefusal
+passed r js channels bytes e = go (eqb r 13) (eqb channels n && eqb bytes n) (eqb r 0) (allJobs js) refl refl refl e
+  where
+    n : ℕ
+    n = length js
+
+    go : (a l z j : Bool) → (eqb channels n && eqb bytes n) ≡ l → eqb r 0 ≡ z → allJobs js ≡ j
+        → cond a 13 (cond (not l) 8 (cond (not z) r (cond (not j) 9 0))) ≡ 0 → Passed r js channels bytes
+    go true l z j lists zero numbers e = absurd (omega arith)
+    go false false z j lists zero numbers e = absurd (omega arith)
+    go false true false j lists zero numbers e = let w : T (eqb r 0) = eq→eqb e in absurd (subst T zero w)
+    go false true true false lists zero numbers e = absurd (omega arith)
+    go false true true true lists zero numbers e =
+        let long : T (eqb channels n && eqb bytes n) = subst T (sym lists) tt in
+        record {
+          startable = eqb→eq r 0 (subst T (sym zero) tt);
+          channels-long = eqb→eq channels n (and-l (eqb channels n) (eqb bytes n) long);
+          bytes-long = eqb→eq bytes n (and-r (eqb channels n) (eqb bytes n) long);
+          all-jobs = numbers;
+        }
+
+-- ---- the two ends of the call
+
+module _ (r : Run) (js cs bytes : List ℕ) (levels : List ℤ) (tables : List ℕ) (B : Buffers) where
+  pub refused-whole : (t : ℕ) → t ≡ serveRefusalOf r js cs bytes levels tables B → t ≢ 0 → ServeIs r js cs bytes levels tables B (Refused t) r bytes B
+  refused-whole t e n = record { if-refused = λ m. (ap (λ (k : ℕ). Refused k) e, refl, refl, refl); if-done = λ z. absurd (n (e ∙ z)) }
+
+  abbrev G : Given
+  G = givenOf r levels tables
+
+  abbrev xs : List Call
+  xs = callList js cs
+
+  start-long : length (start jobs G (stateOf r B) .after .places) ≡ length (placesOf r)
+  unfolding start
+  start-long = settle-long G (startRefusal G (placesOf r) (lengths allSix B)) (stateOf r B) (begin jobs G (stateOf r B)) (length-map (placesOf r) (λ p. fresh))
+
+  start-done : startRefusal G (placesOf r) (lengths allSix B) ≡ 0 → start jobs G (stateOf r B) .answer ≡ Calls.done
+  unfolding start
+  start-done e = rw e
+
+  -- what start and the calls left, as the model has it
+  whole : (a : Answer) {r₁ : Run} {B₁ : Buffers} → startOf r levels tables B ≡ gave a r₁ B₁
+      → listOf r₁ levels tables xs B₁ ≡ ran r G xs (start jobs G (stateOf r B) .after)
+  whole a e = ap (λ (o : Result). listOf (o .run) levels tables xs (o .buffers)) (sym e) ∙ from-placed levels tables r (start jobs G (stateOf r B) .after) start-long xs
+
+  served : startRefusal G (placesOf r) (lengths allSix B) ≡ 0 → {bytes′ : List ℕ} {r′ : Run} {B′ : Buffers}
+      → ran r G xs (start jobs G (stateOf r B) .after) ≡ record { bytes = bytes′; run = r′; buffers = B′ }
+      → Served G xs r (plainPlaces jobs G xs (noneYet G)) bytes′ r′ B′
+  unfolding ran
+  served z q =
+      let claim = demand3 G (stateOf r B) (start-done z) xs in
+      record {
+        same-answers = sym (ap (λ (l : Listed). l .bytes) q) ∙ ap (map byteOf) (claim .same-answers);
+        same-places = sym (ap (λ (l : Listed). l .run) q) ∙ ap (placed r) (claim .same-places);
+        as-fixed = sym (ap (λ (l : Listed). l .buffers) q) ∙ claim .as-fixed;
+        in-interval = λ c h m k l. subst (λ (D : Buffers). SavedIn G c k (channel (area G) c D)) (ap (λ (l : Listed). l .buffers) q) (claim .in-interval c h m k l);
+      }
+
+  pub done-whole : serveRefusalOf r js cs bytes levels tables B ≡ 0 → (a : Answer) {r₁ : Run} {B₁ : Buffers} → startOf r levels tables B ≡ gave a r₁ B₁
+      → {bytes′ : List ℕ} {r′ : Run} {B′ : Buffers} → listOf r₁ levels tables xs B₁ ≡ record { bytes = bytes′; run = r′; buffers = B′ }
+      → ServeIs r js cs bytes levels tables B Done r′ bytes′ B′
+  done-whole z a e l =
+      record {
+        if-refused = λ n. absurd (n z);
+        if-done = λ y. (refl, served (passed (startRefusal G (placesOf r) (lengths allSix B)) js (length cs) (length bytes) z .startable) (sym (whole a e) ∙ l));
+      }
