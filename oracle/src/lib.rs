@@ -1,6 +1,7 @@
 //! The oracle's common pieces: numbers at random, f32 kinds, the proved library, comparison.
 pub mod arith;
 pub mod bench;
+pub mod calls;
 pub mod floats;
 pub mod jobs;
 pub mod picture;

@@ -1,5 +1,6 @@
 //! The exports of the proved libraries `probe` and `smoother` that the programs here call. All sizes are usize; a slice is a pointer
 //! and a length. Where a group of exports was missing at build time, a call ends the program.
+use crate::calls::Record;
 
 macro_rules! exports {
     ($group:ident: $(fn $name:ident($($arg:ident: $t:ty),* $(,)?) $(-> $answer:ty)?;)*) => {
@@ -164,6 +165,107 @@ exports! { smoother_sheet:
         line: *mut usize,
     ) -> u32;
 }
+
+exports! { smoother_calls:
+    fn smoother_start(
+        run: *mut Record,
+        levels: *const i16,
+        levels_len: usize,
+        tables: *const u16,
+        tables_len: usize,
+        plane: *mut f32,
+        plane_len: usize,
+        prior: *mut f32,
+        prior_len: usize,
+        gradient: *mut f32,
+        gradient_len: usize,
+        across: *mut f32,
+        across_len: usize,
+        down: *mut f32,
+        down_len: usize,
+        saved: *mut f32,
+        saved_len: usize,
+    ) -> u32;
+    fn smoother_push(run: *mut Record, c: u32, plane: *mut f32, plane_len: usize, prior: *mut f32, prior_len: usize) -> u32;
+    fn smoother_data(
+        run: *mut Record,
+        c: u32,
+        levels: *const i16,
+        levels_len: usize,
+        tables: *const u16,
+        tables_len: usize,
+        gradient: *mut f32,
+        gradient_len: usize,
+        saved: *const f32,
+        saved_len: usize,
+    ) -> u32;
+    fn smoother_blend(
+        run: *mut Record,
+        plane: *const f32,
+        plane_len: usize,
+        gradient: *mut f32,
+        gradient_len: usize,
+        across: *mut f32,
+        across_len: usize,
+        down: *mut f32,
+        down_len: usize,
+    ) -> u32;
+    fn smoother_move(
+        run: *mut Record,
+        c: u32,
+        plane: *mut f32,
+        plane_len: usize,
+        gradient: *const f32,
+        gradient_len: usize,
+    ) -> u32;
+    fn smoother_project(
+        run: *mut Record,
+        c: u32,
+        levels: *const i16,
+        levels_len: usize,
+        tables: *const u16,
+        tables_len: usize,
+        plane: *mut f32,
+        plane_len: usize,
+        across: *mut f32,
+        across_len: usize,
+        down: *mut f32,
+        down_len: usize,
+        saved: *mut f32,
+        saved_len: usize,
+    ) -> u32;
+}
+
+exports! { smoother_serve:
+    fn smoother_serve(
+        run: *mut Record,
+        jobs: *const u8,
+        jobs_len: usize,
+        channels: *const u32,
+        channels_len: usize,
+        answers: *mut u8,
+        answers_len: usize,
+        levels: *const i16,
+        levels_len: usize,
+        tables: *const u16,
+        tables_len: usize,
+        plane: *mut f32,
+        plane_len: usize,
+        prior: *mut f32,
+        prior_len: usize,
+        gradient: *mut f32,
+        gradient_len: usize,
+        across: *mut f32,
+        across_len: usize,
+        down: *mut f32,
+        down_len: usize,
+        saved: *mut f32,
+        saved_len: usize,
+    ) -> u32;
+}
+
+/// Whether the library has the call for a list of calls.
+pub const HAS_SERVE: bool = cfg!(smoother_serve);
 
 #[allow(dead_code)]
 fn missing() -> ! {

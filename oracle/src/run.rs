@@ -4,7 +4,8 @@ use crate::{floats::same, macros::mul_add, sheet};
 use artefact::{
     AlignedF32, Aux,
     pipeline::open::{
-        Coefficient, SampleFactor, ScalarCoef, dct_gradient, project_onto_box, solve, tgv_gradient, tv_gradient,
+        Coefficient, SampleFactor, ScalarCoef, auxiliary::PixelDifference, dct_gradient, project_onto_box, solve,
+        tgv_gradient, tv_gradient,
     },
 };
 
@@ -20,6 +21,23 @@ pub fn coefficient(c: &sheet::Channel) -> Coefficient {
         vertical_samp_factor: SampleFactor(c.down as u8),
         dct_coefs: c.levels.iter().map(|level| *level as f32).collect(),
         quant_table: std::array::from_fn(|i| c.table[i] as f32),
+    }
+}
+
+/// What the published conversion makes of a channel, but for the image of its levels, which start alone reads.
+fn without_image(c: &Coefficient) -> ScalarCoef {
+    ScalarCoef {
+        rounded_px_w: c.rounded_px_w,
+        rounded_px_h: c.rounded_px_h,
+        rounded_px_count: c.rounded_px_count,
+        block_w: c.block_w,
+        block_h: c.block_h,
+        block_count: c.block_count,
+        horizontal_samp_factor: c.horizontal_samp_factor,
+        vertical_samp_factor: c.vertical_samp_factor,
+        dct_coefs: c.dct_coefs.clone(),
+        quant_table: c.quant_table,
+        image_data: vec![],
     }
 }
 
@@ -72,6 +90,38 @@ impl Run {
             given,
             weight: sheet.smoothing[c].value(),
             pweight: sheet.data.map(sheet::Weight::value),
+            term: 1.0,
+        }
+    }
+
+    /// A run whose channels have these six buffers each. No plane is made from the levels: it is not at its start.
+    pub fn on(
+        w: u32,
+        h: u32,
+        iterations: usize,
+        given: Vec<Coefficient>,
+        weight: f32,
+        pweight: [f32; 3],
+        buffers: Vec<[Vec<f32>; 6]>,
+    ) -> Self {
+        let aux = |[plane, prior, gradient, across, down, saved]: [Vec<f32>; 6]| Aux {
+            cos: saved.into(),
+            obj_gradient: gradient.into(),
+            pixel_diff: PixelDifference { x: across.into(), y: down.into() },
+            fdata: plane.into(),
+            fista: prior.into(),
+        };
+        Self {
+            w,
+            h,
+            iterations,
+            positions: vec![0; given.len()],
+            marks: vec![false; given.len()],
+            auxs: buffers.into_iter().map(aux).collect(),
+            coefs: given.iter().map(without_image).collect(),
+            given,
+            weight,
+            pweight,
             term: 1.0,
         }
     }

@@ -43,13 +43,17 @@ impl Tally {
         }
     }
 
+    pub fn differ(&self) -> u64 {
+        self.rows.iter().map(|row| row.2).sum()
+    }
+
     /// Prints the table and the verdict; the program's exit status.
     pub fn close(&self) -> std::process::ExitCode {
         for (name, compared, differ) in &self.rows {
             println!("{name:<32} {compared:>12} {differ:>8}");
         }
         let compared: u64 = self.rows.iter().map(|row| row.1).sum();
-        let differ: u64 = self.rows.iter().map(|row| row.2).sum();
+        let differ = self.differ();
         println!("{compared} compared, {differ} differ");
         u8::from(differ > 0).into()
     }
