@@ -1,0 +1,102 @@
+-- How long the texts are, and what fits.
+use mathlib.Core.Path.{_≡_, refl, sym, ap, _∙_}
+use mathlib.Core.Bool.{true, _&&_}
+use mathlib.Core.List.{List, [], _∷_}
+use Prim.Native.Nat.{ℕ, zero, suc, _+_, _*_, _≤_}
+use native.Mathlib.Nat.{suc-mul, mul-le-mul}
+use native.Mathlib.Numerals.{add-one}
+use native.Mathlib.Omega.{arith}
+use borrow.Author.Tests.{leb-true, eqb-true, le-leb, eq-eqb}
+use lib.Dec.{eqb, leb}
+use lib.ListN.{length, length-append}
+use Rattle.text.specs.Written.{decimal, ended}
+use Rattle.text.proofs.DecimalLaws.{decimal-length}
+use Rattle.text.proofs.GoodLaws.{both-left, both-right}
+use Rattle.output.specs.Output.{each, numbersLine, pixel, rowLine, pictureText, pictureRoom, pictureFits, pictureInto, refusalText, refusalInto}
+use Rattle.output.proofs.Lines.{tabbed, tabbed-more, ended-more, row-text, lines-done}
+
+tabbed-length : (f : ℕ → List ℕ) (m n : ℕ) → ((i : ℕ) → length (f i) ≡ m) → length (tabbed (each f n)) ≡ n * (m + 1)
+unfolding each
+tabbed-length f m zero h = omega arith
+tabbed-length f m (suc n) h = ap length (tabbed-more (each f n) (f n)) ∙ length-append (tabbed (each f n)) (9 ∷ f n) ∙ omega (arith, tabbed-length f m n h, h n, suc-mul n (m + 1))
+
+pub row-length : (width : ℕ) (rgb : List ℕ) (k : ℕ) → length (ended (rowLine width rgb k ∷ [])) ≡ 7 * width + 2
+row-length width rgb k =
+    ap length (sym (row-text 82 (each (λ x. pixel rgb (k + x)) width)))
+    ∙ length-append (82 ∷ tabbed (each (λ x. pixel rgb (k + x)) width)) (10 ∷ [])
+    ∙ omega (arith, tabbed-length (λ x. pixel rgb (k + x)) 6 width (λ i. refl))
+
+pub numbers-length : (letter a b : ℕ) → length (ended (numbersLine letter a b ∷ [])) ≡ 4 + length (decimal a) + length (decimal b)
+numbers-length letter a b =
+    ap length (sym (row-text letter (decimal a ∷ decimal b ∷ []))) ∙ simp length-append (omega arith)
+
+rows-length : (f : ℕ → List ℕ) (m n : ℕ) → ((i : ℕ) → length (ended (f i ∷ [])) ≡ m) → length (ended (each f n)) ≡ n * m
+unfolding each
+rows-length f m zero h = omega arith
+rows-length f m (suc n) h = ap length (ended-more (each f n) (f n)) ∙ length-append (ended (each f n)) (ended (f n ∷ [])) ∙ omega (arith, rows-length f m n h, h n, suc-mul n m)
+
+pub picture-length : (width height : ℕ) (rgb : List ℕ) → length (pictureText width height rgb) ≡ 4 + length (decimal width) + length (decimal height) + height * (7 * width + 2)
+unfolding pictureText
+picture-length width height rgb =
+    let f : ℕ → List ℕ = λ y. rowLine width rgb (y * width) in
+    ap length (sym (lines-done (numbersLine 73 width height) f height height refl))
+    ∙ length-append (ended (numbersLine 73 width height ∷ [])) (ended (each f height))
+    ∙ omega (arith, numbers-length 73 width height, rows-length f (7 * width + 2) height (λ y. row-length width rgb (y * width)))
+
+-- one row more
+pub row-more : (y m : ℕ) → (y + 1) * m ≡ y * m + m
+row-more y m = rw add-one (suc-mul y m)
+
+-- the line of two sides
+pub sides-length : (letter width height : ℕ) → width ≤ 512 → height ≤ 512 → length (ended (numbersLine letter width height ∷ [])) ≤ 10
+sides-length letter width height p q = omega (arith, numbers-length letter width height, decimal-length 2 width (omega arith), decimal-length 2 height (omega arith))
+
+-- a picture's text is not longer than its room
+pub picture-room : (width height : ℕ) (rgb : List ℕ) → width ≤ 512 → height ≤ 512 → length (pictureText width height rgb) ≤ pictureRoom width height
+picture-room width height rgb p q =
+    omega (arith, picture-length width height rgb, numbers-length 73 width height, sides-length 73 width height p q)
+
+-- a buffer of 7,242 bytes has room for every picture of the program: its sides are at most 32
+pub room-32 : (width height : ℕ) → width ≤ 32 → height ≤ 32 → pictureRoom width height ≤ 7242
+room-32 width height p q = let l : 7 * width + 2 ≤ 226 = omega arith in omega (arith, mul-le-mul q l)
+
+-- and 13 bytes have room for every refusal
+pub refusal-length : (number line : ℕ) → number ≤ 255 → line ≤ 999999 → 4 + length (decimal number) + length (decimal line) ≤ 13
+refusal-length number line p q = omega (arith, decimal-length 2 number (omega arith), decimal-length 5 line (omega arith))
+
+pub refusal-room : (number line : ℕ) → number ≤ 255 → line ≤ 999999 → length (refusalText number line) ≤ 13
+unfolding refusalText
+refusal-room number line p q = omega (arith, numbers-length 88 number line, refusal-length number line p q)
+
+-- what a picture that fits has
+pub fits : (width height bytes room : ℕ) → pictureFits width height bytes room ≡ true
+    → (width ≤ 512) × (height ≤ 512) × (bytes ≡ 3 * (width * height)) × (pictureRoom width height ≤ room)
+fits width height bytes room e =
+    let r = leb (pictureRoom width height) room in
+    let q = eqb bytes (3 * (width * height)) in
+    let f = both-right (leb width 512) (leb height 512 && (q && r)) e in
+    let g = both-right (leb height 512) (q && r) f in (
+      leb-true _ _ (both-left (leb width 512) (leb height 512 && (q && r)) e),
+      leb-true _ _ (both-left (leb height 512) (q && r) f),
+      eqb-true _ _ (both-left q r g),
+      leb-true _ _ (both-right q r g),
+    )
+
+-- what the calls write, where there is room
+pub picture-into : (width height : ℕ) (rgb : List ℕ) (room : ℕ) → width ≤ 512 → height ≤ 512 → length rgb ≡ 3 * (width * height) → pictureRoom width height ≤ room
+    → pictureInto width height rgb room ≡ pictureText width height rgb
+unfolding pictureInto
+picture-into width height rgb room p q e r = rw (le-leb width 512 p, le-leb height 512 q, eq-eqb _ _ e, le-leb _ _ r)
+
+pub picture-into-32 : (width height : ℕ) (rgb : List ℕ) (room : ℕ) → width ≤ 32 → height ≤ 32 → length rgb ≡ 3 * (width * height) → 7242 ≤ room
+    → pictureInto width height rgb room ≡ pictureText width height rgb
+picture-into-32 width height rgb room p q e r =
+    picture-into width height rgb room (omega arith) (omega arith) e (omega (arith, room-32 width height p q))
+
+pub refusal-into : (number line room : ℕ) → line ≤ 999999 → 13 ≤ room → refusalInto number line room ≡ refusalText number line
+unfolding refusalInto
+refusal-into number line room p q = rw (le-leb line 999999 p, le-leb 13 room q)
+
+-- no product of two sides is too large to compute
+pub sides-product : (a b : ℕ) → a ≤ 512 → b ≤ 3586 → a * b ≤ 512 * 3586
+sides-product a b p q = mul-le-mul p q

@@ -1,0 +1,146 @@
+// The text that the program `smooth` prints, written to the front of a lent buffer.
+ghost use mathlib.Core.List.{[], _∷_, _++_};
+ghost use Prim.Native.Nat.{_+_, _*_, _≤_, _<_};
+ghost use mathlib.Core.Path.{_≡_};
+ghost use lib.ListN.{length};
+ghost use Rattle.text.specs.Written.{decimal, hexByte, hexOf, ended};
+ghost use Rattle.output.specs.Output.{numbersLine, pixel, rowLine, pictureText, pictureRoom, pictureFits, pictureInto, refusalFits, refusalInto, Wrote};
+
+// A byte. This and what follows write from place `at` on, and answer where what they wrote ends.
+fn put_byte(b: u8, out: &mut [u8], at: usize) -> usize
+    requires { ⌜ at < length (now out) ⌝ }
+    ensures { λ r. ⌜ Wrote at (b ∷ []) (now (out .entry)) r (now (out .exit)) ⌝ }
+{
+    out[at] = b;
+    at + 1
+}
+
+// The decimal digits of a number, at most six.
+fn put_decimal(n: usize, out: &mut [u8], at: usize) -> usize
+    requires { ⌜ (n ≤ 999999) × (at + length (decimal n) ≤ length (now out)) ⌝ }
+    ensures { λ r. ⌜ Wrote at (decimal n) (now (out .entry)) r (now (out .exit)) ⌝ }
+{
+    if n < 10 {
+        return put_byte(b'0' + n as u8, out, at);
+    }
+    let end = put_decimal(n / 10, out, at);
+    put_byte(b'0' + (n % 10) as u8, out, end)
+}
+
+// A tab and a number.
+fn put_number(n: usize, out: &mut [u8], at: usize) -> usize
+    requires { ⌜ (n ≤ 999999) × (at + 1 + length (decimal n) ≤ length (now out)) ⌝ }
+    ensures { λ r. ⌜ Wrote at (9 ∷ decimal n) (now (out .entry)) r (now (out .exit)) ⌝ }
+{
+    let first = put_byte(b'\t', out, at);
+    put_decimal(n, out, first)
+}
+
+// The line of a letter and two numbers, at the front.
+fn put_numbers(letter: u8, a: usize, b: usize, out: &mut [u8]) -> usize
+    requires { ⌜ (a ≤ 999999) × (b ≤ 999999) × (4 + length (decimal a) + length (decimal b) ≤ length (now out)) ⌝ }
+    ensures { λ r. ⌜ Wrote 0 (ended (numbersLine letter a b ∷ [])) (now (out .entry)) r (now (out .exit)) ⌝ }
+{
+    let first = put_byte(letter, out, 0);
+    let second = put_number(a, out, first);
+    let end = put_number(b, out, second);
+    put_byte(b'\n', out, end)
+}
+
+// A hexadecimal digit, in lower case.
+fn hex_digit(d: u8) -> u8
+    requires { ⌜ d < 16 ⌝ }
+    ensures { λ r. ⌜ r ≡ hexByte d ⌝ }
+{
+    if d < 10 {
+        return b'0' + d;
+    }
+    b'a' - 10 + d
+}
+
+// The two hexadecimal digits of a byte.
+fn put_hex(b: u8, out: &mut [u8], at: usize) -> usize
+    requires { ⌜ at + 2 ≤ length (now out) ⌝ }
+    ensures { λ r. ⌜ Wrote at (hexOf 2 b) (now (out .entry)) r (now (out .exit)) ⌝ }
+{
+    let second = put_byte(hex_digit(b / 16 % 16), out, at);
+    put_byte(hex_digit(b % 16), out, second)
+}
+
+// A tab and pixel k.
+fn put_pixel(rgb: &[u8], k: usize, out: &mut [u8], at: usize) -> usize
+    requires { ⌜ (3 * k + 3 ≤ length (now rgb)) × (at + 7 ≤ length (now out)) ⌝ }
+    ensures { λ r. ⌜ Wrote at (9 ∷ pixel (now (rgb .entry)) k) (now (out .entry)) r (now (out .exit)) ⌝ }
+{
+    let red = put_byte(b'\t', out, at);
+    let green = put_hex(rgb[3 * k], out, red);
+    let blue = put_hex(rgb[3 * k + 1], out, green);
+    put_hex(rgb[3 * k + 2], out, blue)
+}
+
+// The line of the row whose first pixel is number k.
+fn put_row(width: usize, rgb: &[u8], k: usize, out: &mut [u8], at: usize) -> usize
+    requires { ⌜ (3 * (k + width) ≤ length (now rgb)) × (at + (7 * width + 2) ≤ length (now out)) ⌝ }
+    ensures { λ r. ⌜ Wrote at (ended (rowLine width (now (rgb .entry)) k ∷ [])) (now (out .entry)) r (now (out .exit)) ⌝ }
+{
+    let mut end = put_byte(b'R', out, at);
+    for x in 0..width {
+        end = put_pixel(rgb, k + x, out, end);
+    }
+    put_byte(b'\n', out, end)
+}
+
+// A picture that fits.
+fn put_picture(width: usize, height: usize, rgb: &[u8], out: &mut [u8]) -> usize
+    requires { ⌜ (width ≤ 512) × (height ≤ 512) × (length (now rgb) ≡ 3 * (width * height)) × (pictureRoom width height ≤ length (now out)) ⌝ }
+    ensures { λ r. ⌜ Wrote 0 (pictureText width height (now (rgb .entry))) (now (out .entry)) r (now (out .exit)) ⌝ }
+{
+    let mut end = put_numbers(b'I', width, height, out);
+    for y in 0..height {
+        end = put_row(width, rgb, y * width, out, end);
+    }
+    end
+}
+
+// Whether a picture fits: its sides, the number of its bytes, and the room that its text has.
+fn picture_fits(width: usize, height: usize, bytes: usize, room: usize) -> bool
+    ensures { λ r. ⌜ r ≡ pictureFits width height bytes room ⌝ }
+{
+    if width > 512 {
+        return false;
+    }
+    if height > 512 {
+        return false;
+    }
+    if bytes != 3 * (width * height) {
+        return false;
+    }
+    10 + height * (7 * width + 2) <= room
+}
+
+// Writes the text of a picture to the front of `out` and answers its length; 0 and nothing written where the picture does not fit.
+// Ruled out: `ABCDEF` for `abcdef`, or green before red; a row left out, or one that does not end with byte 10.
+pub fn write_picture(width: u32, height: u32, rgb: &[u8], out: &mut [u8]) -> usize
+    ensures { λ r. ⌜ Wrote 0 (pictureInto width height (now (rgb .entry)) (length (now (out .entry)))) (now (out .entry)) r (now (out .exit)) ⌝ }
+{
+    let w = width as usize;
+    let h = height as usize;
+    if picture_fits(w, h, rgb.len(), out.len()) {
+        return put_picture(w, h, rgb, out);
+    }
+    0
+}
+
+// Writes the text of a refusal to the front of `out` and answers its length; 0 and nothing written where it does not fit.
+// Ruled out: the line before the refusal's number; an empty field for line 0, which is written `0`.
+pub fn write_refusal(number: u8, line: usize, out: &mut [u8]) -> usize
+    ensures { λ r. ⌜ Wrote 0 (refusalInto number line (length (now (out .entry)))) (now (out .entry)) r (now (out .exit)) ⌝ }
+{
+    if line > 999999 {
+        return 0;
+    }
+    if out.len() < 13 {
+        return 0;
+    }
+    put_numbers(b'X', number as usize, line, out)
+}
