@@ -1,0 +1,4 @@
+-- What the walks of the thin calls share.
+pub mod Lent
+pub mod Thin
+pub mod Walk

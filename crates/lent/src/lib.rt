@@ -1,0 +1,74 @@
+// The public calls lent the run's record: each is its call by value in `run`, with the record stored back. "The run's record is lent to each job
+// and holds the new position afterwards" (document 01, "Jobs and positions"). No call asks anything of its caller.
+use record::Answer;
+use record::Run;
+ghost use Rattle.run.specs.Public.{PushIs, DataIs, BlendIs, MoveIs, ProjectIs};
+
+// Push. Rules out: the record at its old position after the job, and a prior that is not the old plane.
+pub fn push(run: &mut Run, c: u32, plane: &mut [f32], prior: &mut [f32]) -> Answer
+    ensures { λ r. ⌜ PushIs (now (run .entry)) c (now (plane .entry)) (now (prior .entry)) r (now (run .exit)) (now (plane .exit)) (now (prior .exit)) ⌝ }
+{
+    let p = run::values::push_value(*run, c, plane, prior);
+    *run = p.run;
+    p.answer
+}
+
+// Data. Rules out: a gradient added to what was there, and a refusal that moves the record on.
+pub fn data(
+    run: &mut Run,
+    c: u32,
+    levels: &[i16],
+    tables: &[u16],
+    gradient: &mut [f32],
+    saved: &[f32],
+) -> Answer
+    ensures { λ r. ⌜ DataIs (now (run .entry)) c (now (levels .entry)) (now (tables .entry)) (now (gradient .entry)) (now (saved .entry)) r (now (run .exit)) (now (gradient .exit)) ⌝ }
+{
+    let p = run::values::data_value(*run, c, levels, tables, gradient, saved);
+    *run = p.run;
+    p.answer
+}
+
+// Blend. Rules out: positions of some channels left behind, and a blend accepted while a channel's data is not done.
+pub fn blend(
+    run: &mut Run,
+    plane: &[f32],
+    gradient: &mut [f32],
+    across: &mut [f32],
+    down: &mut [f32],
+) -> Answer
+    ensures { λ r. ⌜ BlendIs (now (run .entry)) (now (plane .entry)) (now (gradient .entry)) (now (across .entry)) (now (down .entry))
+        r (now (run .exit)) (now (gradient .exit)) (now (across .exit)) (now (down .exit)) ⌝ }
+{
+    let p = run::values::blend_value(*run, plane, gradient, across, down);
+    *run = p.run;
+    p.answer
+}
+
+// Move; the word alone is Rust's. Rules out: the planes of other channels moved too, and a move by a gradient of norm 0.
+pub fn move_plane(run: &mut Run, c: u32, plane: &mut [f32], gradient: &[f32]) -> Answer
+    ensures { λ r. ⌜ MoveIs (now (run .entry)) c (now (plane .entry)) (now (gradient .entry)) r (now (run .exit)) (now (plane .exit)) ⌝ }
+{
+    let p = run::values::move_value(*run, c, plane, gradient);
+    *run = p.run;
+    p.answer
+}
+
+// Project. Rules out: the answer blown with the channel not marked in the record, and saved coefficients of another channel written.
+pub fn project(
+    run: &mut Run,
+    c: u32,
+    levels: &[i16],
+    tables: &[u16],
+    plane: &mut [f32],
+    across: &mut [f32],
+    down: &mut [f32],
+    saved: &mut [f32],
+) -> Answer
+    ensures { λ r. ⌜ ProjectIs (now (run .entry)) c (now (levels .entry)) (now (tables .entry)) (now (plane .entry)) (now (across .entry)) (now (down .entry)) (now (saved .entry))
+        r (now (run .exit)) (now (plane .exit)) (now (across .exit)) (now (down .exit)) (now (saved .exit)) ⌝ }
+{
+    let p = run::values::project_value(*run, c, levels, tables, plane, across, down, saved);
+    *run = p.run;
+    p.answer
+}
