@@ -2,7 +2,39 @@
 // and holds the new position afterwards" (document 01, "Jobs and positions"). No call asks anything of its caller.
 use record::Answer;
 use record::Run;
-ghost use Rattle.run.specs.Public.{PushIs, DataIs, BlendIs, MoveIs, ProjectIs};
+ghost use Rattle.run.specs.Public.{StartIs, PushIs, DataIs, BlendIs, MoveIs, ProjectIs};
+
+// Start. Rules out: marks of an earlier run kept in the record, and a prior that is not the starting plane.
+pub fn start(
+    run: &mut Run,
+    levels: &[i16],
+    tables: &[u16],
+    plane: &mut [f32],
+    prior: &mut [f32],
+    gradient: &mut [f32],
+    across: &mut [f32],
+    down: &mut [f32],
+    saved: &mut [f32],
+) -> Answer
+    ensures { λ r. ⌜ StartIs (now (run .entry)) (now (levels .entry)) (now (tables .entry))
+        (record { plane = now (plane .entry); prior = now (prior .entry); gradient = now (gradient .entry); across = now (across .entry); down = now (down .entry); saved = now (saved .entry) })
+        r (now (run .exit))
+        (record { plane = now (plane .exit); prior = now (prior .exit); gradient = now (gradient .exit); across = now (across .exit); down = now (down .exit); saved = now (saved .exit) }) ⌝ }
+{
+    let p = run::values::start_value(
+        *run,
+        levels,
+        tables,
+        plane,
+        prior,
+        gradient,
+        across,
+        down,
+        saved,
+    );
+    *run = p.run;
+    p.answer
+}
 
 // Push. Rules out: the record at its old position after the job, and a prior that is not the old plane.
 pub fn push(run: &mut Run, c: u32, plane: &mut [f32], prior: &mut [f32]) -> Answer
