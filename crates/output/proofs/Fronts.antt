@@ -44,3 +44,8 @@ wrote-as e w = rw e at w
 -- at the front: the first r bytes are the text
 pub wrote-front : {s xs x : List ℕ} {k : ℕ} → Wrote 0 s xs k x → take k x ≡ s
 wrote-front {s} {xs} {x} {k} w = ap (take k) (w .bytes) ∙ take-at s (drop k xs) k (omega (arith, w .count))
+
+-- and they lie within the buffer, which keeps its length
+pub wrote-within : {s xs x : List ℕ} {k : ℕ} → Wrote 0 s xs k x → length x ≡ length xs → k ≤ length xs
+wrote-within {s} {xs} {x} {k} w h =
+    omega (arith, w .count, ap length (w .bytes) ∙ length-append s (drop k xs), length-drop k xs)
