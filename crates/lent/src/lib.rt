@@ -3,6 +3,7 @@
 use record::Answer;
 use record::Run;
 ghost use Rattle.run.specs.Public.{StartIs, PushIs, DataIs, BlendIs, MoveIs, ProjectIs};
+ghost use Rattle.serve.specs.Serve.{ServeIs};
 
 // Start. Rules out: marks of an earlier run kept in the record, and a prior that is not the starting plane.
 pub fn start(
@@ -101,6 +102,44 @@ pub fn project(
         r (now (run .exit)) (now (plane .exit)) (now (across .exit)) (now (down .exit)) (now (saved .exit)) ⌝ }
 {
     let p = run::values::project_value(*run, c, levels, tables, plane, across, down, saved);
+    *run = p.run;
+    p.answer
+}
+
+// A fresh run and a list of calls on it. Rules out: the record of the calls before, and an answer that is not the plain run's.
+pub fn serve(
+    run: &mut Run,
+    jobs: &[u8],
+    channels: &[u32],
+    answers: &mut [u8],
+    levels: &[i16],
+    tables: &[u16],
+    plane: &mut [f32],
+    prior: &mut [f32],
+    gradient: &mut [f32],
+    across: &mut [f32],
+    down: &mut [f32],
+    saved: &mut [f32],
+) -> Answer
+    ensures { λ r. ⌜ ServeIs (now (run .entry)) (now (jobs .entry)) (now (channels .entry)) (now (answers .entry)) (now (levels .entry)) (now (tables .entry))
+        (record { plane = now (plane .entry); prior = now (prior .entry); gradient = now (gradient .entry); across = now (across .entry); down = now (down .entry); saved = now (saved .entry) })
+        r (now (run .exit)) (now (answers .exit))
+        (record { plane = now (plane .exit); prior = now (prior .exit); gradient = now (gradient .exit); across = now (across .exit); down = now (down .exit); saved = now (saved .exit) }) ⌝ }
+{
+    let p = serve::serve_value(
+        *run,
+        jobs,
+        channels,
+        answers,
+        levels,
+        tables,
+        plane,
+        prior,
+        gradient,
+        across,
+        down,
+        saved,
+    );
     *run = p.run;
     p.answer
 }
