@@ -2,3 +2,4 @@
 pub mod Numbered
 pub mod Listed
 pub mod Served
+pub mod Example

@@ -1,7 +1,6 @@
 -- A list of calls, call by call: each hands on the record and the buffers that the next is lent.
 use mathlib.Core.Path.{_≡_, refl, sym, ap, _∙_, subst}
 use Prim.Native.Nat.{ℕ, zero, suc, _+_, _≤_, _<_}
-use native.Mathlib.Nat.{le-of-suc-le-suc, not-suc-le-zero}
 use native.Mathlib.Omega.{arith}
 use native.Mathlib.Numerals.{add-one}
 use mathlib.Core.Bool.{Bool, true, false}
@@ -18,7 +17,7 @@ use Rattle.demand.specs.Solver.{jobs}
 use Rattle.record.specs.declared.Run.{Run}
 use Rattle.record.specs.declared.Channel.{Channel}
 use Rattle.record.specs.declared.Answer.{Answer}
-use Rattle.record.specs.Model.{placeOf, sheetOf, placesOf, givenOf, withPlace, withPlaces, placed, answerOf}
+use Rattle.record.specs.Model.{placeOf, placesOf, givenOf, withPlace, withPlaces, placed, answerOf}
 use Rattle.record.proofs.Placed.{placed-same, sheet-stays}
 use Rattle.run.specs.Public.{Result, gave, stateOf, callOf}
 use Rattle.calls.proofs.Tests.{all-anywhere}

@@ -10,11 +10,11 @@ use lib.Ieee.Fits.{and-l, and-r, eq→eqb}
 use lib.IntN.{ℤ}
 use lib.ListN.{length, length-map}
 use Rattle.scalar.specs.Buffers.{Buffers}
-use Rattle.calls.specs.Run.{Given, Place, fresh, area}
+use Rattle.calls.specs.Run.{Given, fresh, area}
 use Rattle.calls.specs.Buffers.{channel}
 use Rattle.calls.specs.Jobs.{Call}
 use Rattle.calls.specs.Calls as Calls
-use Rattle.calls.specs.Calls.{State, begin, start, startRefusal, allSix, lengths, noneYet, plainPlaces}
+use Rattle.calls.specs.Calls.{begin, start, startRefusal, allSix, lengths, noneYet, plainPlaces}
 use Rattle.calls.specs.Demand.{SavedIn}
 use Rattle.demand.specs.Solver.{jobs}
 use Rattle.demand.proofs.Demand3.{demand3}

@@ -4,7 +4,7 @@ use mathlib.Core.Path.{_≡_}
 use mathlib.Core.Logic.{_≢_}
 use mathlib.Core.Bool.{Bool, false, not, _&&_, cond}
 use mathlib.Core.List.{List, [], _∷_, map}
-use lib.Dec.{T, ltb, eqb}
+use lib.Dec.{ltb, eqb}
 use lib.IntN.{ℤ}
 use lib.ListN.{length}
 use Rattle.scalar.specs.Buffers.{Buffers}
@@ -17,7 +17,7 @@ use Rattle.calls.specs.Demand.{SavedIn}
 use Rattle.demand.specs.Solver.{jobs}
 use Rattle.record.specs.declared.Run.{Run}
 use Rattle.record.specs.declared.Answer.{Answer}
-use Rattle.record.specs.declared.Answer.the-variants.{Refused, Done, Blown}
+use Rattle.record.specs.declared.Answer.the-variants.{Refused, Done}
 use Rattle.record.specs.Model.{placesOf, givenOf, placed}
 use Rattle.run.specs.Public.{Result, result, gave, stateOf}
 

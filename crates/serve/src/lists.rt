@@ -4,8 +4,7 @@ use record::Run;
 ghost use mathlib.Core.Path.{_≡_};
 ghost use mathlib.Core.Bool.{true};
 ghost use lib.ListN.{length};
-ghost use lib.Dec.{ltb};
-ghost use Rattle.calls.specs.Calls.{all, startRefusal};
+ghost use Rattle.calls.specs.Calls.{startRefusal};
 ghost use Rattle.record.specs.Model.{answerOf, givenOf, placesOf};
 ghost use Rattle.serve.specs.Serve.{ListIs, allJobs, byteOf, serveRefusal};
 

@@ -1,8 +1,7 @@
 -- `serve_value`: refused whole, or start and the list of calls.
-use mathlib.Core.Path.{_≡_, sym, _∙_}
+use mathlib.Core.Path.{sym, _∙_}
 use native.Mathlib.Omega.{arith}
 use lib.ListN.{length}
-use Rattle.scalar.specs.Buffers.{Buffers}
 use Rattle.calls.specs.Calls.{startRefusal, allSix, lengths}
 use Rattle.record.specs.Model.{placesOf, givenOf}
 use Rattle.serve.proofs.Served.{passed, refused-whole, done-whole}

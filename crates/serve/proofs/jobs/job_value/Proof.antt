@@ -1,5 +1,5 @@
 -- `job_value`: the call of the job that the number names.
-use mathlib.Core.Path.{_≡_, refl}
+use mathlib.Core.Path.{refl}
 use native.Mathlib.Omega.{arith}
 use Rattle.scalar.specs.Buffers.{Buffers}
 use Rattle.serve.proofs.Numbered.{by-number, is-no-job}

@@ -1,9 +1,9 @@
 -- `all_jobs`: the numbers passed are jobs'.
 use mathlib.Core.Path.{_≡_, refl, _∙_}
-use Prim.Native.Nat.{ℕ, _-_, _≤_}
+use Prim.Native.Nat.{_-_, _≤_}
 use native.Mathlib.Omega.{arith}
 use lib.Dec.{ltb}
-use lib.ListN.{length, take}
+use lib.ListN.{take}
 use Rattle.record.proofs.Tested.{all-more, all-end}
 use Rattle.serve.specs.Serve.{allJobs}
 use borrow.Author.Needs.{needs}

@@ -3,7 +3,6 @@ use mathlib.Core.Path.{_≡_, refl, sym, _∙_}
 use Prim.Native.Nat.{_-_, _≤_}
 use native.Mathlib.Omega.{arith}
 use lib.ListN.{length, length-set}
-use Rattle.scalar.specs.Buffers.{Buffers}
 use Rattle.serve.specs.Serve.{callList, listOf}
 use Rattle.serve.proofs.Listed.{sofar, one-turn, last-turn}
 use borrow.Author.Needs.{needs}

@@ -1,5 +1,4 @@
 -- `serve_refusal`: each return has the outcome of the tests before it.
-use mathlib.Core.Path.{_≡_}
 use borrow.Author.Tests.{eq-eqb, ne-eqb, not-true, not-false}
 use Rattle.serve.specs.Serve.{serveRefusal}
 use borrow.Author.Needs.{needs}
