@@ -1,2 +1,4 @@
 -- What the proofs of the exported calls share.
 pub mod SheetLaws
+pub mod InNumbers
+pub mod Lent

@@ -1,4 +1,7 @@
 // The library for C and Rust: each public call as a C function. A call answers the number of document 01's table, 0 where nothing is refused.
+pub mod runs;
+
+use record::Run;
 use sheet::Answer;
 use sheet::Measured;
 use sheet::Sheet;
@@ -8,6 +11,12 @@ ghost use mathlib.Core.Bool.{cond};
 ghost use lib.ListN.{length};
 ghost use Rattle.sheet.specs.Calls.{measuring, reading};
 ghost use Rattle.smoother.specs.Sheets.{Measures, ReadsNumbers, numbersOf, weightBits, withRecord};
+
+// A call's answer as a number, with the record as it is afterwards.
+pub struct Numbered {
+    pub answer: u32,
+    pub run: Run,
+}
 
 // The lengths of the levels and tables buffers that a text needs, or its refusal with the line. A refusal leaves both lengths as they are.
 // Ruled out: lengths of a text that reading refuses; the line of a later fault.

@@ -1,0 +1,312 @@
+// The public calls on a run as C functions. Each is lent the record, and answers a number: 0 for done, the table's number for a refusal, and 255
+// for done with the channel now marked blown.
+use crate::Numbered;
+use record::Answer;
+use record::Run;
+ghost use mathlib.Core.Path.{_≡_};
+ghost use Rattle.record.specs.Model.{answerOf};
+ghost use Rattle.serve.specs.Serve.{byteOf};
+ghost use Rattle.smoother.specs.Numbers.{StartNumbers, PushNumbers, DataNumbers, BlendNumbers, MoveNumbers, ProjectNumbers, ServeNumbers};
+
+fn number_of(a: Answer) -> u32
+    ensures { λ r. ⌜ r ≡ byteOf (answerOf a) ⌝ }
+{
+    match a {
+        Answer::Refused(n) => n as u32,
+        Answer::Done => 0,
+        Answer::Blown => 255,
+    }
+}
+
+pub fn start_number(
+    run: Run,
+    levels: &[i16],
+    tables: &[u16],
+    plane: &mut [f32],
+    prior: &mut [f32],
+    gradient: &mut [f32],
+    across: &mut [f32],
+    down: &mut [f32],
+    saved: &mut [f32],
+) -> Numbered
+    ensures { λ r. ⌜ StartNumbers run (now (levels .entry)) (now (tables .entry))
+        (record { plane = now (plane .entry); prior = now (prior .entry); gradient = now (gradient .entry); across = now (across .entry); down = now (down .entry); saved = now (saved .entry) })
+        (r .answer) (r .run)
+        (record { plane = now (plane .exit); prior = now (prior .exit); gradient = now (gradient .exit); across = now (across .exit); down = now (down .exit); saved = now (saved .exit) }) ⌝ }
+{
+    let p = run::values::start_value(
+        run,
+        levels,
+        tables,
+        plane,
+        prior,
+        gradient,
+        across,
+        down,
+        saved,
+    );
+    let a = p.answer;
+    let k = number_of(a);
+    let r = p.run;
+    Numbered { answer: k, run: r }
+}
+
+// Start. Ruled out: a record at positions that are not 0, or marked, afterwards; a prior that is not the plane.
+#[no_mangle]
+pub extern "C" fn smoother_start(
+    run: &mut Run,
+    levels: &[i16],
+    tables: &[u16],
+    plane: &mut [f32],
+    prior: &mut [f32],
+    gradient: &mut [f32],
+    across: &mut [f32],
+    down: &mut [f32],
+    saved: &mut [f32],
+) -> u32
+    ensures { λ r. ⌜ StartNumbers (now (run .entry)) (now (levels .entry)) (now (tables .entry))
+        (record { plane = now (plane .entry); prior = now (prior .entry); gradient = now (gradient .entry); across = now (across .entry); down = now (down .entry); saved = now (saved .entry) })
+        r (now (run .exit))
+        (record { plane = now (plane .exit); prior = now (prior .exit); gradient = now (gradient .exit); across = now (across .exit); down = now (down .exit); saved = now (saved .exit) }) ⌝ }
+{
+    let p = start_number(
+        *run,
+        levels,
+        tables,
+        plane,
+        prior,
+        gradient,
+        across,
+        down,
+        saved,
+    );
+    *run = p.run;
+    p.answer
+}
+
+pub fn push_number(run: Run, c: u32, plane: &mut [f32], prior: &mut [f32]) -> Numbered
+    ensures { λ r. ⌜ PushNumbers run c (now (plane .entry)) (now (prior .entry)) (r .answer) (r .run) (now (plane .exit)) (now (prior .exit)) ⌝ }
+{
+    let p = run::values::push_value(run, c, plane, prior);
+    let a = p.answer;
+    let k = number_of(a);
+    let r = p.run;
+    Numbered { answer: k, run: r }
+}
+
+// Push. Ruled out: the record's position counted up where the answer is a refusal; the plane of another channel written.
+#[no_mangle]
+pub extern "C" fn smoother_push(run: &mut Run, c: u32, plane: &mut [f32], prior: &mut [f32]) -> u32
+    ensures { λ r. ⌜ PushNumbers (now (run .entry)) c (now (plane .entry)) (now (prior .entry)) r (now (run .exit)) (now (plane .exit)) (now (prior .exit)) ⌝ }
+{
+    let p = push_number(*run, c, plane, prior);
+    *run = p.run;
+    p.answer
+}
+
+pub fn data_number(
+    run: Run,
+    c: u32,
+    levels: &[i16],
+    tables: &[u16],
+    gradient: &mut [f32],
+    saved: &[f32],
+) -> Numbered
+    ensures { λ r. ⌜ DataNumbers run c (now (levels .entry)) (now (tables .entry)) (now (gradient .entry)) (now (saved .entry)) (r .answer) (r .run) (now (gradient .exit)) ⌝ }
+{
+    let p = run::values::data_value(run, c, levels, tables, gradient, saved);
+    let a = p.answer;
+    let k = number_of(a);
+    let r = p.run;
+    Numbered { answer: k, run: r }
+}
+
+// Data. Ruled out: 9 where the level of another channel is beyond its range (5); a gradient added to what stood there.
+#[no_mangle]
+pub extern "C" fn smoother_data(
+    run: &mut Run,
+    c: u32,
+    levels: &[i16],
+    tables: &[u16],
+    gradient: &mut [f32],
+    saved: &[f32],
+) -> u32
+    ensures { λ r. ⌜ DataNumbers (now (run .entry)) c (now (levels .entry)) (now (tables .entry)) (now (gradient .entry)) (now (saved .entry)) r (now (run .exit)) (now (gradient .exit)) ⌝ }
+{
+    let p = data_number(*run, c, levels, tables, gradient, saved);
+    *run = p.run;
+    p.answer
+}
+
+pub fn blend_number(
+    run: Run,
+    plane: &[f32],
+    gradient: &mut [f32],
+    across: &mut [f32],
+    down: &mut [f32],
+) -> Numbered
+    ensures { λ r. ⌜ BlendNumbers run (now (plane .entry)) (now (gradient .entry)) (now (across .entry)) (now (down .entry))
+        (r .answer) (r .run) (now (gradient .exit)) (now (across .exit)) (now (down .exit)) ⌝ }
+{
+    let p = run::values::blend_value(run, plane, gradient, across, down);
+    let a = p.answer;
+    let k = number_of(a);
+    let r = p.run;
+    Numbered { answer: k, run: r }
+}
+
+// Blend. Ruled out: done where a channel's data is still to come; the position of the first channel alone counted up.
+#[no_mangle]
+pub extern "C" fn smoother_blend(
+    run: &mut Run,
+    plane: &[f32],
+    gradient: &mut [f32],
+    across: &mut [f32],
+    down: &mut [f32],
+) -> u32
+    ensures { λ r. ⌜ BlendNumbers (now (run .entry)) (now (plane .entry)) (now (gradient .entry)) (now (across .entry)) (now (down .entry))
+        r (now (run .exit)) (now (gradient .exit)) (now (across .exit)) (now (down .exit)) ⌝ }
+{
+    let p = blend_number(*run, plane, gradient, across, down);
+    *run = p.run;
+    p.answer
+}
+
+pub fn move_number(run: Run, c: u32, plane: &mut [f32], gradient: &[f32]) -> Numbered
+    ensures { λ r. ⌜ MoveNumbers run c (now (plane .entry)) (now (gradient .entry)) (r .answer) (r .run) (now (plane .exit)) ⌝ }
+{
+    let p = run::values::move_value(run, c, plane, gradient);
+    let a = p.answer;
+    let k = number_of(a);
+    let r = p.run;
+    Numbered { answer: k, run: r }
+}
+
+// Move. Ruled out: a plane moved twice by two calls in a row; 11 given before the last step's project.
+#[no_mangle]
+pub extern "C" fn smoother_move(run: &mut Run, c: u32, plane: &mut [f32], gradient: &[f32]) -> u32
+    ensures { λ r. ⌜ MoveNumbers (now (run .entry)) c (now (plane .entry)) (now (gradient .entry)) r (now (run .exit)) (now (plane .exit)) ⌝ }
+{
+    let p = move_number(*run, c, plane, gradient);
+    *run = p.run;
+    p.answer
+}
+
+pub fn project_number(
+    run: Run,
+    c: u32,
+    levels: &[i16],
+    tables: &[u16],
+    plane: &mut [f32],
+    across: &mut [f32],
+    down: &mut [f32],
+    saved: &mut [f32],
+) -> Numbered
+    ensures { λ r. ⌜ ProjectNumbers run c (now (levels .entry)) (now (tables .entry)) (now (plane .entry)) (now (across .entry)) (now (down .entry)) (now (saved .entry))
+        (r .answer) (r .run) (now (plane .exit)) (now (across .exit)) (now (down .exit)) (now (saved .exit)) ⌝ }
+{
+    let p = run::values::project_value(run, c, levels, tables, plane, across, down, saved);
+    let a = p.answer;
+    let k = number_of(a);
+    let r = p.run;
+    Numbered { answer: k, run: r }
+}
+
+// Project. Ruled out: 255 for a plane that was blown before, in a step of another channel; a mark with the answer 0.
+#[no_mangle]
+pub extern "C" fn smoother_project(
+    run: &mut Run,
+    c: u32,
+    levels: &[i16],
+    tables: &[u16],
+    plane: &mut [f32],
+    across: &mut [f32],
+    down: &mut [f32],
+    saved: &mut [f32],
+) -> u32
+    ensures { λ r. ⌜ ProjectNumbers (now (run .entry)) c (now (levels .entry)) (now (tables .entry)) (now (plane .entry)) (now (across .entry)) (now (down .entry)) (now (saved .entry))
+        r (now (run .exit)) (now (plane .exit)) (now (across .exit)) (now (down .exit)) (now (saved .exit)) ⌝ }
+{
+    let p = project_number(*run, c, levels, tables, plane, across, down, saved);
+    *run = p.run;
+    p.answer
+}
+
+pub fn serve_number(
+    run: Run,
+    jobs: &[u8],
+    channels: &[u32],
+    answers: &mut [u8],
+    levels: &[i16],
+    tables: &[u16],
+    plane: &mut [f32],
+    prior: &mut [f32],
+    gradient: &mut [f32],
+    across: &mut [f32],
+    down: &mut [f32],
+    saved: &mut [f32],
+) -> Numbered
+    ensures { λ r. ⌜ ServeNumbers run (now (jobs .entry)) (now (channels .entry)) (now (answers .entry)) (now (levels .entry)) (now (tables .entry))
+        (record { plane = now (plane .entry); prior = now (prior .entry); gradient = now (gradient .entry); across = now (across .entry); down = now (down .entry); saved = now (saved .entry) })
+        (r .answer) (r .run) (now (answers .exit))
+        (record { plane = now (plane .exit); prior = now (prior .exit); gradient = now (gradient .exit); across = now (across .exit); down = now (down .exit); saved = now (saved .exit) }) ⌝ }
+{
+    let p = serve::serve_value(
+        run,
+        jobs,
+        channels,
+        answers,
+        levels,
+        tables,
+        plane,
+        prior,
+        gradient,
+        across,
+        down,
+        saved,
+    );
+    let a = p.answer;
+    let k = number_of(a);
+    let r = p.run;
+    Numbered { answer: k, run: r }
+}
+
+// A fresh run, and then a list of calls, each by its job's number (0 push to 4 project) and a channel. Ruled out: all steps done in the first job;
+// the answer of a call given for the one before.
+#[no_mangle]
+pub extern "C" fn smoother_serve(
+    run: &mut Run,
+    jobs: &[u8],
+    channels: &[u32],
+    answers: &mut [u8],
+    levels: &[i16],
+    tables: &[u16],
+    plane: &mut [f32],
+    prior: &mut [f32],
+    gradient: &mut [f32],
+    across: &mut [f32],
+    down: &mut [f32],
+    saved: &mut [f32],
+) -> u32
+    ensures { λ r. ⌜ ServeNumbers (now (run .entry)) (now (jobs .entry)) (now (channels .entry)) (now (answers .entry)) (now (levels .entry)) (now (tables .entry))
+        (record { plane = now (plane .entry); prior = now (prior .entry); gradient = now (gradient .entry); across = now (across .entry); down = now (down .entry); saved = now (saved .entry) })
+        r (now (run .exit)) (now (answers .exit))
+        (record { plane = now (plane .exit); prior = now (prior .exit); gradient = now (gradient .exit); across = now (across .exit); down = now (down .exit); saved = now (saved .exit) }) ⌝ }
+{
+    let p = serve_number(
+        *run,
+        jobs,
+        channels,
+        answers,
+        levels,
+        tables,
+        plane,
+        prior,
+        gradient,
+        across,
+        down,
+        saved,
+    );
+    *run = p.run;
+    p.answer
+}
