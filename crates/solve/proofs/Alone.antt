@@ -1,0 +1,432 @@
+-- Separate mode: each channel's run on its part of what the sheet is lent.
+use mathlib.Core.Path.{_≡_, refl, sym, ap, _∙_, subst}
+use mathlib.Core.Logic.{_≢_, _⊎_, inl, inr, ⊎-elim}
+use denote.Enum.Declared.{tagOf}
+use types.Run.{OneOf}
+use mathlib.Core.Bool.{Bool, true, false, not, _&&_, cond}
+use mathlib.Core.List.{List, [], _∷_}
+use Prim.Native.Nat.{ℕ, zero, suc, _+_, _-_, _*_, _≤_, _<_}
+use native.Mathlib.Nat.{eq-or-lt-of-le, le-of-eq}
+use native.Mathlib.Omega.{arith}
+use native.Mathlib.Numerals.{add-one}
+use lib.ListN.{length, getD}
+use lib.Seq.{take-all}
+use lib.Dec.{T, eqb, eqb→eq}
+use lib.IntN.{ℤ}
+use lib.Ieee.{Float}
+use lib.Ieee.Fits.{and-l, and-r, and-i, eq→eqb}
+use Rattle.fold.specs.Part.{part, splice}
+use Rattle.fold.proofs.Parts.{part-length}
+use Rattle.scalar.specs.Buffers.{Buffers}
+use Rattle.sheet.specs.declared.Sheet.{Sheet}
+use Rattle.calls.specs.Run.{Own, Given, own, count, coefs, levelsBefore, every, among}
+use Rattle.calls.specs.Buffers.{Name, Plane, Prior, Gradient, Across, Down, Saved, get, partOf, putPart, join, channel, putChannel, Sized}
+use Rattle.calls.specs.Calls.{first, all, allSix, lengths, buffersLong, valuesLong, tableOk, levelOk, lendTests, startRefusal}
+use Rattle.calls.proofs.Parts.{part-put-same, part-put-other, join-ext, join-parts, put-written, channel-sized, put-sized}
+use Rattle.calls.proofs.Tests.{not-is, not-of, every-at, all-part, Passed, passed-of, lend-numbered, skip}
+use Rattle.record.specs.declared.Run.{Run}
+use Rattle.record.specs.declared.Answer.{Answer}
+use Rattle.record.specs.declared.Answer.the-variants.{Refused, Done, Blown}
+use Rattle.record.proofs.Answer.{the-type}
+use Rattle.record.specs.Model.{Legal, ownOf, noChannel, sheetOf, placesOf}
+use Rattle.record.proofs.Channels.{at-own}
+use Rattle.record.proofs.Sizes.{count-3, levels-rise, levels-small}
+use Rattle.solve.specs.Solve.{six, joint, alone, jointGiven, aloneGiven, levelsFor, tablesFor, planeOf, planesOf, runBlows, planes, blows, isLegal, allLegal, solveRefusal, Ends, RunIs, SolveIs}
+use Rattle.solve.specs.Rounds.{PartsAre, AloneAsks, AloneIs, SeparateAsks, SeparateIs}
+use Rattle.solve.proofs.Rounds.{among-true}
+use Rattle.solve.proofs.Steps.{Kept, kept-of}
+use Rattle.solve.proofs.Ends.{same-lengths, sized-of}
+
+-- ---- what a sheet that is not refused has passed
+
+abbrev pub areaOf : Sheet → ℕ
+areaOf S = S .header .width * S .header .height
+
+pub accepts : (b : Bool) (n : ℕ) → cond b n 13 ≡ 0 → T b × (n ≡ 0)
+accepts true n e = (tt, e)
+accepts false n e = absurd (omega arith)
+
+module _ (S : Sheet) (levels : List ℤ) (tables : List ℕ) (B : Buffers) (z : solveRefusal S levels tables (lengths allSix B) ≡ 0) where
+  abbrev G : Given
+  G = jointGiven S levels tables
+
+  abbrev ls : List ℕ
+  ls = lengths allSix B
+
+  passed-both : T (allLegal S) × (startRefusal G (placesOf (joint S)) ls ≡ 0)
+  unfolding solveRefusal
+  passed-both = accepts (allLegal S) (startRefusal G (placesOf (joint S)) ls) z
+
+  pub starts : startRefusal G (placesOf (joint S)) ls ≡ 0
+  starts = passed-both .1
+
+  pub joint-legal : Legal (joint S)
+  unfolding allLegal
+  joint-legal = and-l (isLegal (joint S)) (every (S .header .channels) (λ c. isLegal (alone S c))) (passed-both .0)
+
+  pub alone-legal : (c : ℕ) → c < S .header .channels → Legal (alone S c)
+  unfolding allLegal
+  alone-legal c h =
+      every-at (S .header .channels) (λ c. isLegal (alone S c))
+      (and-r (isLegal (joint S)) (every (S .header .channels) (λ c. isLegal (alone S c))) (passed-both .0)) c h
+
+  passes : first (lendTests G (placesOf (joint S)) ls true) ≡ 0
+  unfolding startRefusal
+  passes = starts
+
+  tests : Passed (lendTests G (placesOf (joint S)) ls true)
+  tests = passed-of (lendTests G (placesOf (joint S)) ls true) (lend-numbered G (placesOf (joint S)) ls true) passes
+
+  both-long : T (buffersLong G ls && valuesLong G)
+  both-long = not-is (buffersLong G ls && valuesLong G) (tests .1 .0)
+
+  pub sized : Sized (S .header .channels * areaOf S) B
+  unfolding joint
+  sized = sized-of (S .header .channels * areaOf S) B (and-l (buffersLong G ls) (valuesLong G) both-long)
+
+  pub levels-long : length levels ≡ levelsBefore (sheetOf (joint S)) (S .header .channels)
+  unfolding joint
+  levels-long =
+      eqb→eq _ _
+      (and-l (eqb (length levels) (levelsBefore (sheetOf (joint S)) (count G))) (eqb (length tables) (count G * 64))
+      (and-r (buffersLong G ls) (valuesLong G) both-long))
+
+  pub tables-long : length tables ≡ S .header .channels * 64
+  unfolding joint
+  tables-long =
+      eqb→eq _ _
+      (and-r (eqb (length levels) (levelsBefore (sheetOf (joint S)) (count G))) (eqb (length tables) (count G * 64))
+      (and-r (buffersLong G ls) (valuesLong G) both-long))
+
+  pub tables-ok : T (all tableOk tables)
+  tables-ok = not-is (all tableOk tables) (tests .1 .1 .0)
+
+  pub levels-ok : T (all levelOk levels)
+  levels-ok = not-is (all levelOk levels) (tests .1 .1 .1 .0)
+
+-- ---- the joint record's numbers
+
+pub joint-count : (S : Sheet) → joint S .count ≡ S .header .channels
+unfolding joint
+joint-count S = refl
+
+pub joint-area : (S : Sheet) → joint S .w * joint S .h ≡ areaOf S
+unfolding joint
+joint-area S = refl
+
+channels-3 : (S : Sheet) → length (joint S .channels) ≡ 3
+unfolding joint
+channels-3 S = refl
+
+pub below-joint : (S : Sheet) (c : ℕ) → c < S .header .channels → c < joint S .count
+unfolding joint
+below-joint S c h = h
+
+-- channel c has as many coefficients in its own run as in that of all
+own-coefs : (S : Sheet) (c : ℕ) → c < 3
+    → ownOf (getD (joint S .channels) c noChannel) .width * ownOf (getD (joint S .channels) c noChannel) .height ≡ coefs (sheetOf (alone S c)) 0
+unfolding joint alone
+own-coefs S zero h = refl
+own-coefs S (suc zero) h = refl
+own-coefs S (suc (suc zero)) h = refl
+own-coefs S (suc (suc (suc c))) h = absurd (omega arith)
+
+same-coefs : (S : Sheet) → Legal (joint S) → (c : ℕ) → c < S .header .channels → coefs (sheetOf (joint S)) c ≡ coefs (sheetOf (alone S c)) 0
+same-coefs S ok c h =
+    let below : c < joint S .count = below-joint S c h in
+    ap (λ (o : Own). o .width * o .height) (at-own (joint S) c (omega (arith, count-3 (joint S) ok, channels-3 S)) below)
+    ∙ own-coefs S c (omega (arith, count-3 (joint S) ok))
+
+-- ---- where channel c's part lies
+
+module _ (S : Sheet) (c : ℕ) (ok : Legal (joint S)) (below : c < S .header .channels) where
+  pub channel-small : c < 3
+  channel-small = omega (arith, count-3 (joint S) ok, below-joint S c below)
+
+  pub parts-are : (from to l m : ℕ) → from ≡ c * (joint S .w * joint S .h) → to ≡ c * (joint S .w * joint S .h) + joint S .w * joint S .h
+      → to ≤ joint S .count * (joint S .w * joint S .h) → to ≤ 786432 → l ≡ levelsBefore (sheetOf (joint S)) c → m ≡ levelsBefore (sheetOf (joint S)) (c + 1)
+      → PartsAre S c from to l m (c * 64) (c * 64 + 64)
+  unfolding joint
+  parts-are from to l m from-is to-is to-most to-small l-is m-is =
+      let next : m ≡ levelsBefore (sheetOf (joint S)) (suc c) = m-is ∙ ap (levelsBefore (sheetOf (joint S))) (add-one c) in
+      record {
+        from-is = from-is;
+        to-is = to-is;
+        l-is = l-is;
+        m-is = next;
+        t-is = refl;
+        u-is = refl;
+        to-most = to-most;
+        to-small = to-small;
+        l-most = omega arith;
+        m-most = rw next (levels-rise (sheetOf (joint S)) c (S .header .channels) below);
+        m-small = rw next (levels-small (joint S) ok c below);
+        u-most = omega (arith, below);
+        u-small = omega (arith, channel-small);
+      }
+
+-- a run on these parts is the channel's
+alone-run : (S : Sheet) (c : ℕ) (levels : List ℤ) (tables : List ℕ) (B : Buffers) (from to l m t u : ℕ) → PartsAre S c from to l m t u
+    → (r : Run) → r ≡ alone S c → (a : Answer) (x : Buffers)
+    → RunIs r (part levels l m) (part tables t u)
+    (six (part (B .plane) from to) (part (B .prior) from to) (part (B .gradient) from to) (part (B .across) from to) (part (B .down) from to) (part (B .saved) from to)) a x
+    → RunIs (alone S c) (levelsFor S levels c) (tablesFor tables c) (channel (areaOf S) c B) a x
+unfolding channel
+alone-run S c levels tables B from to l m t u p r e a x h = rw (e, p .from-is, p .to-is, p .l-is, p .m-is, p .t-is, p .u-is) at h
+
+pub alone-is : (S : Sheet) (c : ℕ) (levels : List ℤ) (tables : List ℕ) (B : Buffers) (from to l m t u : ℕ) → PartsAre S c from to l m t u
+    → (r : Run) → r ≡ alone S c → (a : Answer) (x : Buffers)
+    → RunIs r (part levels l m) (part tables t u)
+    (six (part (B .plane) from to) (part (B .prior) from to) (part (B .gradient) from to) (part (B .across) from to) (part (B .down) from to) (part (B .saved) from to)) a x
+    → AloneIs S c levels tables B a
+    (six (splice (B .plane) from to (x .plane)) (splice (B .prior) from to (x .prior)) (splice (B .gradient) from to (x .gradient))
+    (splice (B .across) from to (x .across)) (splice (B .down) from to (x .down)) (splice (B .saved) from to (x .saved)))
+unfolding putChannel
+alone-is S c levels tables B from to l m t u p r e a x h =
+    record { own = x; run = alone-run S c levels tables B from to l m t u p r e a x h; put = rw (p .from-is, p .to-is) }
+
+-- ---- a channel's run is accepted where the sheet is
+
+all-sized : (m : ℕ) (B : Buffers) → Sized m B → (names : List Name) → T (all (λ n. eqb n m) (lengths names B))
+all-sized m B h [] = tt
+all-sized m B h (b ∷ bs) = and-i (eqb (length (get b B)) m) (all (λ n. eqb n m) (lengths bs B)) (eq→eqb (h b)) (all-sized m B h bs)
+
+sized-kept : (m : ℕ) (B₀ B : Buffers) → Sized m B₀ → Kept B₀ B → Sized m B
+sized-kept m B₀ B h k b = same-lengths B₀ B k b ∙ h b
+
+module _ (S : Sheet) (levels : List ℤ) (tables : List ℕ) (B₀ : Buffers) (z : solveRefusal S levels tables (lengths allSix B₀) ≡ 0) where
+  ok : Legal (joint S)
+  ok = joint-legal S levels tables B₀ z
+
+  module _ (c : ℕ) (below : c < S .header .channels) (B : Buffers) (long : Sized (S .header .channels * areaOf S) B) where
+    abbrev H : Given
+    H = aloneGiven S levels tables c
+
+    part-sized : Sized (areaOf S) (channel (areaOf S) c B)
+    part-sized = channel-sized (areaOf S) c (S .header .channels) B long below
+
+    own-levels : length (levelsFor S levels c) ≡ levelsBefore (sheetOf (alone S c)) 1
+    own-levels =
+        part-length levels (levelsBefore (sheetOf (joint S)) c) (levelsBefore (sheetOf (joint S)) (suc c)) (omega arith)
+        (omega (arith, levels-rise (sheetOf (joint S)) c (S .header .channels) below, levels-long S levels tables B₀ z))
+        ∙ omega (arith, same-coefs S ok c below)
+
+    own-tables : length (tablesFor tables c) ≡ 64
+    own-tables = part-length tables (c * 64) (c * 64 + 64) (omega arith) (omega (arith, tables-long S levels tables B₀ z)) ∙ omega arith
+
+    passed-alone : Passed (lendTests (aloneGiven S levels tables c) (placesOf (alone S c)) (lengths allSix (channel (areaOf S) c B)) true)
+    unfolding alone
+    passed-alone =
+        let ls : List ℕ = lengths allSix (channel (areaOf S) c B) in
+        let one : areaOf S ≡ 1 * areaOf S = omega arith in (
+          not-of (isLegal (alone S c)) (alone-legal S levels tables B₀ z c below),
+          (
+            not-of (buffersLong H ls && valuesLong H)
+                (and-i (buffersLong H ls) (valuesLong H)
+                (all-sized (1 * areaOf S) (channel (areaOf S) c B) (λ b. part-sized b ∙ one) allSix)
+                (and-i (eqb (length (levelsFor S levels c)) (levelsBefore (sheetOf (alone S c)) 1)) (eqb (length (tablesFor tables c)) 64) (eq→eqb own-levels) (eq→eqb own-tables))),
+            (
+              not-of (all tableOk (tablesFor tables c)) (all-part tableOk tables (c * 64) (c * 64 + 64) (tables-ok S levels tables B₀ z)),
+              (
+                not-of (all levelOk (levelsFor S levels c))
+                    (all-part levelOk levels (levelsBefore (sheetOf (joint S)) c) (levelsBefore (sheetOf (joint S)) (suc c)) (levels-ok S levels tables B₀ z)),
+                tt,
+              ),
+            ),
+          ),
+        )
+
+    accepted : startRefusal (aloneGiven S levels tables c) (placesOf (alone S c)) (lengths allSix (channel (areaOf S) c B)) ≡ 0
+    unfolding startRefusal
+    accepted = skip (lendTests (aloneGiven S levels tables c) (placesOf (alone S c)) (lengths allSix (channel (areaOf S) c B)) true) [] passed-alone
+
+    one-plane : planesOf (aloneGiven S levels tables c) ≡ planeOf (aloneGiven S levels tables c) 0
+    unfolding planesOf alone
+    one-plane = refl
+
+    pub asks-of : AloneAsks S c levels tables B
+    asks-of =
+        record {
+          is-legal = ok;
+          below = below;
+          levels-long = levels-long S levels tables B₀ z;
+          tables-long = tables-long S levels tables B₀ z;
+          plane-long = long Plane;
+          prior-long = long Prior;
+          gradient-long = long Gradient;
+          across-long = long Across;
+          down-long = long Down;
+          saved-long = long Saved;
+        }
+
+    -- how the channel's run ended
+    module _ (a : Answer) (B′ : Buffers) (said : AloneIs S c levels tables B a B′) where
+      ended : Ends 0 (runBlows (aloneGiven S levels tables c)) (planesOf (aloneGiven S levels tables c)) (channel (areaOf S) c B) a (said .own)
+      ended = rw accepted at (said .run)
+
+      own-sized : Sized (areaOf S) (said .own)
+      own-sized b = go (runBlows (aloneGiven S levels tables c)) ended ∙ part-sized b
+        where
+          go : (b′ : Bool) → Ends 0 b′ (planesOf (aloneGiven S levels tables c)) (channel (areaOf S) c B) a (said .own)
+              → length (get b (said .own)) ≡ length (get b (channel (areaOf S) c B))
+          go true e = e .1 b
+          go false e = e .2 b
+
+      now-sized : Sized (S .header .channels * areaOf S) B′
+      now-sized = subst (Sized (S .header .channels * areaOf S)) (sym (said .put)) (put-sized (areaOf S) c (S .header .channels) B long below (said .own) own-sized)
+
+      plane-is : B′ .plane ≡ putPart (areaOf S) c (B .plane) (said .own .plane)
+      plane-is = ap (λ (X : Buffers). X .plane) (said .put) ∙ put-written (areaOf S) c B (said .own) Plane
+
+      -- done: not blown, and its plane is there; the other channels' are as they were
+      pub done-run : a ≡ Done → (runBlows (aloneGiven S levels tables c) ≡ false) × (said .own .plane ≡ planeOf (aloneGiven S levels tables c) 0)
+      done-run d = go (runBlows (aloneGiven S levels tables c)) refl ended
+        where
+          go : (b : Bool) → runBlows (aloneGiven S levels tables c) ≡ b → Ends 0 b (planesOf (aloneGiven S levels tables c)) (channel (areaOf S) c B) a (said .own)
+              → (runBlows (aloneGiven S levels tables c) ≡ false) × (said .own .plane ≡ planeOf (aloneGiven S levels tables c) 0)
+          go true q e = let w : _≡_ {A = ℕ} 0 1 = cc (d, e .0) in absurd (omega arith)
+          go false q e = (q, e .1 ∙ one-plane)
+
+      pub blown-run : (a ≡ Done → ⊥) → (runBlows (aloneGiven S levels tables c) ≡ true) × (a ≡ Refused 10)
+      blown-run d = go (runBlows (aloneGiven S levels tables c)) refl ended
+        where
+          go : (b : Bool) → runBlows (aloneGiven S levels tables c) ≡ b → Ends 0 b (planesOf (aloneGiven S levels tables c)) (channel (areaOf S) c B) a (said .own)
+              → (runBlows (aloneGiven S levels tables c) ≡ true) × (a ≡ Refused 10)
+          go true q e = (q, e .0)
+          go false q e = absurd (d (e .0))
+
+      here : partOf (areaOf S) c (B′ .plane) ≡ said .own .plane
+      here = ap (partOf (areaOf S) c) plane-is ∙ part-put-same (areaOf S) c (S .header .channels) (B .plane) (long Plane) below (said .own .plane) (own-sized Plane)
+
+      elsewhere : (d : ℕ) → d < S .header .channels → c ≢ d → partOf (areaOf S) d (B′ .plane) ≡ partOf (areaOf S) d (B .plane)
+      elsewhere d h f =
+          ap (partOf (areaOf S) d) plane-is
+          ∙ part-put-other (areaOf S) c (S .header .channels) (B .plane) (long Plane) below (said .own .plane) (own-sized Plane) d h f
+
+-- ---- the loop over the channels
+
+pub record Parting (S : Sheet) (levels : List ℤ) (tables : List ℕ) (n i : ℕ) (B₀ B : Buffers) : Type 0 where
+  pub most : i ≤ n
+  pub each : (c : ℕ) → c < i → partOf (areaOf S) c (B .plane) ≡ planeOf (aloneGiven S levels tables c) 0
+  pub none : among i (λ c. runBlows (aloneGiven S levels tables c)) ≡ false
+  pub kept : Kept B₀ B
+
+is-done : (a : Answer) → OneOf (1 ∷ []) (tagOf the-type a) → a ≡ Done
+is-done (Refused m) one = let y : ⊥ = omega arith in absurd y
+is-done Done one = refl
+is-done Blown one = let y : ⊥ = omega arith in absurd y
+
+not-done : (a : Answer) → OneOf (0 ∷ 2 ∷ []) (tagOf the-type a) → a ≡ Done → ⊥
+not-done (Refused m) one e = let w : _≡_ {A = ℕ} 0 1 = cc in omega arith
+not-done Done one e = ⊎-elim (λ e. omega arith) (λ e. omega arith) one
+not-done Blown one e = let w : _≡_ {A = ℕ} 0 1 = cc in omega arith
+
+module _ (S : Sheet) (levels : List ℤ) (tables : List ℕ) (B₀ : Buffers) (asks : SeparateAsks S levels tables B₀) where
+  abbrev z : solveRefusal S levels tables (lengths allSix B₀) ≡ 0
+  z = asks .accepted
+
+  abbrev n : ℕ
+  n = S .header .channels
+
+  first-sized : Sized (S .header .channels * areaOf S) B₀
+  first-sized = sized S levels tables B₀ z
+
+  pub begins : Parting S levels tables (S .header .channels) 0 B₀ B₀
+  begins =
+      record {
+        most = omega arith;
+        each = λ c h. absurd (omega arith);
+        none = refl;
+        kept = kept-of (S .header .channels * areaOf S) B₀ B₀ first-sized first-sized;
+      }
+
+  module _ (i : ℕ) (B : Buffers) (h : Parting S levels tables (S .header .channels) i B₀ B) where
+    long : Sized (S .header .channels * areaOf S) B
+    long = sized-kept (S .header .channels * areaOf S) B₀ B first-sized (h .kept)
+
+    module _ (left : i < S .header .channels) where
+      pub alone-asks : AloneAsks S i levels tables B
+      alone-asks = asks-of S levels tables B₀ z i left B long
+
+      module _ (a : Answer) (B′ : Buffers) (said : AloneIs S i levels tables B a B′) where
+        kept-now : Kept B₀ B′
+        kept-now = kept-of (S .header .channels * areaOf S) B₀ B′ first-sized (now-sized S levels tables B₀ z i left B long a B′ said)
+
+        pub goes-on : OneOf (1 ∷ []) (tagOf the-type a) → Parting S levels tables (S .header .channels) (i + 1) B₀ B′
+        goes-on one =
+            let d = done-run S levels tables B₀ z i left B long a B′ said (is-done a one) in
+            rw (add-one)
+            record {
+              most = omega arith;
+              each = λ c l. go c (eq-or-lt-of-le l) (d .1);
+              none = rw (h .none) (d .0);
+              kept = kept-now;
+            }
+          where
+            go : (c : ℕ) → (suc c ≡ suc i) ⊎ (suc c < suc i) → said .own .plane ≡ planeOf (aloneGiven S levels tables i) 0
+                → partOf (areaOf S) c (B′ .plane) ≡ planeOf (aloneGiven S levels tables c) 0
+            go c (inl e) p =
+                let same : i ≡ c = omega arith in
+                subst (λ (k : ℕ). partOf (areaOf S) k (B′ .plane) ≡ planeOf (aloneGiven S levels tables k) 0) same
+                (here S levels tables B₀ z i left B long a B′ said ∙ p)
+            go c (inr l) p =
+                elsewhere S levels tables B₀ z i left B long a B′ said c (omega arith) (λ e. omega arith) ∙ h .each c (omega arith)
+
+        pub stops : OneOf (0 ∷ 2 ∷ []) (tagOf the-type a) → SeparateIs S levels tables B₀ a B′
+        stops one =
+            let d = blown-run S levels tables B₀ z i left B long a B′ said (not-done a one) in
+            rw (among-true (S .header .channels) (λ c. runBlows (aloneGiven S levels tables c)) i left (d .0)) (d .1, same-lengths B₀ B′ kept-now)
+
+    pub ends : S .header .channels ≤ i → SeparateIs S levels tables B₀ Done B
+    ends l =
+        let last : i ≡ S .header .channels = omega (arith, h .most) in
+        let none : among (S .header .channels) (λ c. runBlows (aloneGiven S levels tables c)) ≡ false = rw last at (h .none) in
+        rw none (
+          refl,
+          sym (take-all (S .header .channels * areaOf S) (B .plane) (le-of-eq (long Plane)))
+              ∙ sym (join-parts (areaOf S) (S .header .channels) (B .plane))
+              ∙ join-ext (S .header .channels) (λ c. partOf (areaOf S) c (B .plane)) (λ c. planeOf (aloneGiven S levels tables c) 0) (λ c q. h .each c (omega arith)),
+          same-lengths B₀ B (h .kept),
+        )
+
+-- ---- solve
+
+module _ (B : Buffers) (a : Answer) (B′ : Buffers) where
+  ends-same : (n : ℕ) (b b′ : Bool) (xs xs′ : List Float) → n ≡ 0 → b ≡ b′ → xs ≡ xs′ → Ends 0 b′ xs′ B a B′ → Ends n b xs B a B′
+  ends-same n b b′ xs xs′ p q r h =
+      subst (λ (m : ℕ). Ends m b xs B a B′) (sym p) (subst (λ (d : Bool). Ends 0 d xs B a B′) (sym q) (subst (λ (l : List Float). Ends 0 b′ l B a B′) (sym r) h))
+
+module _ (S : Sheet) (levels : List ℤ) (tables : List ℕ) (B : Buffers) where
+  pub solve-refused : (n : ℕ) → n ≡ solveRefusal S levels tables (lengths allSix B) → n ≢ 0 → SolveIs S levels tables B (Refused n) B
+  solve-refused zero e f = absurd (f refl)
+  solve-refused (suc n) e f = rw (← e) (refl, refl)
+
+  module _ (z : solveRefusal S levels tables (lengths allSix B) ≡ 0) (a : Answer) (B′ : Buffers) where
+    pub solve-joint : S .header .joint ≡ true → RunIs (joint S) levels tables B a B′ → SolveIs S levels tables B a B′
+    unfolding blows planes
+    solve-joint j h =
+        let G = jointGiven S levels tables in
+        ends-same B a B′ (solveRefusal S levels tables (lengths allSix B)) (blows S levels tables) _ (planes S levels tables) _ z (ap (λ (b : Bool). cond b (runBlows G) (among (S .header .channels) (λ c. runBlows (aloneGiven S levels tables c)))) j)
+        (ap (λ (b : Bool). cond b (planesOf G) (join (S .header .channels) (λ c. planeOf (aloneGiven S levels tables c) 0))) j)
+        (subst (λ (n : ℕ). Ends n (runBlows G) (planesOf G) B a B′) (starts S levels tables B z) h)
+
+    pub solve-separate : S .header .joint ≡ false → SeparateIs S levels tables B a B′ → SolveIs S levels tables B a B′
+    unfolding blows planes
+    solve-separate j h =
+        let G = jointGiven S levels tables in
+        ends-same B a B′ (solveRefusal S levels tables (lengths allSix B)) (blows S levels tables) _ (planes S levels tables) _ z (ap (λ (b : Bool). cond b (runBlows G) (among (S .header .channels) (λ c. runBlows (aloneGiven S levels tables c)))) j)
+        (ap (λ (b : Bool). cond b (planesOf G) (join (S .header .channels) (λ c. planeOf (aloneGiven S levels tables c) 0))) j) h
+
+-- ---- the tests of both modes' records
+
+pub few-channels : (S : Sheet) → Legal (joint S) → S .header .channels ≤ 3
+few-channels S ok = omega (arith, count-3 (joint S) ok, joint-count S)
+
+module _ (S : Sheet) where
+  pub not-all : isLegal (joint S) ≡ false → false ≡ allLegal S
+  unfolding allLegal
+  not-all e = rw e
+
+  pub all-of : isLegal (joint S) ≡ true → (b : Bool) → b ≡ every (S .header .channels) (λ c. isLegal (alone S c)) → b ≡ allLegal S
+  unfolding allLegal
+  all-of e b h = rw e h

@@ -1,0 +1,267 @@
+-- A run of all its rounds: from what start leaves to the planes after the last job.
+use mathlib.Core.Path.{_≡_, refl, sym, ap, _∙_, subst}
+use mathlib.Core.Logic.{⊎-elim}
+use denote.Enum.Declared.{tagOf}
+use types.Run.{OneOf}
+use mathlib.Core.Bool.{Bool, true, false, _&&_}
+use mathlib.Core.List.{List, [], _∷_, map}
+use Prim.Native.Nat.{ℕ, zero, suc, _+_, _*_, _≤_, _<_}
+use native.Mathlib.Omega.{arith}
+use native.Mathlib.Numerals.{add-one}
+use lib.ListN.{length}
+use lib.Dec.{T, eqb, eqb→eq}
+use lib.IntN.{ℤ}
+use lib.Ieee.{Float}
+use lib.Ieee.Fits.{and-l, and-r}
+use Rattle.scalar.specs.Buffers.{Buffers}
+use Rattle.calls.specs.Run.{Given, Sheet, Place, fresh, place, count, area, among, legal, sheetOk, placesOk}
+use Rattle.calls.specs.Buffers.{Plane, Prior, Gradient, Across, Down, Saved, joined, Sized}
+use Rattle.calls.specs.Jobs.{fixed}
+use Rattle.calls.specs.Calls.{State, refused, done, first, all, allSix, lengths, buffersLong, valuesLong, lendTests, startRefusal, settle, begin, start, final}
+use Rattle.calls.proofs.Laws.{GivenOk}
+use Rattle.calls.proofs.Legal.{places-are}
+use Rattle.calls.proofs.Facts.{sheet-is}
+use Rattle.calls.proofs.Parts.{joined-channels}
+use Rattle.calls.proofs.Tests.{not-is, Passed, passed-of, lend-numbered}
+use Rattle.calls.proofs.Step.{Inv}
+use Rattle.calls.proofs.Runs.{between, given-ok}
+use Rattle.demand.specs.Solver.{jobs}
+use Rattle.demand.proofs.Laws.{laws}
+use Rattle.record.specs.declared.Run.{Run}
+use Rattle.record.specs.declared.Answer.{Answer}
+use Rattle.record.specs.declared.Answer.the-variants.{Refused, Done, Blown}
+use Rattle.record.proofs.Answer.{the-type}
+use Rattle.record.specs.Model.{sheetOf, placesOf, givenOf, answerOf}
+use Rattle.record.proofs.Placed.{sheet-stays, places-placed}
+use Rattle.run.specs.Public.{Result, stateOf, StartIs}
+use Rattle.solve.specs.Solve.{jobCount, planeOf, planesOf, runBlows, SameLengths, Ends, RunIs}
+use Rattle.solve.specs.Rounds.{AllAt, roundBlows, RoundAsks, RoundIs, RunAsks}
+use Rattle.solve.proofs.Rounds.{among-true}
+use Rattle.solve.proofs.Steps.{counted, Kept, kept-of}
+
+-- ---- lengths
+
+pub same-lengths : (B₀ B : Buffers) → Kept B₀ B → SameLengths B₀ B
+same-lengths B₀ B k Plane = k .plane-long
+same-lengths B₀ B k Prior = k .prior-long
+same-lengths B₀ B k Gradient = k .gradient-long
+same-lengths B₀ B k Across = k .across-long
+same-lengths B₀ B k Down = k .down-long
+same-lengths B₀ B k Saved = k .saved-long
+
+pub sized-of : (m : ℕ) (B : Buffers) → T (all (λ n. eqb n m) (lengths allSix B)) → Sized m B
+sized-of m B t Plane = eqb→eq (length (B .plane)) m (search (and-l, and-r) depth 12)
+sized-of m B t Prior = eqb→eq (length (B .prior)) m (search (and-l, and-r) depth 12)
+sized-of m B t Gradient = eqb→eq (length (B .gradient)) m (search (and-l, and-r) depth 12)
+sized-of m B t Across = eqb→eq (length (B .across)) m (search (and-l, and-r) depth 12)
+sized-of m B t Down = eqb→eq (length (B .down)) m (search (and-l, and-r) depth 12)
+sized-of m B t Saved = eqb→eq (length (B .saved)) m (search (and-l, and-r) depth 12)
+
+-- ---- the rounds
+
+-- after all jobs the planes are those of the channels, joined
+planes-are : (G : Given) (r : Run) (B : Buffers) → AllAt G (jobCount G) r B → B .plane ≡ planesOf G
+unfolding joined planesOf planeOf
+planes-are G r B h =
+    ap (λ (A : Buffers). A .plane)
+    (sym
+    (joined-channels (area G) (count G) (fixed jobs G (jobCount G)) B (h .inv .sized)
+    (λ c l. h .inv .as-fixed c l ∙ ap (λ (q : Place). fixed jobs G (q .position) c) (h .each c l))))
+
+-- the loop: p of n rounds
+pub record Rounding (G : Given) (n p : ℕ) (r : Run) (B₀ B : Buffers) : Type 0 where
+  pub most : p ≤ n
+  pub all : AllAt G p r B
+  pub none : among p (roundBlows G) ≡ false
+  pub kept : Kept B₀ B
+
+module _ (r₀ : Run) (levels : List ℤ) (tables : List ℕ) (B₀ : Buffers) (asks : RunAsks r₀ levels tables B₀) where
+  abbrev G : Given
+  G = givenOf r₀ levels tables
+
+  pub few : 5 * r₀ .n ≤ 5000
+  few = omega (arith, sheet-is (sheetOf r₀) (asks .ok .sheet-ok) .N-1000)
+
+  pub begins : (n : ℕ) → Rounding G n 0 r₀ B₀ B₀
+  begins n =
+      record {
+        most = omega arith;
+        all = asks .all;
+        none = refl;
+        kept = kept-of (count G * area G) B₀ B₀ (asks .all .inv .sized) (asks .all .inv .sized);
+      }
+
+  module _ (p : ℕ) (r : Run) (B : Buffers) (h : Rounding G (5 * r₀ .n) p r B₀ B) where
+    given-is : givenOf r levels tables ≡ G
+    given-is = ap (λ (S : Sheet). record { sheet = S; levels = levels; tables = tables }) (h .all .sheet)
+
+    module _ (left : p < 5 * r₀ .n) where
+      pub round-asks : RoundAsks r p levels tables B
+      round-asks =
+          record {
+            ok = subst GivenOk (sym given-is) (asks .ok);
+            left = subst (λ (H : Given). p < jobCount H) (sym given-is) left;
+            all = subst (λ (H : Given). AllAt H p r B) (sym given-is) (h .all);
+          }
+
+      module _ (a : Answer) (r′ : Run) (B′ : Buffers) (said : RoundIs (givenOf r levels tables) p a r′ B′) where
+        said-of : RoundIs G p a r′ B′
+        said-of = subst (λ (H : Given). RoundIs H p a r′ B′) given-is said
+
+        pub goes-on : OneOf (1 ∷ []) (tagOf the-type a) → Rounding G (5 * r₀ .n) (p + 1) r′ B₀ B′
+        goes-on one = go a one said-of
+          where
+            go : (a : Answer) → OneOf (1 ∷ []) (tagOf the-type a) → RoundIs G p a r′ B′ → Rounding G (5 * r₀ .n) (p + 1) r′ B₀ B′
+            go (Refused m) one s = absurd s
+            go Blown one s = let y : ⊥ = omega arith in absurd y
+            go Done one s =
+                rw (add-one)
+                record {
+                  most = omega arith;
+                  all = s .0;
+                  none = rw (h .none) (s .1);
+                  kept = kept-of (count G * area G) B₀ B′ (asks .all .inv .sized) (s .0 .inv .sized);
+                }
+
+        pub stops : OneOf (0 ∷ 2 ∷ []) (tagOf the-type a) → Ends 0 (runBlows G) (planesOf G) B₀ (Refused 10) B′
+        unfolding runBlows
+        stops one = go a one said-of
+          where
+            go : (a : Answer) → OneOf (0 ∷ 2 ∷ []) (tagOf the-type a) → RoundIs G p a r′ B′ → Ends 0 (runBlows G) (planesOf G) B₀ (Refused 10) B′
+            go (Refused m) one s = absurd s
+            go Done one s = let y : ⊥ = ⊎-elim (λ e. omega arith) (λ e. omega arith) one in absurd y
+            go Blown one s =
+                rw (among-true (jobCount G) (roundBlows G) p left (s .0))
+                (refl, same-lengths B₀ B′ (kept-of (count G * area G) B₀ B′ (asks .all .inv .sized) (s .1)))
+
+    pub ends : 5 * r₀ .n ≤ p → Ends 0 (runBlows G) (planesOf G) B₀ Done B
+    unfolding runBlows
+    ends l =
+        let last : p ≡ jobCount G = omega (arith, h .most) in
+        let none : among (jobCount G) (roundBlows G) ≡ false = rw last at (h .none) in
+        rw none (refl, planes-are G r B (rw last at (h .all)), same-lengths B₀ B (h .kept))
+
+-- ---- start
+
+fresh-at : (ps : List Place) (c : ℕ) → place (map (λ p. fresh) ps) c ≡ fresh
+fresh-at [] c = refl
+fresh-at (p ∷ ps) zero = refl
+fresh-at (p ∷ ps) (suc c) = fresh-at ps c
+
+module _ (r : Run) (levels : List ℤ) (tables : List ℕ) (B : Buffers) (a : Answer) (r′ : Run) (B′ : Buffers) (h : StartIs r levels tables B a r′ B′) where
+  abbrev H : Given
+  H = givenOf r levels tables
+
+  abbrev s : State
+  s = stateOf r B
+
+  -- the number of start's refusal
+  number : ℕ
+  number = startRefusal H (placesOf r) (lengths allSix B)
+
+  -- refused: as it was
+  pub refuses : OneOf (0 ∷ 2 ∷ []) (tagOf the-type a) → RunIs r levels tables B a B′
+  unfolding start
+  refuses one = go (startRefusal H (placesOf r) (lengths allSix B)) (ap (λ (y : Result). y .answer) h) (ap (λ (y : Result). y .buffers) h)
+    where
+      not-done : (a : Answer) → OneOf (0 ∷ 2 ∷ []) (tagOf the-type a) → done ≡ answerOf a → ⊥
+      not-done (Refused m) one e = let z : _≡_ {A = ℕ} 0 1 = cc in omega arith
+      not-done Done one e = ⊎-elim (λ e. omega arith) (λ e. omega arith) one
+      not-done Blown one e = let z : _≡_ {A = ℕ} 0 1 = cc in omega arith
+
+      is-refused : (n : ℕ) (a : Answer) → refused n ≡ answerOf a → a ≡ Refused n
+      is-refused n (Refused m) e = let same : m ≡ n = cc in ap Refused same
+      is-refused n Done e = let z : _≡_ {A = ℕ} 0 1 = cc in absurd (omega arith)
+      is-refused n Blown e = let z : _≡_ {A = ℕ} 0 1 = cc in absurd (omega arith)
+
+      go : (n : ℕ) → settle n s (begin jobs H s) .answer ≡ answerOf a → settle n s (begin jobs H s) .after .buffers ≡ B′
+          → Ends n (runBlows H) (planesOf H) B a B′
+      go zero e f = absurd (not-done a one e)
+      go (suc n) e f = (is-refused (suc n) a e, sym f)
+
+  module _ (one : OneOf (1 ∷ []) (tagOf the-type a)) where
+    said-done : start jobs H s .answer ≡ done
+    said-done = ap (λ (y : Result). y .answer) h ∙ is-done a one
+      where
+        is-done : (a : Answer) → OneOf (1 ∷ []) (tagOf the-type a) → answerOf a ≡ done
+        is-done (Refused m) one = let y : ⊥ = omega arith in absurd y
+        is-done Done one = refl
+        is-done Blown one = let y : ⊥ = omega arith in absurd y
+
+    pub accepted : startRefusal H (placesOf r) (lengths allSix B) ≡ 0
+    unfolding start
+    accepted = go (startRefusal H (placesOf r) (lengths allSix B)) said-done
+      where
+        go : (n : ℕ) → settle n s (begin jobs H s) .answer ≡ done → n ≡ 0
+        go zero e = refl
+        go (suc n) e = let z : _≡_ {A = ℕ} 0 1 = cc in absurd (omega arith)
+
+    inv : Inv jobs H (start jobs H s .after)
+    unfolding final
+    inv = between jobs laws H s said-done []
+
+    places-fresh : start jobs H s .after .places ≡ map (λ p. fresh) (placesOf r)
+    unfolding start
+    places-fresh = ap (λ (n : ℕ). settle n s (begin jobs H s) .after .places) accepted
+
+    passes : first (lendTests H (placesOf r) (lengths allSix B) true) ≡ 0
+    unfolding startRefusal
+    passes = accepted
+
+    tests : Passed (lendTests H (placesOf r) (lengths allSix B) true)
+    tests = passed-of (lendTests H (placesOf r) (lengths allSix B) true) (lend-numbered H (placesOf r) (lengths allSix B) true) passes
+
+    sized : Sized (count H * area H) B
+    sized =
+        let long : Bool = buffersLong H (lengths allSix B) in
+        sized-of (count H * area H) B (and-l long (valuesLong H) (not-is (long && valuesLong H) (tests .1 .0)))
+
+    channels-long : r .count ≤ length (r .channels)
+    channels-long =
+        counted r (r .count)
+        (places-are (sheetOf r) (placesOf r) (and-r (sheetOk (sheetOf r)) (placesOk (sheetOf r) (placesOf r)) (not-is (legal (sheetOf r) (placesOf r)) (tests .0))) .long)
+        refl
+
+    places-now : placesOf r′ ≡ start jobs H s .after .places
+    places-now = ap (λ (y : Result). placesOf (y .run)) (sym h) ∙ places-placed r (start jobs H s .after .places) (inv .legal-places .long) channels-long
+
+    sheet-now : sheetOf r′ ≡ sheetOf r
+    sheet-now = ap (λ (y : Result). sheetOf (y .run)) (sym h) ∙ sheet-stays r (start jobs H s .after .places)
+
+    given-now : givenOf r′ levels tables ≡ H
+    given-now = ap (λ (S : Sheet). record { sheet = S; levels = levels; tables = tables }) sheet-now
+
+    state-now : start jobs H s .after ≡ stateOf r′ B′
+    state-now = λ i. record { places = sym places-now i; buffers = h i .buffers }
+
+    at-start : AllAt H 0 r′ B′
+    at-start =
+        record {
+          sheet = sheet-now;
+          inv = subst (Inv jobs H) state-now inv;
+          each = λ c l. ap (λ (ps : List Place). place ps c) (places-now ∙ places-fresh) ∙ fresh-at (placesOf r) c;
+        }
+
+    -- accepted: the run stands at its start
+    pub run-asks : RunAsks r′ levels tables B′
+    run-asks =
+        record {
+          ok = subst GivenOk (sym given-now) (given-ok jobs H s said-done);
+          all = subst (λ (K : Given). AllAt K 0 r′ B′) (sym given-now) at-start;
+        }
+
+    from-start : (b : Bool) (xs : List Float) (d : Answer) (D : Buffers) → Ends 0 b xs B′ d D → Ends 0 b xs B d D
+    from-start true xs d D e = (e .0, λ b. e .1 b ∙ longs b)
+      where
+        longs : SameLengths B B′
+        longs = same-lengths B B′ (kept-of (count H * area H) B B′ sized (at-start .inv .sized))
+    from-start false xs d D e = (e .0, e .1, λ b. e .2 b ∙ longs b)
+      where
+        longs : SameLengths B B′
+        longs = same-lengths B B′ (kept-of (count H * area H) B B′ sized (at-start .inv .sized))
+
+    -- and ends as its rounds do
+    pub runs-on : (d : Answer) (D : Buffers) → Ends 0 (runBlows (givenOf r′ levels tables)) (planesOf (givenOf r′ levels tables)) B′ d D → RunIs r levels tables B d D
+    runs-on d D e =
+        rw accepted
+        (from-start (runBlows H) (planesOf H) d D (subst (λ (K : Given). Ends 0 (runBlows K) (planesOf K) B′ d D) given-now e))

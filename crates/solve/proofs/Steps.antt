@@ -1,0 +1,367 @@
+-- A call in its turn, of the code: one more channel of a round has its job.
+use mathlib.Core.Path.{_≡_, refl, sym, ap, _∙_, subst}
+use mathlib.Core.Logic.{_≢_, _⊎_, inl, inr, ⊎-elim}
+use denote.Enum.Declared.{tagOf}
+use types.Run.{OneOf}
+use mathlib.Core.Bool.{Bool, true, false, _&&_, cond}
+use mathlib.Core.List.{List, [], _∷_, map}
+use Prim.Native.Nat.{ℕ, zero, suc, _+_, _*_, _%_, _≤_, _<_}
+use native.Mathlib.Omega.{arith}
+use native.Mathlib.Numerals.{add-one}
+use native.Mathlib.Decide.{ℕ-discrete, decLt}
+use lib.ListN.{length, set, take, length-map, length-take}
+use lib.Dec.{eqb, ltb}
+use lib.IntN.{ℤ}
+use borrow.Author.Tests.{lt-ltb, le-ltb}
+use Rattle.scalar.specs.Buffers.{Buffers}
+use Rattle.calls.specs.Run.{Given, Sheet, Place, fresh, place, count, area, among}
+use Rattle.calls.specs.Buffers.{Plane, Prior, Gradient, Across, Down, Saved, Sized}
+use Rattle.calls.specs.Jobs.{Job, push, fidelity, move, project, Call, on, blend, turn, fixed, isBlown}
+use Rattle.calls.specs.Calls as Calls
+use Rattle.calls.specs.Calls.{Outcome, refused, done, blown, settle, advance, blended, reply, call}
+use Rattle.calls.proofs.Laws.{GivenOk}
+use Rattle.calls.proofs.Legal.{place-here, place-elsewhere}
+use Rattle.calls.proofs.Tests.{getD-map-lt}
+use Rattle.calls.proofs.Step.{Inv, call-good}
+use Rattle.demand.specs.Solver.{jobs}
+use Rattle.demand.proofs.Laws.{laws}
+use Rattle.record.specs.declared.Run.{Run}
+use Rattle.record.specs.declared.Answer.{Answer}
+use Rattle.record.proofs.Answer.{the-type}
+use Rattle.record.specs.declared.Answer.the-variants.{Refused, Done, Blown}
+use Rattle.record.specs.Model.{placeOf, sheetOf, placesOf, givenOf, answerOf}
+use Rattle.record.proofs.Placed.{sheet-stays, places-placed}
+use Rattle.run.specs.Public.{Result, result, gave, stateOf}
+use Rattle.serve.specs.Serve.{numbered, numberedOf}
+use Rattle.solve.specs.Solve.{blowsAt}
+use Rattle.solve.specs.Rounds.{unmarkedAt, AllAt, passed, Within, turns, roundBlows, RoundAsks, RoundIs}
+use Rattle.solve.proofs.Rounds.{among-false, among-true, on-answer, on-places, blend-answer, blend-places}
+
+-- the record has as many channels as its count says, where each has a place
+pub counted : (r : Run) (n : ℕ) → length (placesOf r) ≡ n → r .count ≡ n → r .count ≤ length (r .channels)
+counted r n e f = omega (arith, length-map (take (r .count) (r .channels)) placeOf, length-take (r .count) (r .channels))
+
+-- ---- what a call by its number leaves, where it is the model's call x
+
+module _ (G : Given) (ok : GivenOk G) (r : Run) (B : Buffers) (same : sheetOf r ≡ G .sheet) (inv : Inv jobs G (stateOf r B)) (x : Call)
+    (a : Answer) (r′ : Run) (B′ : Buffers) (gives : result r (call jobs G x (stateOf r B)) ≡ gave a r′ B′) where
+  o : Outcome
+  o = call jobs G x (stateOf r B)
+
+  good : Inv jobs G (call jobs G x (stateOf r B) .after)
+  good = call-good jobs laws G ok (stateOf r B) inv x .again
+
+  pub same-answer : call jobs G x (stateOf r B) .answer ≡ answerOf a
+  same-answer = ap (λ (y : Result). y .answer) gives
+
+  channels-long : r .count ≤ length (r .channels)
+  channels-long = counted r (count G) (inv .legal-places .long) (ap (λ (S : Sheet). S .count) same)
+
+  pub same-places : placesOf r′ ≡ call jobs G x (stateOf r B) .after .places
+  same-places =
+      ap (λ (y : Result). placesOf (y .run)) (sym gives)
+      ∙ places-placed r (call jobs G x (stateOf r B) .after .places) (good .legal-places .long ∙ sym (ap (λ (S : Sheet). S .count) same)) channels-long
+
+  pub same-sheet : sheetOf r′ ≡ G .sheet
+  same-sheet = ap (λ (y : Result). sheetOf (y .run)) (sym gives) ∙ sheet-stays r (call jobs G x (stateOf r B) .after .places) ∙ same
+
+  same-state : call jobs G x (stateOf r B) .after ≡ stateOf r′ B′
+  same-state = λ i. record { places = sym same-places i; buffers = gives i .buffers }
+
+  pub inv-after : Inv jobs G (stateOf r′ B′)
+  inv-after = subst (Inv jobs G) same-state good
+
+-- ---- a job of one channel: by its answer
+
+module _ (j : Job) (p : ℕ) (t : p % 5 ≡ turn j) where
+  not-refused : (b : Bool) (n : ℕ) → reply j b ≡ refused n → ⊥
+  not-refused b n = go j b
+    where
+      go : (j : Job) (b : Bool) → reply j b ≡ refused n → ⊥
+      go push b e = let z : _≡_ {A = ℕ} 0 1 = cc in omega arith
+      go fidelity b e = let z : _≡_ {A = ℕ} 0 1 = cc in omega arith
+      go move b e = let z : _≡_ {A = ℕ} 0 1 = cc in omega arith
+      go project true e = let z : _≡_ {A = ℕ} 0 1 = cc in omega arith
+      go project false e = let z : _≡_ {A = ℕ} 0 1 = cc in omega arith
+
+  done-on : (b : Bool) → reply j b ≡ done → (advance j b (unmarkedAt p) ≡ unmarkedAt (suc p)) × ((eqb (p % 5) 4 && b) ≡ false)
+  done-on b = rw t (go j b)
+    where
+      go : (j : Job) (b : Bool) → reply j b ≡ done → (advance j b (unmarkedAt p) ≡ unmarkedAt (suc p)) × ((eqb (turn j) 4 && b) ≡ false)
+      go push b e = (refl, refl)
+      go fidelity b e = (refl, refl)
+      go move b e = (refl, refl)
+      go project true e = let z : _≡_ {A = ℕ} 0 1 = cc in absurd (omega arith)
+      go project false e = (refl, refl)
+
+  blown-on : (b : Bool) → reply j b ≡ blown → (eqb (p % 5) 4 && b) ≡ true
+  blown-on b = rw t (go j b)
+    where
+      go : (j : Job) (b : Bool) → reply j b ≡ blown → (eqb (turn j) 4 && b) ≡ true
+      go push b e = let z : _≡_ {A = ℕ} 0 1 = cc in absurd (omega arith)
+      go fidelity b e = let z : _≡_ {A = ℕ} 0 1 = cc in absurd (omega arith)
+      go move b e = let z : _≡_ {A = ℕ} 0 1 = cc in absurd (omega arith)
+      go project true e = refl
+      go project false e = let z : _≡_ {A = ℕ} 0 1 = cc in absurd (omega arith)
+
+  -- no blend: the channels below i are passed
+  passed-is : (i c : ℕ) → passed (p % 5) i c ≡ ltb c i
+  passed-is i c = ap (λ (k : ℕ). passed k i c) t ∙ go j
+    where
+      go : (j : Job) → passed (turn j) i c ≡ ltb c i
+      go push = refl
+      go fidelity = refl
+      go move = refl
+      go project = refl
+
+  turns-are : (n : ℕ) → turns (p % 5) n ≡ n
+  turns-are n = ap (λ (k : ℕ). turns k n) t ∙ go j
+    where
+      go : (j : Job) → turns (turn j) n ≡ n
+      go push = refl
+      go fidelity = refl
+      go move = refl
+      go project = refl
+
+  number-is : (c : ℕ) → numbered (p % 5) c ≡ on j c
+  number-is c = ap (λ (k : ℕ). numbered k c) t ∙ go j
+    where
+      go : (j : Job) → numbered (turn j) c ≡ on j c
+      go push = refl
+      go fidelity = refl
+      go move = refl
+      go project = refl
+
+-- the jobs by their numbers
+job-of : (k : ℕ) → k < 5 → ((j : Job) × (k ≡ turn j)) ⊎ (k ≡ 2)
+job-of zero h = inl (push, refl)
+job-of (suc zero) h = inl (fidelity, refl)
+job-of (suc (suc zero)) h = inr refl
+job-of (suc (suc (suc zero))) h = inl (move, refl)
+job-of (suc (suc (suc (suc k)))) h = inl (project, omega arith)
+
+-- what a call of a round tells
+abbrev pub StepIs : Given → ℕ → ℕ → Answer → Run → Buffers → Type 0
+StepIs G p i (Refused n) r B = ⊥
+StepIs G p i Done r B = Within G p (suc i) r B × (blowsAt G i p ≡ false)
+StepIs G p i Blown r B = (i < count G) × (blowsAt G i p ≡ true) × Sized (count G * area G) B
+
+module _ (G : Given) (ok : GivenOk G) (p : ℕ) (left : p < 5 * G .sheet .N) (i : ℕ) (r : Run) (B : Buffers) (w : Within G p i r B) (r′ : Run) (B′ : Buffers) where
+  module _ (j : Job) (t : p % 5 ≡ turn j) (below : i < count G) where
+    here : place (placesOf r) i ≡ unmarkedAt p
+    here = w .each i below ∙ ap (λ (b : Bool). unmarkedAt (cond b (suc p) p)) (passed-is j p t i i ∙ le-ltb i i (omega arith))
+
+    bad : Bool
+    bad = isBlown G i (fixed jobs G (suc p) i)
+
+    module _ (a : Answer) (gives : result r (call jobs G (on j i) (stateOf r B)) ≡ gave a r′ B′) where
+      replied : reply j bad ≡ answerOf a
+      unfolding bad
+      replied =
+          sym (on-answer jobs laws G ok (stateOf r B) (w .inv) p left j i below here t)
+          ∙ same-answer G ok r B (w .sheet) (w .inv) (on j i) a r′ B′ gives
+
+      places-now : placesOf r′ ≡ set (placesOf r) i (advance j bad (unmarkedAt p))
+      unfolding bad
+      places-now =
+          same-places G ok r B (w .sheet) (w .inv) (on j i) a r′ B′ gives
+          ∙ on-places jobs laws G ok (stateOf r B) (w .inv) p left j i below here t
+
+      inv-now : Inv jobs G (stateOf r′ B′)
+      inv-now = inv-after G ok r B (w .sheet) (w .inv) (on j i) a r′ B′ gives
+
+      each-now : advance j bad (unmarkedAt p) ≡ unmarkedAt (suc p)
+          → (c : ℕ) → c < count G → place (placesOf r′) c ≡ unmarkedAt (cond (passed (p % 5) (suc i) c) (suc p) p)
+      each-now e c h =
+          ap (λ (ps : List Place). place ps c) (places-now ∙ ap (set (placesOf r) i) e)
+          ∙ elim (ℕ-discrete i c) [
+            | yes q ↦
+                subst (λ (d : ℕ). place (set (placesOf r) i (unmarkedAt (suc p))) d ≡ unmarkedAt (cond (ltb d (suc i)) (suc p) p)) q
+                (place-here (placesOf r) i (unmarkedAt (suc p)) (omega (arith, w .inv .legal-places .long))
+                ∙ ap (λ (b : Bool). unmarkedAt (cond b (suc p) p)) (sym (lt-ltb i (suc i) (omega arith))))
+            | no f ↦
+                place-elsewhere (placesOf r) i (unmarkedAt (suc p)) c f
+                ∙ w .each c h
+                ∙ ap (λ (b : Bool). unmarkedAt (cond b (suc p) p)) (passed-is j p t i c ∙ one-more c f)
+          ]
+          ∙ ap (λ (b : Bool). unmarkedAt (cond b (suc p) p)) (sym (passed-is j p t (suc i) c))
+        where
+          one-more : (c : ℕ) → i ≢ c → ltb c i ≡ ltb c (suc i)
+          one-more c f =
+              elim (decLt c i) [
+                | yes l ↦ lt-ltb c i l ∙ sym (lt-ltb c (suc i) (omega arith))
+                | no q ↦ le-ltb c i (omega arith) ∙ sym (le-ltb c (suc i) (omega arith))
+              ]
+
+    on-step : (a : Answer) → result r (call jobs G (on j i) (stateOf r B)) ≡ gave a r′ B′ → StepIs G p i a r′ B′
+    unfolding bad blowsAt
+    on-step (Refused n) g = not-refused j p t bad n (replied (Refused n) g)
+    on-step Done g =
+        let d = done-on j p t bad (replied Done g) in (
+          record { sheet = same-sheet G ok r B (w .sheet) (w .inv) (on j i) Done r′ B′ g; inv = inv-now Done g; each = each-now Done g (d .0) },
+          d .1,
+        )
+    on-step Blown g = (below, blown-on j p t bad (replied Blown g), inv-now Blown g .sized)
+
+  -- blend: one call for all channels
+  module _ (t : p % 5 ≡ 2) (first : i ≡ 0) where
+    all-here : (c : ℕ) → c < count G → place (placesOf r) c ≡ unmarkedAt p
+    all-here c h = w .each c h ∙ ap (λ (b : Bool). unmarkedAt (cond b (suc p) p)) (ap (λ (k : ℕ). passed k i c) t ∙ ap (λ (k : ℕ). ltb 0 k) first)
+
+    not-project : (b : Bool) → (eqb (p % 5) 4 && b) ≡ false
+    not-project b = ap (λ (k : ℕ). eqb k 4 && b) t
+
+    blend-step : (a : Answer) → result r (call jobs G blend (stateOf r B)) ≡ gave a r′ B′ → StepIs G p i a r′ B′
+    unfolding blowsAt
+    blend-step a g =
+        let says : done ≡ answerOf a =
+        sym (blend-answer jobs laws G ok (stateOf r B) (w .inv) p left all-here t) ∙ same-answer G ok r B (w .sheet) (w .inv) blend a r′ B′ g in
+        let places : placesOf r′ ≡ map blended (placesOf r) =
+        same-places G ok r B (w .sheet) (w .inv) blend a r′ B′ g ∙ blend-places jobs laws G ok (stateOf r B) (w .inv) p left all-here t in
+        let now : Inv jobs G (stateOf r′ B′) = inv-after G ok r B (w .sheet) (w .inv) blend a r′ B′ g in
+        go a says places now (same-sheet G ok r B (w .sheet) (w .inv) blend a r′ B′ g)
+      where
+        go : (a : Answer) → done ≡ answerOf a → placesOf r′ ≡ map blended (placesOf r) → Inv jobs G (stateOf r′ B′) → sheetOf r′ ≡ G .sheet → StepIs G p i a r′ B′
+        go (Refused n) e q v s = let z : _≡_ {A = ℕ} 0 1 = cc in omega arith
+        go Blown e q v s = let z : _≡_ {A = ℕ} 0 1 = cc in absurd (omega arith)
+        go Done e q v s = (
+          record {
+            sheet = s;
+            inv = v;
+            each =
+                λ c h.
+                ap (λ (ps : List Place). place ps c) q
+                ∙ getD-map-lt blended (placesOf r) fresh fresh c (omega (arith, w .inv .legal-places .long))
+                ∙ ap blended (all-here c h)
+                ∙ ap (λ (b : Bool). unmarkedAt (cond b (suc p) p)) (sym (ap (λ (k : ℕ). passed k (suc i) c) t ∙ lt-ltb 0 (suc i) (omega arith)));
+          },
+          not-project (isBlown G i (fixed jobs G (suc p) i)),
+        )
+
+  -- the round's next call, by the job's number
+  pub next-call : i < turns (p % 5) (count G) → (a : Answer) → numberedOf r (p % 5) i (G .levels) (G .tables) B ≡ gave a r′ B′ → StepIs G p i a r′ B′
+  next-call more a g = go (job-of (p % 5) (omega arith))
+    where
+      given-is : givenOf r (G .levels) (G .tables) ≡ G
+      given-is = ap (λ (S : Sheet). record { sheet = S; levels = G .levels; tables = G .tables }) (w .sheet)
+
+      plainly : result r (call jobs G (numbered (p % 5) i) (stateOf r B)) ≡ gave a r′ B′
+      plainly =
+          ap (λ (H : Given). result r (call jobs H (numbered (p % 5) i) (stateOf r B))) (sym given-is)
+          ∙ ap (λ (n : ℕ). result r (settle n (stateOf r B) (call jobs (givenOf r (G .levels) (G .tables)) (numbered (p % 5) i) (stateOf r B))))
+          (sym (ap (λ (b : Bool). cond b 0 9) (lt-ltb (p % 5) 5 (omega arith))))
+          ∙ g
+
+      go : ((j : Job) × (p % 5 ≡ turn j)) ⊎ (p % 5 ≡ 2) → StepIs G p i a r′ B′
+      go (inl q) =
+          on-step (q .0) (q .1) (omega (arith, turns-are (q .0) p (q .1) (count G))) a
+          (ap (λ (x : Call). result r (call jobs G x (stateOf r B))) (sym (number-is (q .0) p (q .1) i)) ∙ plainly)
+      go (inr t) =
+          let only : turns (p % 5) (count G) ≡ 1 = ap (λ (k : ℕ). turns k (count G)) t in
+          blend-step t (omega arith) a
+          (ap (λ (k : ℕ). result r (call jobs G (numbered k i) (stateOf r B))) (sym t) ∙ plainly)
+
+-- ---- a round's ends
+
+module _ (G : Given) (p : ℕ) (r : Run) (B : Buffers) where
+  pub none-passed : AllAt G p r B → Within G p 0 r B
+  none-passed h = record { sheet = h .sheet; inv = h .inv; each = λ c l. h .each c l ∙ ap (λ (b : Bool). unmarkedAt (cond b (suc p) p)) (sym (none c)) }
+    where
+      none : (c : ℕ) → passed (p % 5) 0 c ≡ false
+      none c = same (eqb (p % 5) 2) (le-ltb c 0 (omega arith))
+        where
+          same : (b : Bool) → ltb c 0 ≡ false → cond b (ltb 0 0) (ltb c 0) ≡ false
+          same true e = refl
+          same false e = e
+
+  pub all-passed : Within G p (turns (p % 5) (count G)) r B → AllAt G (suc p) r B
+  all-passed h =
+      record { sheet = h .sheet; inv = h .inv; each = λ c l. h .each c l ∙ ap (λ (b : Bool). unmarkedAt (cond b (suc p) p)) (all c l) }
+    where
+      all : (c : ℕ) → c < count G → passed (p % 5) (turns (p % 5) (count G)) c ≡ true
+      all c l = same (eqb (p % 5) 2) (lt-ltb c (count G) l)
+        where
+          same : (b : Bool) → ltb c (count G) ≡ true → cond b (ltb 0 (cond b 1 (count G))) (ltb c (cond b 1 (count G))) ≡ true
+          same true e = refl
+          same false e = e
+
+pub none-blown : (G : Given) (p : ℕ) → among (turns (p % 5) (count G)) (λ c. blowsAt G c p) ≡ false → roundBlows G p ≡ false
+unfolding blowsAt
+none-blown G p e = go (job-of (p % 5) (omega arith))
+  where
+    go : ((j : Job) × (p % 5 ≡ turn j)) ⊎ (p % 5 ≡ 2) → roundBlows G p ≡ false
+    go (inl q) = ap (λ (n : ℕ). among n (λ c. blowsAt G c p)) (sym (turns-are (q .0) p (q .1) (count G))) ∙ e
+    go (inr t) = among-false (count G) (λ c. blowsAt G c p) (λ c h. ap (λ (k : ℕ). eqb k 4 && isBlown G c (fixed jobs G (suc p) c)) t)
+
+-- ---- a round's loop: after i of n calls
+
+-- each of the six has its length still
+pub record Kept (B₀ B : Buffers) : Type 0 where
+  pub plane-long : length (B .plane) ≡ length (B₀ .plane)
+  pub prior-long : length (B .prior) ≡ length (B₀ .prior)
+  pub gradient-long : length (B .gradient) ≡ length (B₀ .gradient)
+  pub across-long : length (B .across) ≡ length (B₀ .across)
+  pub down-long : length (B .down) ≡ length (B₀ .down)
+  pub saved-long : length (B .saved) ≡ length (B₀ .saved)
+
+pub kept-of : (m : ℕ) (B₀ B : Buffers) → Sized m B₀ → Sized m B → Kept B₀ B
+kept-of m B₀ B h l =
+    record {
+      plane-long = l Plane ∙ sym (h Plane);
+      prior-long = l Prior ∙ sym (h Prior);
+      gradient-long = l Gradient ∙ sym (h Gradient);
+      across-long = l Across ∙ sym (h Across);
+      down-long = l Down ∙ sym (h Down);
+      saved-long = l Saved ∙ sym (h Saved);
+    }
+
+pub record Passing (G : Given) (p n i : ℕ) (r : Run) (B₀ B : Buffers) : Type 0 where
+  pub most : i ≤ n
+  pub within : Within G p i r B
+  pub none : among i (λ c. blowsAt G c p) ≡ false
+  pub kept : Kept B₀ B
+
+module _ (r₀ : Run) (p : ℕ) (levels : List ℤ) (tables : List ℕ) (B₀ : Buffers) (asks : RoundAsks r₀ p levels tables B₀) where
+  abbrev G : Given
+  G = givenOf r₀ levels tables
+
+  pub begins : (n : ℕ) → Passing G p n 0 r₀ B₀ B₀
+  begins n =
+      record {
+        most = omega arith;
+        within = none-passed G p r₀ B₀ (asks .all);
+        none = refl;
+        kept = kept-of (count G * area G) B₀ B₀ (asks .all .inv .sized) (asks .all .inv .sized);
+      }
+
+  module _ (n i : ℕ) (is : n ≡ turns (p % 5) (count G)) (r : Run) (B : Buffers) (h : Passing G p n i r B₀ B) where
+    -- a call that was answered `done`, and one that was not
+    pub goes-on : i < n → (a : Answer) (r′ : Run) (B′ : Buffers) → numberedOf r (p % 5) i levels tables B ≡ gave a r′ B′ → OneOf (1 ∷ []) (tagOf the-type a)
+        → Passing G p n (i + 1) r′ B₀ B′
+    goes-on more a r′ B′ g one = go a one (next-call G (asks .ok) p (asks .left) i r B (h .within) r′ B′ (omega arith) a g)
+      where
+        go : (a : Answer) → OneOf (1 ∷ []) (tagOf the-type a) → StepIs G p i a r′ B′ → Passing G p n (i + 1) r′ B₀ B′
+        go (Refused m) one s = absurd s
+        go Blown one s = let y : ⊥ = omega arith in absurd y
+        go Done one s =
+            rw (add-one)
+            record {
+              most = omega (arith, h .most);
+              within = s .0;
+              none = rw (h .none) (s .1);
+              kept = kept-of (count G * area G) B₀ B′ (asks .all .inv .sized) (s .0 .inv .sized);
+            }
+
+    pub stops : i < n → (a : Answer) (r′ : Run) (B′ : Buffers) → numberedOf r (p % 5) i levels tables B ≡ gave a r′ B′ → OneOf (0 ∷ 2 ∷ []) (tagOf the-type a)
+        → RoundIs G p a r′ B′
+    stops more a r′ B′ g one = go a one (next-call G (asks .ok) p (asks .left) i r B (h .within) r′ B′ (omega arith) a g)
+      where
+        go : (a : Answer) → OneOf (0 ∷ 2 ∷ []) (tagOf the-type a) → StepIs G p i a r′ B′ → RoundIs G p a r′ B′
+        go (Refused m) one s = s
+        go Done one s = let y : ⊥ = ⊎-elim (λ e. omega arith) (λ e. omega arith) one in absurd y
+        go Blown one s = (among-true (count G) (λ c. blowsAt G c p) i (s .0) (s .1), s .2)
+
+    pub ends : n ≤ i → RoundIs G p Done r B
+    ends l =
+        let last : i ≡ turns (p % 5) (count G) = omega (arith, h .most) in
+        (all-passed G p r B (rw last at (h .within)), none-blown G p (rw last at (h .none)))

@@ -1,0 +1,149 @@
+-- `alone_value`: the parts that are lent on are channel c's. Each need is a declaration of its own: one of them all takes too many steps.
+use native.Mathlib.Omega.{arith}
+use Rattle.solve.specs.Solve.{six}
+use Rattle.solve.proofs.Alone.{alone-is}
+use borrow.Author.Needs.{needs}
+use Rattle.solve.proofs.separate.alone_value.Statement.{statement}
+use Rattle.solve.proofs.separate.alone_value.Tie as tie
+
+parts-of-requires : tie.Need-parts-of-requires
+parts-of-requires c κs = search needs
+
+alone-of-requires : tie.Need-alone-of-requires
+alone-of-requires c κs = search needs
+
+mul-run-value : tie.Need-mul-run-value
+mul-run-value c = search needs
+
+sub-run-value : tie.Need-sub-run-value
+sub-run-value c = search needs
+
+part-run-value-start : tie.Need-part-run-value-start
+part-run-value-start c = search needs
+
+part-run-value-end : tie.Need-part-run-value-end
+part-run-value-end c = search needs
+
+mul-run-value-2 : tie.Need-mul-run-value-2
+mul-run-value-2 c = search needs
+
+sub-run-value-2 : tie.Need-sub-run-value-2
+sub-run-value-2 c = search needs
+
+part-run-value-start-2 : tie.Need-part-run-value-start-2
+part-run-value-start-2 c = search needs
+
+part-run-value-end-2 : tie.Need-part-run-value-end-2
+part-run-value-end-2 c = search needs
+
+mul-run-value-3 : tie.Need-mul-run-value-3
+mul-run-value-3 c = search needs
+
+sub-run-value-3 : tie.Need-sub-run-value-3
+sub-run-value-3 c = search needs
+
+part-run-value-start-3 : tie.Need-part-run-value-start-3
+part-run-value-start-3 c = search needs
+
+part-run-value-end-3 : tie.Need-part-run-value-end-3
+part-run-value-end-3 c = search needs
+
+mul-run-value-4 : tie.Need-mul-run-value-4
+mul-run-value-4 c = search needs
+
+sub-run-value-4 : tie.Need-sub-run-value-4
+sub-run-value-4 c = search needs
+
+part-run-value-start-4 : tie.Need-part-run-value-start-4
+part-run-value-start-4 c = search needs
+
+part-run-value-end-4 : tie.Need-part-run-value-end-4
+part-run-value-end-4 c = search needs
+
+mul-run-value-5 : tie.Need-mul-run-value-5
+mul-run-value-5 c = search needs
+
+sub-run-value-5 : tie.Need-sub-run-value-5
+sub-run-value-5 c = search needs
+
+part-run-value-start-5 : tie.Need-part-run-value-start-5
+part-run-value-start-5 c = search needs
+
+part-run-value-end-5 : tie.Need-part-run-value-end-5
+part-run-value-end-5 c = search needs
+
+mul-run-value-6 : tie.Need-mul-run-value-6
+mul-run-value-6 c = search needs
+
+sub-run-value-6 : tie.Need-sub-run-value-6
+sub-run-value-6 c = search needs
+
+part-run-value-start-6 : tie.Need-part-run-value-start-6
+part-run-value-start-6 c = search needs
+
+part-run-value-end-6 : tie.Need-part-run-value-end-6
+part-run-value-end-6 c = search needs
+
+mul-run-value-7 : tie.Need-mul-run-value-7
+mul-run-value-7 c = search needs
+
+sub-run-value-7 : tie.Need-sub-run-value-7
+sub-run-value-7 c = search needs
+
+part-run-value-start-7 : tie.Need-part-run-value-start-7
+part-run-value-start-7 c = search needs
+
+part-run-value-end-7 : tie.Need-part-run-value-end-7
+part-run-value-end-7 c = search needs
+
+mul-run-value-8 : tie.Need-mul-run-value-8
+mul-run-value-8 c = omega (arith, c .before .before .before .before .before .before .before .before .parts-of .ensures .from-is, c .before .before .before .before .before .before .before .before .parts-of .ensures .to-is, c .before .before .before .before .before .before .before .before .parts-of .ensures .to-most, c .before .before .before .before .before .before .before .before .parts-of .ensures .to-small, c .before .before .before .before .before .before .before .before .before .before .before .before .before .before .before .before .pre .saved-long)
+
+sub-run-value-8 : tie.Need-sub-run-value-8
+sub-run-value-8 c = omega (arith, c .before .before .before .before .before .before .before .before .parts-of .ensures .from-is, c .before .before .before .before .before .before .before .before .parts-of .ensures .to-is, c .before .before .before .before .before .before .before .before .parts-of .ensures .to-most, c .before .before .before .before .before .before .before .before .parts-of .ensures .to-small, c .before .before .before .before .before .before .before .before .before .before .before .before .before .before .before .before .pre .saved-long)
+
+part-run-value-start-8 : tie.Need-part-run-value-start-8
+part-run-value-start-8 c = omega (arith, c .before .before .before .before .before .before .before .before .parts-of .ensures .from-is, c .before .before .before .before .before .before .before .before .parts-of .ensures .to-is, c .before .before .before .before .before .before .before .before .parts-of .ensures .to-most, c .before .before .before .before .before .before .before .before .parts-of .ensures .to-small, c .before .before .before .before .before .before .before .before .before .before .before .before .before .before .before .before .pre .saved-long)
+
+part-run-value-end-8 : tie.Need-part-run-value-end-8
+part-run-value-end-8 c = omega (arith, c .before .before .before .before .before .before .before .before .parts-of .ensures .from-is, c .before .before .before .before .before .before .before .before .parts-of .ensures .to-is, c .before .before .before .before .before .before .before .before .parts-of .ensures .to-most, c .before .before .before .before .before .before .before .before .parts-of .ensures .to-small, c .before .before .before .before .before .before .before .before .before .before .before .before .before .before .before .before .pre .saved-long)
+
+run-value-requires : tie.Need-run-value-requires
+run-value-requires c κs = search needs
+
+same-length : tie.Need-same-length
+same-length c = c .before .before .before .before .before .before .before .before .before .before .before .plane .given .1
+
+same-length-2 : tie.Need-same-length-2
+same-length-2 c = search needs
+
+same-length-3 : tie.Need-same-length-3
+same-length-3 c = search needs
+
+same-length-4 : tie.Need-same-length-4
+same-length-4 c = search needs
+
+same-length-5 : tie.Need-same-length-5
+same-length-5 c = search needs
+
+same-length-6 : tie.Need-same-length-6
+same-length-6 c = search needs
+
+returns : tie.Need-returns
+returns c =
+    let a = c .before .before .before .before .before .before .before .before .before .before .before .before .before .before .before .before .before .before .before .before .before .before .before .before .before .before .before .before .before .before .args in
+    let p = c .before .before .before .before .before .before .before .before .before .before .before .before .before .before .before .before .before .before .before .before .before .before .parts-of .result in
+    let o = c .before .before .before .before .before .before .before .before .before .before .before .before .run-value in
+    alone-is (a .s) (a .c) (a .levels .now) (a .tables .now) (six (a .plane .now) (a .prior .now) (a .gradient .now) (a .across .now) (a .down .now) (a .saved .now))
+    (p .from) (p .to) (p .«levels_from») (p .«levels_to») (p .«tables_from») (p .«tables_to») (c .before .before .before .before .before .before .before .before .before .before .before .before .before .before .before .before .before .before .before .before .before .before .parts-of .ensures) (c .before .before .before .before .before .before .before .before .before .before .before .before .before .before .before .before .before .before .before .before .before .alone-of .result) (c .before .before .before .before .before .before .before .before .before .before .before .before .before .before .before .before .before .before .before .before .before .alone-of .ensures) (o .result) _ (o .ensures)
+
+pub alone-value-spec : {M : Type 1} → statement M
+alone-value-spec =
+    tie.close
+    (tie.spec parts-of-requires alone-of-requires mul-run-value sub-run-value part-run-value-start part-run-value-end
+    mul-run-value-2 sub-run-value-2 part-run-value-start-2 part-run-value-end-2 mul-run-value-3 sub-run-value-3
+    part-run-value-start-3 part-run-value-end-3 mul-run-value-4 sub-run-value-4 part-run-value-start-4
+    part-run-value-end-4 mul-run-value-5 sub-run-value-5 part-run-value-start-5 part-run-value-end-5 mul-run-value-6
+    sub-run-value-6 part-run-value-start-6 part-run-value-end-6 mul-run-value-7 sub-run-value-7 part-run-value-start-7
+    part-run-value-end-7 mul-run-value-8 sub-run-value-8 part-run-value-start-8 part-run-value-end-8
+    run-value-requires same-length same-length-2 same-length-3 same-length-4 same-length-5 same-length-6 returns)

@@ -1,0 +1,62 @@
+-- `rounds`: after p rounds all channels stand at p, and none is blown.
+use Prim.Native.Nat.{_-_}
+use native.Mathlib.Omega.{arith}
+use Rattle.record.specs.Model.{givenOf}
+use Rattle.solve.specs.Solve.{six}
+use Rattle.solve.proofs.Ends.{Rounding, few, begins, round-asks, goes-on, stops, ends}
+use borrow.Author.Needs.{needs}
+use Rattle.solve.proofs.whole.rounds.Statement.{statement}
+use Rattle.solve.proofs.whole.rounds.Tie as tie
+
+abbrev Inv-loop : tie.InvT-loop
+Inv-loop levels tables plane₀ prior₀ gradient₀ across₀ down₀ saved₀ next₀ p₀ p-end plane prior gradient across down saved next p =
+    Rounding (givenOf next₀ levels tables) p-end p next (six plane₀ prior₀ gradient₀ across₀ down₀ saved₀) (six plane prior gradient across down saved)
+
+abbrev μ-loop : tie.MeasureT-loop
+μ-loop levels tables plane₀ prior₀ gradient₀ across₀ down₀ saved₀ next₀ p₀ p-end plane prior gradient across down saved next p = p-end - p
+
+mul-p-end : tie.Need-mul-p-end Inv-loop μ-loop
+mul-p-end c =
+    omega (arith, few _ _ _ _ (c .before .before .before .before .before .before .before .before .pre))
+
+loop-holds : tie.Need-loop-holds Inv-loop μ-loop
+loop-holds c =
+    begins _ _ _ _ (c .before .before .before .before .before .before .before .before .pre) _
+
+round-requires : tie.Need-round-requires Inv-loop μ-loop
+round-requires c κs =
+    let s = c .before .before .before .before .before .before .before .loop in
+    round-asks _ _ _ _ (c .before .before .before .before .before .before .before .before .before .before .before .before .before .before .before .before .pre)
+    _ _ _ (s .inv) (c .before .before .before .before .before .before .loop-test .taken)
+
+returns : tie.Need-returns Inv-loop μ-loop
+returns c =
+    let s = c .before .before .before .before .before .before .before .before .before .before .before .before .before .before .before .before .before .before .before .before .before .loop in
+    let o = c .before .before .before .before .before .before .before .before .before .before .before .before .before .round in
+    stops _ _ _ _ (c .before .before .before .before .before .before .before .before .before .before .before .before .before .before .before .before .before .before .before .before .before .before .before .before .before .before .before .before .before .before .pre)
+    _ _ _ (s .inv) (c .before .before .before .before .before .before .before .before .before .before .before .before .before .before .before .before .before .before .before .before .loop-test .taken) (o .result .answer) (o .result .run) _ (o .ensures) (c .match .keys2)
+
+add-p : tie.Need-add-p Inv-loop μ-loop
+add-p c =
+    omega (arith, few _ _ _ _ (c .before .before .before .before .before .before .before .before .before .before .before .before .before .before .before .before .before .before .before .before .before .before .before .before .before .before .before .before .before .before .before .before .pre), c .before .before .before .before .before .before .before .before .before .before .before .before .before .before .before .before .before .before .before .before .before .before .loop-test .taken)
+
+loop-again : tie.Need-loop-again Inv-loop μ-loop
+loop-again c =
+    let s = c .before .before .before .before .before .before .before .before .before .before .before .before .before .before .before .before .before .before .before .before .before .before .before .loop in
+    let o = c .before .before .before .before .before .before .before .before .before .before .before .before .before .before .before .round in
+    goes-on _ _ _ _ (c .before .before .before .before .before .before .before .before .before .before .before .before .before .before .before .before .before .before .before .before .before .before .before .before .before .before .before .before .before .before .before .before .pre)
+    _ _ _ (s .inv) (c .before .before .before .before .before .before .before .before .before .before .before .before .before .before .before .before .before .before .before .before .before .before .loop-test .taken) (o .result .answer) (o .result .run) _ (o .ensures) (c .before .before .match .keys1)
+
+returns-2 : tie.Need-returns-2 Inv-loop μ-loop
+returns-2 c =
+    let s = c .before .loop in
+    ends _ _ _ _ (c .before .before .before .before .before .before .before .before .before .before .pre)
+    _ _ _ (s .inv) (c .loop-test .left)
+
+pub rounds-spec : {M : Type 1} → statement M
+rounds-spec =
+    tie.close
+    (tie.spec Inv-loop μ-loop mul-p-end loop-holds round-requires (λ c. search needs) (λ c. search needs)
+    (λ c. search needs) (λ c. search needs) (λ c. search needs) (λ c. search needs) (λ c. search needs) returns
+    add-p (λ c. search needs) loop-again (λ c. search needs) (λ c. search needs) (λ c. search needs)
+    (λ c. search needs) (λ c. search needs) (λ c. search needs) returns-2)

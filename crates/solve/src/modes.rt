@@ -1,0 +1,134 @@
+// The runs of a sheet in both modes, and what solve refuses.
+use record::Run;
+use record::legal::both;
+use record::legal::legal;
+use sheet::Header;
+use sheet::Sheet;
+use sheet::Weight;
+use sheet::weight_value;
+ghost use mathlib.Core.Path.{_≡_};
+ghost use Rattle.sheet.specs.Legal.{channelAt};
+ghost use Rattle.solve.specs.Solve.{channelOf, joint, alone, iterationsAt, smoothingAt, allLegal, solveRefusal};
+
+// A channel line as a channel of a fresh run, with this data weight.
+fn channel_of(x: sheet::Channel, weight: Weight) -> record::Channel
+    ensures { λ r. ⌜ r ≡ channelOf x weight ⌝ }
+{
+    record::Channel {
+        width: x.width,
+        height: x.height,
+        across: x.across,
+        down: x.down,
+        weight: weight_value(weight),
+        position: 0,
+        mark: false,
+    }
+}
+
+// The run of all channels: the first smoothing weight, the first iteration count and each channel's data weight.
+pub fn joint_of(s: Sheet) -> Run
+    ensures { λ r. ⌜ r ≡ joint s ⌝ }
+{
+    let h = s.header;
+    let smoothing = h.smoothing0;
+    let d0 = h.data0;
+    let d1 = h.data1;
+    let d2 = h.data2;
+    let first = s.first;
+    let second = s.second;
+    let third = s.third;
+    let a = channel_of(first, d0);
+    let b = channel_of(second, d1);
+    let c = channel_of(third, d2);
+    Run {
+        w: h.width,
+        h: h.height,
+        n: h.iterations0,
+        smoothing: weight_value(smoothing),
+        count: h.channels,
+        channels: [a, b, c],
+    }
+}
+
+// Channel c's line.
+fn line_at(s: Sheet, c: u32) -> sheet::Channel
+    ensures { λ r. ⌜ r ≡ channelAt s c ⌝ }
+{
+    if c == 0 {
+        return s.first;
+    }
+    if c == 1 {
+        return s.second;
+    }
+    s.third
+}
+
+// Channel c's own iteration count.
+fn iterations_at(s: Sheet, c: u32) -> u32
+    ensures { λ r. ⌜ r ≡ iterationsAt s c ⌝ }
+{
+    let h = s.header;
+    if c == 0 {
+        return h.iterations0;
+    }
+    if c == 1 {
+        return h.iterations1;
+    }
+    h.iterations2
+}
+
+// Channel c's own smoothing weight.
+fn smoothing_at(s: Sheet, c: u32) -> Weight
+    ensures { λ r. ⌜ r ≡ smoothingAt s c ⌝ }
+{
+    let h = s.header;
+    if c == 0 {
+        return h.smoothing0;
+    }
+    if c == 1 {
+        return h.smoothing1;
+    }
+    h.smoothing2
+}
+
+// The run of channel c alone: its own smoothing weight and iteration count, but the first data weight.
+pub fn alone_of(s: Sheet, c: u32) -> Run
+    ensures { λ r. ⌜ r ≡ alone s c ⌝ }
+{
+    let h = s.header;
+    let d0 = h.data0;
+    let x = channel_of(line_at(s, c), d0);
+    Run {
+        w: h.width,
+        h: h.height,
+        n: iterations_at(s, c),
+        smoothing: weight_value(smoothing_at(s, c)),
+        count: 1,
+        channels: [x, x, x],
+    }
+}
+
+// Whether the records of both modes are legal.
+fn all_legal(s: Sheet) -> bool
+    ensures { λ r. ⌜ r ≡ allLegal s ⌝ }
+{
+    if !legal(joint_of(s)) {
+        return false;
+    }
+    let h = s.header;
+    let mut ok = true;
+    for c in 0..h.channels {
+        ok = both(ok, legal(alone_of(s, c)));
+    }
+    ok
+}
+
+// 13, 8, 4 and 5, in this order; 0 is no refusal.
+pub fn solve_refusal(s: Sheet, lengths: &[usize], levels: &[i16], tables: &[u16]) -> u8
+    ensures { λ r. ⌜ r ≡ solveRefusal s (now (levels .entry)) (now (tables .entry)) (now (lengths .entry)) ⌝ }
+{
+    if !all_legal(s) {
+        return 13;
+    }
+    record::refusals::start_refusal(joint_of(s), lengths, levels, tables)
+}

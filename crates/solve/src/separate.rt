@@ -1,0 +1,115 @@
+// Separate mode: each channel is a run of its own, on its part of the lent buffers.
+use crate::modes::alone_of;
+use crate::modes::joint_of;
+use crate::whole::run_value;
+use record::Answer;
+use sheet::Sheet;
+ghost use Prim.Native.Nat.{_<_};
+ghost use Rattle.record.specs.Model.{Legal};
+ghost use Rattle.solve.specs.Solve.{six, joint};
+ghost use Rattle.solve.specs.Rounds.{PartsAre, AloneAsks, AloneIs, SeparateAsks, SeparateIs};
+
+// Where channel c's part begins and ends in the lent buffers, in the levels and in the tables.
+struct Parts {
+    from: usize,
+    to: usize,
+    levels_from: usize,
+    levels_to: usize,
+    tables_from: usize,
+    tables_to: usize,
+}
+
+fn parts_of(s: Sheet, c: u32) -> Parts
+    requires { ⌜ Legal (joint s) × (c < s .header .channels) ⌝ }
+    ensures { λ r. ⌜ PartsAre s c (r .from) (r .to) (r .«levels_from») (r .«levels_to») (r .«tables_from») (r .«tables_to») ⌝ }
+{
+    let all = joint_of(s);
+    let span = record::places::span_of(all, c);
+    let l = record::refusals::levels_before(all, c);
+    let m = record::refusals::levels_before(all, c + 1);
+    let t = (c as usize) * 64;
+    Parts {
+        from: span.from,
+        to: span.to,
+        levels_from: l,
+        levels_to: m,
+        tables_from: t,
+        tables_to: t + 64,
+    }
+}
+
+// Channel c's run. Its part of each buffer is lent on to be written.
+fn alone_value(
+    s: Sheet,
+    c: u32,
+    levels: &[i16],
+    tables: &[u16],
+    plane: &mut [f32],
+    prior: &mut [f32],
+    gradient: &mut [f32],
+    across: &mut [f32],
+    down: &mut [f32],
+    saved: &mut [f32],
+) -> Answer
+    requires { ⌜ AloneAsks s c (now levels) (now tables) (six (now plane) (now prior) (now gradient) (now across) (now down) (now saved)) ⌝ }
+    ensures { λ r. ⌜ AloneIs s c (now (levels .entry)) (now (tables .entry))
+        (six (now (plane .entry)) (now (prior .entry)) (now (gradient .entry)) (now (across .entry)) (now (down .entry)) (now (saved .entry))) r
+        (six (now (plane .exit)) (now (prior .exit)) (now (gradient .exit)) (now (across .exit)) (now (down .exit)) (now (saved .exit))) ⌝ }
+{
+    let p = parts_of(s, c);
+    let from = p.from;
+    let to = p.to;
+    let l = p.levels_from;
+    let m = p.levels_to;
+    let t = p.tables_from;
+    let u = p.tables_to;
+    run_value(
+        alone_of(s, c),
+        &levels[l..m],
+        &tables[t..u],
+        &mut plane[from..to],
+        &mut prior[from..to],
+        &mut gradient[from..to],
+        &mut across[from..to],
+        &mut down[from..to],
+        &mut saved[from..to],
+    )
+}
+
+// The channels' runs, from the first to the last. It stops at one that is blown.
+pub fn separate(
+    s: Sheet,
+    levels: &[i16],
+    tables: &[u16],
+    plane: &mut [f32],
+    prior: &mut [f32],
+    gradient: &mut [f32],
+    across: &mut [f32],
+    down: &mut [f32],
+    saved: &mut [f32],
+) -> Answer
+    requires { ⌜ SeparateAsks s (now levels) (now tables) (six (now plane) (now prior) (now gradient) (now across) (now down) (now saved)) ⌝ }
+    ensures { λ r. ⌜ SeparateIs s (now (levels .entry)) (now (tables .entry))
+        (six (now (plane .entry)) (now (prior .entry)) (now (gradient .entry)) (now (across .entry)) (now (down .entry)) (now (saved .entry))) r
+        (six (now (plane .exit)) (now (prior .exit)) (now (gradient .exit)) (now (across .exit)) (now (down .exit)) (now (saved .exit))) ⌝ }
+{
+    let h = s.header;
+    for c in 0..h.channels {
+        let a = alone_value(
+            s,
+            c,
+            levels,
+            tables,
+            plane,
+            prior,
+            gradient,
+            across,
+            down,
+            saved,
+        );
+        let Answer::Done = a else {
+            return a;
+        };
+    }
+    Answer::Done
+}
