@@ -253,7 +253,8 @@ impl Compare {
         let answer = mine.call(job, c);
         let mut other = proved(theirs, job, c);
         self.calls += 1;
-        if self.fault != Fault::None && self.calls % 1009 > 1000 {
+        let rare = matches!(self.fault, Fault::Blown | Fault::Mark);
+        if self.fault != Fault::None && (rare || self.calls % 1009 > 1000) {
             self.plant(theirs, &mut other, job, c);
         }
         self.met(&format!("{kind}: {job:?} answered {answer}"));
