@@ -1,12 +1,12 @@
 #!/bin/sh
-# Builds the proved code as libraries, and compares it with the published Rust and with the oracle's own reader, bit for bit.
+# Builds the proved code as libraries, and compares it with the published Rust and with the oracle's own reader and calls, bit for bit.
 set -eu
 cd "$(dirname "$0")/.."
 rt staticlib probe
 rt staticlib smoother
 cd oracle
 cargo build --release --bins
-for run in arith utils jobs "sheets --compare"; do
+for run in arith utils jobs "sheets --compare" "calls --compare" "calls --faults"; do
     # shellcheck disable=SC2086
     ./target/release/$run
 done

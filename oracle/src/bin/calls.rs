@@ -499,6 +499,7 @@ fn list(count: u64, seed: u64) -> ExitCode {
         if r.one_in(5) {
             damage_lists(&mut r, &mut x, &mut jobs, &mut channels, &mut answers);
             x.buffers.iter_mut().for_each(|b| b.fill(fill));
+            x.levels.iter_mut().for_each(|d| *d = (*d).max(-i16::MAX)); // the program cannot read the least i16
         }
         let lengths: Vec<usize> = x.buffers.iter().map(Vec::len).collect();
         let small = [x.tables.len(), jobs.len(), channels.len(), answers.len()];
