@@ -1,0 +1,149 @@
+/* The spectrogram sheet smoother as a C library: libsmoother.a, made by `rt staticlib smoother`.
+ *
+ *     gcc -std=c11 -Iinclude program.c target/staticlib/libsmoother.a -o program
+ *
+ * Order of work: measure a sheet text, read it into buffers of the measured lengths, fill a run's record from it, start, then the
+ * jobs of each step: push and data of every channel, blend once for all, move and project of every channel.
+ *
+ * Memory. The library allocates nothing, keeps no pointer and has no state: every buffer and the record belong to the caller, who
+ * lends them for the length of a call. So calls on different buffers may be made by different threads.
+ *
+ * What a caller owes, and the library cannot check: each pointer is valid for its length, aligned for its type and not null (also
+ * where the length is 0); nothing that a call writes overlaps anything else that it is lent; `mark` holds 0 or 1, as a C `bool`
+ * always does; the processor rounds f32 to the nearest, ties to even, and keeps subnormals, as it does unless told otherwise.
+ * Everything else is checked: a length, number, level, quantiser, position or weight that is not usable is refused.
+ *
+ * Answers. 0 is done. 1 to 13 is a refusal: nothing that was lent has changed, except `*line` of measure and read. 255 (project
+ * alone) is done, and the channel is now marked blown. */
+#ifndef SMOOTHER_H
+#define SMOOTHER_H
+
+#include <stdbool.h>
+#include <stddef.h>
+#include <stdint.h>
+
+#ifdef __cplusplus
+extern "C" {
+#endif
+
+/* The numbers of the table in document 01. */
+enum smoother_answer {
+    SMOOTHER_OK = 0,
+    SMOOTHER_FORM = 1,     /* a line with a wrong tag, number of fields or spelling, over 1,024 bytes, or in the wrong place */
+    SMOOTHER_SIZE = 2,     /* a side, channel count or iteration count out of range, or a channel larger than the picture */
+    SMOOTHER_FACTOR = 3,   /* an across or down factor that is not 1 to 4 */
+    SMOOTHER_TABLE = 4,    /* a quantiser that is not 1 to 255 */
+    SMOOTHER_LEVEL = 5,    /* a level beyond +-2,047 */
+    SMOOTHER_WEIGHT = 6,   /* a weight with its sign bit set, infinite, not a number, or a whole number above 255 */
+    SMOOTHER_CUT = 7,      /* the text ends early, its last line has no end, or something follows E */
+    SMOOTHER_LENGTH = 8,   /* a lent buffer has another length than the record says */
+    SMOOTHER_TURN = 9,     /* the job is not the channel's next, or for blend not every channel's */
+    SMOOTHER_BLOWN = 10,   /* the channel, or for blend any channel, is marked */
+    SMOOTHER_DONE = 11,    /* the channel, or for blend any channel, has had all its steps */
+    SMOOTHER_CHANNEL = 12, /* there is no such channel */
+    SMOOTHER_RECORD = 13,  /* sizes, factors, weights, iterations, positions or marks of no legal record */
+    SMOOTHER_NOW_BLOWN = 255 /* project: done, and the channel is now marked blown */
+};
+
+/* ---- Reading a sheet text ---- */
+
+/* The largest side limit that measure and read take; the program `smooth` has 32. */
+#define SMOOTHER_LIMIT 512
+
+/* Measures a text of `text_len` bytes. `limit` is the largest full side that is accepted: a multiple of 8, 8 to 512, else 2 at line 0.
+ * 0: *levels and *tables are the lengths that smoother_read needs, *line is 0.
+ * 1 to 7: *line is the line at fault, counted from 1; *levels and *tables are unchanged. */
+uint32_t smoother_measure(const uint8_t *text, size_t text_len, uint32_t limit, size_t *levels, size_t *tables, size_t *line);
+
+/* Where the numbers of a sheet's record stand in `header`: the fields of line S, then own sides and factors of three channels. */
+enum smoother_header {
+    SMOOTHER_AT_W = 0,
+    SMOOTHER_AT_H = 1,
+    SMOOTHER_AT_PICTURE_WIDTH = 2,
+    SMOOTHER_AT_PICTURE_HEIGHT = 3,
+    SMOOTHER_AT_CHANNELS = 4,   /* 1 or 3 */
+    SMOOTHER_AT_JOINT = 5,      /* 1 joint mode, 0 separate */
+    SMOOTHER_AT_ITERATIONS = 6, /* three */
+    SMOOTHER_AT_SMOOTHING = 9,  /* three weights, as the bits of their f32 */
+    SMOOTHER_AT_DATA = 12,      /* three weights, as the bits of their f32 */
+    SMOOTHER_AT_OWN = 15,       /* per channel own width, own height, across factor, down factor; 0 where there is no such channel */
+    SMOOTHER_NUMBERS = 27
+};
+
+/* Reads a text. `levels` and `tables` have the measured lengths, `header` has SMOOTHER_NUMBERS places.
+ * 0: all three are filled, *line is 0. Levels are w x h values a channel, as in the B lines; tables are 64 quantisers a channel.
+ * 1 to 7: as measure answers for this text. 8, with *line 0: the text is legal, a length is wrong. A refusal leaves the three as they were. */
+uint32_t smoother_read(const uint8_t *text, size_t text_len, uint32_t limit, int16_t *levels, size_t levels_len, uint16_t *tables,
+                       size_t tables_len, uint32_t *header, size_t header_len, size_t *line);
+
+/* ---- A run ---- */
+
+/* A channel of the run. */
+struct smoother_channel {
+    uint32_t width;  /* own width w, a multiple of 8; w x across is at most W */
+    uint32_t height; /* own height h */
+    uint32_t across; /* factors, 1 to 4 */
+    uint32_t down;
+    float weight;      /* data weight: finite, sign bit clear */
+    uint32_t position; /* accepted jobs, 0 to 5N; its remainder modulo 5 is the next job's number */
+    bool mark;         /* blown */
+};
+
+/* The run's record. Joint mode is one run of all channels, with the sheet's first iteration count and first smoothing weight, and
+ * each channel's data weight. In separate mode each channel is a run of its own, with its own iteration count and smoothing weight,
+ * but always the first data weight. The places past `count` are not looked at. */
+struct smoother_run {
+    uint32_t w; /* W and H: multiples of 8, 8 to 512 */
+    uint32_t h;
+    uint32_t n;      /* N: steps, 0 to 1,000 */
+    float smoothing; /* smoothing weight: finite, sign bit clear */
+    uint32_t count;  /* channels: 1 or 3 */
+    struct smoother_channel channels[3];
+};
+
+/* The buffers. plane, prior, gradient, across, down and saved have count x W x H values each, channel after channel, row by row; levels
+ * and tables are those of the run's channels, in their order: w x h levels and 64 quantisers a channel. A call is lent those buffers
+ * that it reads or writes, whole. All calls look for 13 first, then 8, then (where levels and tables are lent) 4 and 5 in all
+ * channels, then 12, 10, 11, 9. */
+
+/* A fresh run: plane and prior are the start, saved is level x quantiser, the rest 0; positions become 0, marks are cleared.
+ * Takes any legal record, at any position. 0, 13, 8, 4, 5. */
+uint32_t smoother_start(struct smoother_run *run, const int16_t *levels, size_t levels_len, const uint16_t *tables, size_t tables_len,
+                        float *plane, size_t plane_len, float *prior, size_t prior_len, float *gradient, size_t gradient_len,
+                        float *across, size_t across_len, float *down, size_t down_len, float *saved, size_t saved_len);
+
+/* Job 0 of channel c (from 0): the plane goes on in the direction of its last change. 0, 13, 8, 12, 10, 11, 9. */
+uint32_t smoother_push(struct smoother_run *run, uint32_t c, float *plane, size_t plane_len, float *prior, size_t prior_len);
+
+/* Job 1 of channel c: the gradient of the distance from the levels. 0, 13, 8, 4, 5, 12, 10, 11, 9. */
+uint32_t smoother_data(struct smoother_run *run, uint32_t c, const int16_t *levels, size_t levels_len, const uint16_t *tables,
+                       size_t tables_len, float *gradient, size_t gradient_len, const float *saved, size_t saved_len);
+
+/* Job 2, once for all channels: adds the gradients of both orders. 0, 13, 8, 10, 11, 9. */
+uint32_t smoother_blend(struct smoother_run *run, const float *plane, size_t plane_len, float *gradient, size_t gradient_len,
+                        float *across, size_t across_len, float *down, size_t down_len);
+
+/* Job 3 of channel c: the plane goes down the gradient. 0, 13, 8, 12, 10, 11, 9. */
+uint32_t smoother_move(struct smoother_run *run, uint32_t c, float *plane, size_t plane_len, const float *gradient, size_t gradient_len);
+
+/* Job 4 of channel c: back into the intervals that the levels allow. 0, or 255 where a plane value or saved coefficient is now NaN or
+ * infinite: the job is done, and the channel is marked. 13, 8, 4, 5, 12, 10, 11, 9. */
+uint32_t smoother_project(struct smoother_run *run, uint32_t c, const int16_t *levels, size_t levels_len, const uint16_t *tables,
+                          size_t tables_len, float *plane, size_t plane_len, float *across, size_t across_len, float *down,
+                          size_t down_len, float *saved, size_t saved_len);
+
+/* Starts a fresh run and makes a list of calls: call i is job jobs[i], 0 push to 4 project, of channel channels[i] (not looked at for
+ * blend), and answers[i] becomes its answer, 0, a refusal's number or 255. A refused call changes nothing, and the list goes on.
+ * jobs, channels and answers have one length.
+ * 0: the run was started and every call was made. 13, 8, 4, 5, or 9 for a number that is no job: nothing was done. */
+uint32_t smoother_serve(struct smoother_run *run, const uint8_t *jobs, size_t jobs_len, const uint32_t *channels, size_t channels_len,
+                        uint8_t *answers, size_t answers_len, const int16_t *levels, size_t levels_len, const uint16_t *tables,
+                        size_t tables_len, float *plane, size_t plane_len, float *prior, size_t prior_len, float *gradient,
+                        size_t gradient_len, float *across, size_t across_len, float *down, size_t down_len, float *saved,
+                        size_t saved_len);
+
+#ifdef __cplusplus
+}
+#endif
+
+#endif
