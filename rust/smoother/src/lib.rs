@@ -1,0 +1,23 @@
+//! The proved smoother of spectrogram sheets, behind safe functions. Lengths, channel numbers, positions and the record are checked by the library
+//! itself: a call that can't be made is refused, and changes nothing.
+//!
+//! ```
+//! let text = std::fs::read("../../samples/whole.tsv").expect("the sample");
+//! let sheet = smoother::read(&text, 512)?;
+//! let mut run = sheet.joint_run();
+//! let mut buffers = run.buffers();
+//! smoother::start(&mut run, &sheet.levels, &sheet.tables, &mut buffers)?;
+//! assert!(buffers.plane.iter().all(|x| *x == 1.0 - 2.0_f32.powi(-24)));
+//! # Ok::<(), Box<dyn std::error::Error>>(())
+//! ```
+mod ffi;
+mod refusal;
+mod run;
+mod sheet;
+
+pub use refusal::{Fault, Refusal};
+pub use run::{
+    Answers, Buffers, Channel, Job, Outcome, Run, blend, call, data, move_plane, project, push, serve, serve_numbers,
+    start,
+};
+pub use sheet::{Lengths, NUMBERS, Own, Sheet, measure, read, read_into};

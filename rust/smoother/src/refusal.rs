@@ -1,0 +1,100 @@
+//! Document 01's table of refusals.
+use std::{error::Error, fmt};
+
+/// Why a call was refused. A refused call leaves the record and every buffer as they were.
+#[derive(Clone, Copy, Debug, PartialEq, Eq, Hash)]
+#[repr(u8)]
+pub enum Refusal {
+    Form = 1,
+    Size,
+    Factor,
+    Table,
+    Level,
+    Weight,
+    Cut,
+    Length,
+    Turn,
+    Blown,
+    Done,
+    Channel,
+    Record,
+}
+
+use Refusal::*;
+
+impl Refusal {
+    pub const ALL: [Self; 13] =
+        [Form, Size, Factor, Table, Level, Weight, Cut, Length, Turn, Blown, Done, Channel, Record];
+
+    pub const fn number(self) -> u32 {
+        self as u32
+    }
+
+    pub const fn of_number(number: u32) -> Option<Self> {
+        if number >= 1 && number <= 13 { Some(Self::ALL[number as usize - 1]) } else { None }
+    }
+
+    pub const fn word(self) -> &'static str {
+        match self {
+            Form => "form",
+            Size => "size",
+            Factor => "factor",
+            Table => "table",
+            Level => "level",
+            Weight => "weight",
+            Cut => "cut",
+            Length => "length",
+            Turn => "turn",
+            Blown => "blown",
+            Done => "done",
+            Channel => "channel",
+            Record => "record",
+        }
+    }
+
+    pub const fn plain_words(self) -> &'static str {
+        match self {
+            Form => "a line with a wrong tag, number of fields or spelling, over 1,024 bytes, or in the wrong place",
+            Size => {
+                "a side, channel count or iteration count out of range, or a channel larger than the picture; also a side limit that is none"
+            }
+            Factor => "an across or down factor that isn't 1 to 4",
+            Table => "a quantiser that isn't 1 to 255",
+            Level => "a level beyond ±2,047",
+            Weight => "a weight with its sign bit set, infinite, not a number, or a whole number above 255",
+            Cut => "the text ends early, its last line has no end, or something follows `E`",
+            Length => "a lent buffer has another length than the record says",
+            Turn => "the job isn't the channel's next, or for blend not every channel's",
+            Blown => "the channel's values overflowed in an earlier step",
+            Done => "the channel has had all its steps",
+            Channel => "there is no such channel",
+            Record => "sizes, factors, weights, iterations, positions or marks of no legal record",
+        }
+    }
+}
+
+impl fmt::Display for Refusal {
+    fn fmt(&self, f: &mut fmt::Formatter) -> fmt::Result {
+        write!(f, "{} ({}): {}", self.number(), self.word(), self.plain_words())
+    }
+}
+
+impl Error for Refusal {}
+
+/// A refused text: why, and the line, counted from 1; 0 for a fault that no line has.
+#[derive(Clone, Copy, Debug, PartialEq, Eq, Hash)]
+pub struct Fault {
+    pub refusal: Refusal,
+    pub line: usize,
+}
+
+impl fmt::Display for Fault {
+    fn fmt(&self, f: &mut fmt::Formatter) -> fmt::Result {
+        if self.line > 0 {
+            write!(f, "line {}: ", self.line)?;
+        }
+        self.refusal.fmt(f)
+    }
+}
+
+impl Error for Fault {}

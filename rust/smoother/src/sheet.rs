@@ -1,0 +1,156 @@
+//! Sheet texts: measured, and read into a sheet.
+use crate::{Channel, Fault, Refusal, Run, ffi};
+
+/// Lengths of the levels and tables of a text.
+#[derive(Clone, Copy, Debug, PartialEq, Eq)]
+pub struct Lengths {
+    pub levels: usize,
+    pub tables: usize,
+}
+
+/// A channel's own sides and factors in a sheet.
+#[derive(Clone, Copy, Debug, Default, PartialEq, Eq)]
+pub struct Own {
+    pub width: u32,
+    pub height: u32,
+    pub across: u32,
+    pub down: u32,
+}
+
+/// A sheet that was read: the fields of its `S` line, its channels' own sides and factors, all levels and all tables.
+#[derive(Clone, Debug, PartialEq)]
+pub struct Sheet {
+    pub width: u32,
+    pub height: u32,
+    pub picture_width: u32,
+    pub picture_height: u32,
+    /// Channels, 1 or 3.
+    pub count: u32,
+    pub joint: bool,
+    pub iterations: [u32; 3],
+    pub smoothing: [f32; 3],
+    pub data: [f32; 3],
+    /// Zeros past `count`.
+    pub own: [Own; 3],
+    pub levels: Vec<i16>,
+    pub tables: Vec<u16>,
+}
+
+/// Numbers of a sheet's record.
+pub const NUMBERS: usize = 27;
+
+fn told(number: u32, line: usize) -> Result<(), Fault> {
+    match Refusal::of_number(number) {
+        None => Ok(()),
+        Some(refusal) => Err(Fault { refusal, line }),
+    }
+}
+
+/// The lengths that a legal text needs; for any other, what `read` refuses it for. `limit` is the largest full side: a multiple of 8, 8 to 512.
+pub fn measure(text: &[u8], limit: u32) -> Result<Lengths, Fault> {
+    let (mut levels, mut tables, mut line) = (0, 0, 0);
+    // SAFETY: pointer and length are of one slice, the other three are references to locals.
+    let number =
+        unsafe { ffi::smoother_measure(text.as_ptr(), text.len(), limit, &mut levels, &mut tables, &mut line) };
+    told(number, line).map(|()| Lengths { levels, tables })
+}
+
+/// Reads a text into lent buffers: `levels` and `tables` of the measured lengths, and `header` of 27 places, for the fields of line `S` (mode 1
+/// joint, 0 separate; weights as f32 bits), then own sides and factors of three channels.
+pub fn read_into(
+    text: &[u8],
+    limit: u32,
+    levels: &mut [i16],
+    tables: &mut [u16],
+    header: &mut [u32],
+) -> Result<(), Fault> {
+    let mut line = 0;
+    // SAFETY: each pointer and length are of one slice, and the slices do not overlap.
+    let number = unsafe {
+        ffi::smoother_read(
+            text.as_ptr(),
+            text.len(),
+            limit,
+            levels.as_mut_ptr(),
+            levels.len(),
+            tables.as_mut_ptr(),
+            tables.len(),
+            header.as_mut_ptr(),
+            header.len(),
+            &mut line,
+        )
+    };
+    told(number, line)
+}
+
+/// Reads a text.
+pub fn read(text: &[u8], limit: u32) -> Result<Sheet, Fault> {
+    let lengths = measure(text, limit)?;
+    let (mut levels, mut tables, mut n) = (vec![0; lengths.levels], vec![0; lengths.tables], [0; NUMBERS]);
+    read_into(text, limit, &mut levels, &mut tables, &mut n)?;
+    let three = |at: usize| [n[at], n[at + 1], n[at + 2]];
+    let own = |at: usize| Own { width: n[at], height: n[at + 1], across: n[at + 2], down: n[at + 3] };
+    Ok(Sheet {
+        width: n[0],
+        height: n[1],
+        picture_width: n[2],
+        picture_height: n[3],
+        count: n[4],
+        joint: n[5] == 1,
+        iterations: three(6),
+        smoothing: three(9).map(f32::from_bits),
+        data: three(12).map(f32::from_bits),
+        own: [own(15), own(19), own(23)],
+        levels,
+        tables,
+    })
+}
+
+impl Own {
+    /// The channel at position 0, unmarked, with this data weight.
+    pub fn channel(self, weight: f32) -> Channel {
+        let Self { width, height, across, down } = self;
+        Channel { width, height, across, down, weight, position: 0, mark: false }
+    }
+
+    fn area(self) -> usize {
+        self.width as usize * self.height as usize
+    }
+}
+
+impl Sheet {
+    /// The record of the run of all channels: the first iteration count, the first smoothing weight and each channel's data weight.
+    pub fn joint_run(&self) -> Run {
+        let channels = std::array::from_fn(|c| self.own[c].channel(self.data[c]));
+        Run { count: self.count, ..self.run(0, channels) }
+    }
+
+    /// The record of channel `c` alone: its iteration count, its smoothing weight, and always the first data weight.
+    ///
+    /// # Panics
+    /// Where `c` isn't below 3.
+    pub fn separate_run(&self, c: usize) -> Run {
+        self.run(c, [self.own[c].channel(self.data[0]), Channel::default(), Channel::default()])
+    }
+
+    fn run(&self, c: usize, channels: [Channel; 3]) -> Run {
+        Run { w: self.width, h: self.height, n: self.iterations[c], smoothing: self.smoothing[c], count: 1, channels }
+    }
+
+    /// Levels of channel `c`.
+    ///
+    /// # Panics
+    /// Where `c` isn't below 3.
+    pub fn levels_of(&self, c: usize) -> &[i16] {
+        let before: usize = self.own[..c].iter().map(|own| own.area()).sum();
+        &self.levels[before..before + self.own[c].area()]
+    }
+
+    /// Quantisers of channel `c`.
+    ///
+    /// # Panics
+    /// Where the sheet has no channel `c`.
+    pub fn table_of(&self, c: usize) -> &[u16] {
+        &self.tables[64 * c..][..64]
+    }
+}

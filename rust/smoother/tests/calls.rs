@@ -1,0 +1,313 @@
+//! Expected values are document 01's, or come from doing the same another way.
+use smoother::*;
+use std::mem::{offset_of, size_of};
+
+fn tabs(line: &str) -> String {
+    line.replace(' ', "\t") + "\n"
+}
+
+fn channel_lines(
+    w: u32,
+    h: u32,
+    across: u32,
+    down: u32,
+    q: impl Fn(u32) -> u32,
+    level: impl Fn(u32, u32) -> i32,
+) -> String {
+    let table: String = (0..64).map(|i| format!(" {}", q(i))).collect();
+    let block = |k: u32| (0..64).map(|i| format!(" {}", level(k, i))).collect::<String>();
+    let blocks: String = (0..w * h / 64).map(|k| tabs(&format!("B{}", block(k)))).collect();
+    tabs(&format!("C {w} {h} {across} {down}{table}")) + &blocks
+}
+
+/// Document 01's whole example.
+fn whole() -> String {
+    let level = |_, i| i32::from(i == 0);
+    tabs("S 8 8 2 1 1 s 0 0 0 w0 w0 w0 w0 w0 w0") + &channel_lines(8, 8, 1, 1, |_| 8, level) + "E\n"
+}
+
+/// Three channels, the last two with factors.
+fn joint(n: u32, data: &str) -> String {
+    let level = |k, i| [3, -7, 2, 0, 0, 1][((k * 5 + i * 7) % 6) as usize] * i32::from(i < 20);
+    tabs(&format!("S 16 16 13 9 3 j {n} 0 0 h3e99999a w1 w1 {data}"))
+        + &channel_lines(16, 16, 1, 1, |i| 3 + i, level)
+        + &channel_lines(8, 8, 2, 2, |i| 5 + i, level)
+        + &channel_lines(8, 16, 2, 1, |i| 9 + 2 * i, level)
+        + "E\n"
+}
+
+fn sheet_of(text: &str) -> Sheet {
+    read(text.as_bytes(), 512).expect("legal")
+}
+
+/// The joint run, started.
+fn started(sheet: &Sheet) -> (Run, Buffers) {
+    let mut run = sheet.joint_run();
+    let mut b = run.buffers();
+    assert_eq!(start(&mut run, &sheet.levels, &sheet.tables, &mut b), Ok(Outcome::Done));
+    (run, b)
+}
+
+fn bits(b: &Buffers) -> Vec<Vec<u32>> {
+    let all = [&b.plane, &b.prior, &b.gradient, &b.across, &b.down, &b.saved];
+    all.map(|values| values.iter().map(|x| x.to_bits()).collect()).into()
+}
+
+/// One step's calls, in order.
+fn step(channels: u32) -> Vec<(Job, u32)> {
+    let each = |job| (0..channels).map(move |c| (job, c));
+    let first = each(Job::Push).chain(each(Job::Data)).chain([(Job::Blend, 0)]);
+    first.chain(each(Job::Move)).chain(each(Job::Project)).collect()
+}
+
+/// Makes a call that has to be refused and has to leave everything as it was.
+fn refused(
+    why: Refusal,
+    run: &mut Run,
+    b: &mut Buffers,
+    f: impl FnOnce(&mut Run, &mut Buffers) -> Result<Outcome, Refusal>,
+) {
+    let (run_before, before) = (*run, bits(b));
+    assert_eq!(f(run, b), Err(why));
+    assert_eq!((*run, bits(b)), (run_before, before));
+}
+
+#[test]
+fn layout() {
+    assert_eq!((size_of::<Channel>(), size_of::<Run>()), (28, 104));
+    assert_eq!((offset_of!(Channel, weight), offset_of!(Channel, mark), offset_of!(Run, channels)), (16, 24, 20));
+}
+
+#[test]
+fn whole_example_read_and_started() {
+    let text = whole();
+    assert_eq!(measure(text.as_bytes(), 512), Ok(Lengths { levels: 64, tables: 64 }));
+    let sheet = sheet_of(&text);
+    let mut levels = vec![0; 64];
+    levels[0] = 1;
+    let own = Own { width: 8, height: 8, across: 1, down: 1 };
+    let due = Sheet {
+        width: 8,
+        height: 8,
+        picture_width: 2,
+        picture_height: 1,
+        count: 1,
+        joint: false,
+        iterations: [0; 3],
+        smoothing: [0.0; 3],
+        data: [0.0; 3],
+        own: [own, Own::default(), Own::default()],
+        levels,
+        tables: vec![8; 64],
+    };
+    assert_eq!(sheet, due);
+    for mut run in [sheet.joint_run(), sheet.separate_run(0)] {
+        let mut b = run.buffers();
+        assert_eq!(start(&mut run, &sheet.levels, &sheet.tables, &mut b), Ok(Outcome::Done));
+        assert_eq!(b.plane, [1.0 - 2.0_f32.powi(-24); 64]);
+        assert_eq!(b.prior, b.plane);
+        let mut saved = [0.0; 64];
+        saved[0] = 8.0; // level × quantiser
+        assert_eq!(b.saved, saved);
+    }
+}
+
+#[test]
+fn start_is_reordered_repeatedly() {
+    let level = |k, i| i32::from(k == 0 && i == 0);
+    let text = tabs("S 16 8 16 8 1 j 0 0 0 w0 w0 w0 w0 w0 w0") + &channel_lines(16, 8, 1, 1, |_| 8, level) + "E\n";
+    let (_, b) = started(&sheet_of(&text));
+    for (i, x) in b.plane.iter().enumerate() {
+        let (row, column) = (i / 16, i % 16);
+        assert_eq!(*x, if row % 2 == 0 && column < 8 { 1.0 - 2.0_f32.powi(-24) } else { 0.0 });
+    }
+}
+
+#[test]
+fn texts_refused() {
+    let edit = |old: &str, new: &str| whole().replacen(&tabs(old).replace('\n', ""), &tabs(new).replace('\n', ""), 1);
+    let fault = |refusal, line| Some(Fault { refusal, line });
+    let cases = [
+        (edit("S 8 8", "S 8 x"), 512, fault(Refusal::Form, 1)),
+        (edit("S 8 8", "S 512 8"), 512, None),
+        (edit("S 8 8", "S 520 8"), 512, fault(Refusal::Size, 1)),
+        (edit("S 8 8", "S 40 8"), 32, fault(Refusal::Size, 1)),
+        (whole(), 12, fault(Refusal::Size, 0)),
+        (edit("C 8 8 1 1", "C 8 8 5 1"), 512, fault(Refusal::Factor, 2)),
+        (edit("1 1 8", "1 1 255"), 512, None),
+        (edit("1 1 8", "1 1 256"), 512, fault(Refusal::Table, 2)),
+        (edit("B 1", "B -2047"), 512, None),
+        (edit("B 1", "B -2048"), 512, fault(Refusal::Level, 3)),
+        (edit("w0 w0", "w0 h80000000"), 512, fault(Refusal::Weight, 1)),
+        (whole() + "x", 512, fault(Refusal::Cut, 5)),
+        (String::new(), 512, fault(Refusal::Cut, 1)),
+    ];
+    for (text, limit, due) in cases {
+        assert_eq!(read(text.as_bytes(), limit).err(), due, "{text}");
+        assert_eq!(measure(text.as_bytes(), limit).err(), due, "{text}");
+    }
+}
+
+#[test]
+fn reading_into_wrong_lengths() {
+    for (n, m, k) in [(63, 64, 27), (64, 65, 27), (64, 64, 26), (0, 0, 0)] {
+        let (mut levels, mut tables, mut header) = (vec![7; n], vec![7; m], vec![7; k]);
+        let due = Err(Fault { refusal: Refusal::Length, line: 0 });
+        assert_eq!(read_into(whole().as_bytes(), 512, &mut levels, &mut tables, &mut header), due);
+        assert!(levels.iter().all(|x| *x == 7) && tables.iter().all(|x| *x == 7) && header.iter().all(|x| *x == 7));
+    }
+}
+
+#[test]
+fn table_of_refusals() {
+    for (i, refusal) in Refusal::ALL.into_iter().enumerate() {
+        assert_eq!(refusal.number() as usize, i + 1);
+        assert_eq!(Refusal::of_number(refusal.number()), Some(refusal));
+    }
+    assert_eq!([0, 14, 255].map(Refusal::of_number), [None; 3]);
+    let words = [
+        "form", "size", "factor", "table", "level", "weight", "cut", "length", "turn", "blown", "done", "channel",
+        "record",
+    ];
+    assert_eq!(Refusal::ALL.map(Refusal::word), words);
+}
+
+#[test]
+fn calls_refused() {
+    let sheet = sheet_of(&joint(2, "w0 w1 w2"));
+    let (levels, tables) = (&sheet.levels, &sheet.tables);
+    let (mut run, mut b) = started(&sheet);
+    // 8: one value short, in each call
+    let mut short = b.clone();
+    short.plane.pop();
+    short.saved.pop();
+    refused(Refusal::Length, &mut run, &mut short, |run, b| push(run, 0, b));
+    refused(Refusal::Length, &mut run, &mut short, |run, b| data(run, 0, levels, tables, b));
+    refused(Refusal::Length, &mut run, &mut short, blend);
+    refused(Refusal::Length, &mut run, &mut short, |run, b| move_plane(run, 0, b));
+    refused(Refusal::Length, &mut run, &mut short, |run, b| project(run, 0, levels, tables, b));
+    refused(Refusal::Length, &mut run, &mut short, |run, b| start(run, levels, tables, b));
+    refused(Refusal::Length, &mut run, &mut b, |run, b| start(run, &levels[1..], tables, b));
+    refused(Refusal::Length, &mut run, &mut b, |run, b| data(run, 0, levels, &tables[1..], b));
+    // 4 and 5, in a channel that the call does not name; 4 first
+    let (mut bad_levels, mut bad_tables) = (levels.clone(), tables.clone());
+    *bad_levels.last_mut().expect("some") = 2048;
+    *bad_tables.last_mut().expect("some") = 256;
+    refused(Refusal::Table, &mut run, &mut b, |run, b| data(run, 0, &bad_levels, &bad_tables, b));
+    refused(Refusal::Level, &mut run, &mut b, |run, b| data(run, 0, &bad_levels, tables, b));
+    refused(Refusal::Level, &mut run, &mut b, |run, b| start(run, &bad_levels, tables, b));
+    // 12, 9
+    refused(Refusal::Channel, &mut run, &mut b, |run, b| push(run, 3, b));
+    refused(Refusal::Channel, &mut run, &mut b, |run, b| project(run, u32::MAX, levels, tables, b));
+    refused(Refusal::Turn, &mut run, &mut b, |run, b| data(run, 0, levels, tables, b));
+    refused(Refusal::Turn, &mut run, &mut b, blend);
+    assert_eq!(push(&mut run, 1, &mut b), Ok(Outcome::Done));
+    assert_eq!(run.channels.map(|c| c.position), [0, 1, 0]);
+    refused(Refusal::Turn, &mut run, &mut b, |run, b| push(run, 1, b));
+    // 13 before all others
+    let legal = run;
+    let edits: [fn(&mut Run); 9] = [
+        |run| run.w = 12,
+        |run| run.h = 520,
+        |run| run.n = 1001,
+        |run| run.smoothing = -0.0,
+        |run| run.count = 2,
+        |run| run.channels[2].across = 5,
+        |run| run.channels[2].width = 16,
+        |run| run.channels[1].mark = true,
+        |run| run.channels[1].position = 11,
+    ];
+    for edit in edits {
+        edit(&mut run);
+        refused(Refusal::Record, &mut run, &mut b, |run, b| push(run, 3, b));
+        refused(Refusal::Record, &mut run, &mut b, |run, b| start(run, levels, tables, b));
+        run = legal;
+    }
+    // 11 at the end
+    assert_eq!(start(&mut run, levels, tables, &mut b), Ok(Outcome::Done));
+    for (job, c) in step(3).repeat(2) {
+        assert_eq!(call(&mut run, job, c, levels, tables, &mut b), Ok(Outcome::Done));
+    }
+    assert_eq!(run.channels.map(|c| c.position), [10; 3]);
+    for (job, c) in step(3) {
+        refused(Refusal::Done, &mut run, &mut b, |run, b| call(run, job, c, levels, tables, b));
+    }
+}
+
+#[test]
+fn huge_data_weight_blows_in_step_1() {
+    let text = whole().replacen(
+        &tabs("s 0 0 0 w0 w0 w0 w0").replace('\n', ""),
+        &tabs("s 1 0 0 w0 w0 w0 h7f000000").replace('\n', ""),
+        1,
+    );
+    let sheet = sheet_of(&text);
+    let (levels, tables) = (&sheet.levels, &sheet.tables);
+    let (mut run, mut b) = started(&sheet);
+    for (job, c) in step(1) {
+        let due = if job == Job::Project { Outcome::Blown } else { Outcome::Done };
+        assert_eq!(call(&mut run, job, c, levels, tables, &mut b), Ok(due));
+    }
+    assert!(run.channels[0].mark && b.plane.iter().chain(&b.saved[..64]).any(|x| !x.is_finite()));
+    refused(Refusal::Blown, &mut run, &mut b, |run, b| push(run, 0, b));
+    refused(Refusal::Blown, &mut run, &mut b, blend);
+    assert_eq!(start(&mut run, levels, tables, &mut b), Ok(Outcome::Done));
+    assert_eq!((run, b), started(&sheet));
+}
+
+#[test]
+fn calls_and_a_served_list_agree() {
+    let sheet = sheet_of(&joint(7, "h3a83126f w0 w1"));
+    let (levels, tables) = (&sheet.levels, &sheet.tables);
+    // every step, with calls out of turn, of no channel and past the end among them
+    let mut calls = step(3).repeat(7);
+    for (at, job, c) in [(0, Job::Data, 0), (3, Job::Push, 9), (20, Job::Blend, 1), (41, Job::Project, 2)] {
+        calls.insert(at, (job, c));
+    }
+    calls.extend(step(3));
+    let (mut run, mut b) = started(&sheet);
+    let one_by_one: Answers = calls.iter().map(|(job, c)| call(&mut run, *job, *c, levels, tables, &mut b)).collect();
+    let mut served = sheet.joint_run();
+    let mut buffers = served.buffers();
+    assert_eq!(serve(&mut served, &calls, levels, tables, &mut buffers), Ok(one_by_one.clone()));
+    assert_eq!((served, bits(&buffers)), (run, bits(&b)));
+    assert_eq!(run.channels.map(|c| c.position), [35; 3]);
+    assert_eq!(one_by_one.iter().filter(|answer| answer.is_ok()).count(), 7 * 13);
+    let seen = |why| one_by_one.contains(&Err(why));
+    assert!(seen(Refusal::Turn) && seen(Refusal::Channel) && seen(Refusal::Done));
+    let (_, fresh) = started(&sheet);
+    assert_ne!(bits(&b), bits(&fresh));
+}
+
+#[test]
+fn a_list_refused() {
+    let sheet = sheet_of(&joint(1, "w0 w0 w0"));
+    let (levels, tables) = (&sheet.levels, &sheet.tables);
+    let (mut run, mut b) = started(&sheet);
+    let mut answers = [7; 2];
+    for (jobs, channels, why) in
+        [(&[0, 5][..], &[0, 0][..], Refusal::Turn), (&[0], &[0, 0], Refusal::Length), (&[0, 0], &[0], Refusal::Length)]
+    {
+        refused(why, &mut run, &mut b, |run, b| {
+            serve_numbers(run, jobs, channels, &mut answers, levels, tables, b).map(|()| Outcome::Done)
+        });
+        assert_eq!(answers, [7; 2]);
+    }
+}
+
+#[test]
+fn separate_runs_of_a_sheet() {
+    let sheet = sheet_of(&joint(2, "w3 w4 w5"));
+    let run = sheet.separate_run(1);
+    assert_eq!((run.count, run.n, run.smoothing, run.channels[0].weight), (1, 0, 1.0, 3.0));
+    assert_eq!(sheet.joint_run().channels.map(|c| c.weight), [3.0, 4.0, 5.0]);
+    // the starts of the channels alone are the parts of the joint start
+    let (_, joint) = started(&sheet);
+    for c in 0..3 {
+        let mut run = sheet.separate_run(c);
+        let mut b = run.buffers();
+        assert_eq!(start(&mut run, sheet.levels_of(c), sheet.table_of(c), &mut b), Ok(Outcome::Done));
+        assert_eq!(b.plane, joint.plane[c * 256..][..256]);
+        assert_eq!(b.saved, joint.saved[c * 256..][..256]);
+    }
+}
