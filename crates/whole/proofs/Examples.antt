@@ -1,0 +1,112 @@
+-- Document 01's whole example, and the empty text, printed by computation.
+use Prim.Native.Nat.{ℕ, zero, suc}
+use Prim.Native.Char.{code}
+use Prim.Native.String.{String, len, charAt}
+use mathlib.Core.Path.{_≡_, refl, ap, _∙_}
+use mathlib.Core.List.{List, [], _∷_, _++_}
+use mathlib.Core.Bool.{Bool, false, cond}
+use lib.ListN.{replicate}
+use lib.IntN.{ℤ, pos}
+use lib.Count.{trailingZeros}
+use lib.Ieee.{binary32, add, sub, mul, div, sum, round, units, odd, size, span, climb, ofBits, ofFields, neg, ne, eq, lt, ofInt}
+use Rattle.fold.specs.Fold.{upto}
+use Rattle.float.specs.Ops.{mulAdd, product, clamp}
+use Rattle.utils.specs.Blocks.{fromBlocks}
+use Rattle.utils.specs.Dct.{onLine, idct8, idct8x8}
+use Rattle.utils.specs.Auxiliary.{upsamplePixels}
+use Rattle.interval.specs.Interval.{dequantised}
+use Rattle.scalar.specs.Coef.{dequantise, imageBlock, imageData, initDctTarget}
+use Rattle.scalar.specs.Auxiliary.{initPixels, auxInit}
+use Rattle.calls.specs.Jobs.{fixed}
+use Rattle.demand.specs.Solver.{coefOf}
+use Rattle.text.specs.declared.weight.Weight.the-variants as weight
+use Rattle.text.specs.Numbers.{numberOf, numberAt}
+use Rattle.text.specs.Weights.{bitForm, weightOf, weightAt}
+use Rattle.text.specs.Levels.{levelOf}
+use Rattle.text.specs.Fields.{fieldOf}
+use Rattle.text.specs.Written.{decimal}
+use Rattle.sheet.specs.declared.Sheet.{Sheet}
+use Rattle.sheet.specs.Lines.{rulesOf, fieldsFault, headerOf, channelOf, recordOf, noChannel}
+use Rattle.sheet.specs.Reading.{contents, blank, expectedTag, takenOf, lineFault, readText}
+use Rattle.solve.specs.Solve.{joint, alone, planeOf, runBlows, planes, blows}
+use Rattle.picture.specs.Finish as Finish
+use Rattle.output.specs.Output as Output
+use Rattle.output.specs.Output.{pictureText, refusalText}
+use Rattle.whole.specs.Printed.{painted, sheetText, says, printed}
+
+-- the bytes of a text
+abbrev bytesFrom : String → ℕ → ℕ → List ℕ
+bytesFrom s i zero = []
+bytesFrom s i (suc n) = code (charAt s i) ∷ bytesFrom s (suc i) n
+
+abbrev b : String → List ℕ
+b s = bytesFrom s 0 (len s)
+
+abbrev times : ℕ → List ℕ → List ℕ
+times zero xs = []
+times (suc n) xs = xs ++ times n xs
+
+-- "Whole, with a tab for each space: lines `S 8 8 2 1 1 s 0 0 0 w0 w0 w0 w0 w0 w0`; `C 8 8 1 1` and 64 times `8`; `B 1` and 63 times `0`; `E`"
+abbrev example : List ℕ
+example =
+    b "S\t8\t8\t2\t1\t1\ts\t0\t0\t0\tw0\tw0\tw0\tw0\tw0\tw0\nC\t8\t8\t1\t1" ++ (times 64 (b "\t8") ++ (b "\nB\t1" ++ (times 63 (b "\t0") ++ b "\nE\n")))
+
+abbrev sheet : Sheet
+sheet =
+    record {
+      header = record {
+        width = 8;
+        height = 8;
+        «picture_width» = 2;
+        «picture_height» = 1;
+        channels = 1;
+        joint = false;
+        iterations0 = 0;
+        iterations1 = 0;
+        iterations2 = 0;
+        smoothing0 = weight.Whole 0;
+        smoothing1 = weight.Whole 0;
+        smoothing2 = weight.Whole 0;
+        data0 = weight.Whole 0;
+        data1 = weight.Whole 0;
+        data2 = weight.Whole 0;
+      };
+      first = record { width = 8; height = 8; across = 1; down = 1 };
+      second = noChannel;
+      third = noChannel;
+    }
+
+abbrev levels : List ℤ
+levels = pos 1 ∷ replicate 63 (pos 0)
+
+abbrev tables : List ℕ
+tables = replicate 64 8
+
+reads : readText 32 example ≡ contents sheet levels tables
+unfolding readText blank expectedTag takenOf recordOf headerOf channelOf lineFault fieldsFault rulesOf numberAt weightAt numberOf bitForm weightOf levelOf fieldOf
+reads = refl
+
+-- N = 0: the unprojected start, "all 64 are v = 1 − 2⁻²⁴, not 1"
+start : planes sheet levels tables ≡ replicate 64 (ofBits binary32 0x3f7fffff)
+unfolding planes planeOf fixed coefOf joint alone auxInit initPixels imageData imageBlock initDctTarget dequantise dequantised idct8x8 onLine idct8 fromBlocks upsamplePixels upto trailingZeros add sub mul div sum round units odd size span climb ofBits ofFields neg ne eq lt ofInt mulAdd product clamp
+start = refl
+
+kept : blows sheet levels tables ≡ false
+unfolding blows runBlows alone
+kept = refl
+
+grey : painted (sheet .header) (replicate 64 (ofBits binary32 0x3f7fffff)) ≡ b "I\t2\t1\nR\t818181\t818181\n"
+unfolding painted pictureText Output.each Finish.pixel upto
+grey = refl
+
+-- "`smooth` prints two lines, `I` tab `2` tab `1`, then `R` tab `818181` tab `818181`"
+pub whole-example : printed example ≡ b "I\t2\t1\nR\t818181\t818181\n"
+unfolding printed says sheetText
+whole-example =
+    ap says reads ∙ ap (λ (x : Bool). cond x (refusalText 10 0) (painted (sheet .header) (planes sheet levels tables))) kept
+    ∙ ap (painted (sheet .header)) start ∙ grey
+
+-- "For 7 it is the unended line, the one after the last when `E` is missing": no line at all
+pub empty-text : printed [] ≡ b "X\t7\t1\n"
+unfolding printed says readText blank expectedTag takenOf recordOf headerOf channelOf lineFault fieldsFault rulesOf numberAt weightAt numberOf bitForm weightOf levelOf fieldOf refusalText decimal
+empty-text = refl

@@ -1,0 +1,223 @@
+-- From what each call promises to the text that is printed.
+use mathlib.Core.Path.{_≡_, refl, sym, ap, _∙_, subst}
+use mathlib.Core.Logic.{⊎-elim}
+use mathlib.Core.Bool.{Bool, true, false}
+use mathlib.Core.List.{List, [], _∷_}
+use Prim.Native.Nat.{ℕ, zero, suc, _+_, _-_, _*_, _≤_}
+use native.Mathlib.Nat.{suc-mul}
+use native.Mathlib.Omega.{arith}
+use denote.Enum.Declared.{tagOf}
+use types.Run.{OneOf}
+use borrow.Author.Tests.{eq-eqb, le-leb}
+use lib.Dec.{T, eqb}
+use lib.IntN.{ℤ}
+use lib.Ieee.{Float}
+use lib.Ieee.Fits.{and-i, eq→eqb}
+use lib.ListN.{length, take}
+use lib.Seq.{length-take-le}
+use Rattle.sheet.specs.declared.Header.{Header}
+use Rattle.sheet.specs.declared.Sheet.{Sheet}
+use Rattle.sheet.specs.declared.Measured.{Measured}
+use Rattle.sheet.specs.declared.Measured.the-variants as measured
+use Rattle.sheet.specs.declared.Answer as Read
+use Rattle.sheet.specs.declared.Answer.the-variants as read
+use Rattle.sheet.specs.Legal.{LegalHeader, LegalSheet, channelAt, levelsTo}
+use Rattle.sheet.specs.Reading.{Outcome, Contents, contents, readText}
+use Rattle.sheet.specs.Reading.Outcome.{Gives, Refused}
+use Rattle.sheet.specs.Calls.{Lengths, measuredSays, answerSays, lengthsOf, measuring, fitted, sheetIn, levelsAfter, tablesAfter, Reads}
+use Rattle.sheet.proofs.LegalLaws.{legal}
+use Rattle.sheet.proofs.PrefixLaws.{decides, decisive-32}
+use Rattle.scalar.specs.Buffers.{Buffers}
+use Rattle.calls.specs.Buffers.{Name, Plane, Prior, Gradient, Across, Down, Saved, get, Sized}
+use Rattle.calls.specs.Calls.{all, allSix, lengths}
+use Rattle.record.specs.declared.Answer.{Answer}
+use Rattle.record.specs.declared.Answer.the-variants as answer
+use Rattle.record.proofs.Answer.{the-type}
+use Rattle.solve.specs.Solve.{planes, blows, Ends, SolveIs}
+use Rattle.picture.specs.Finish as Finish
+use Rattle.picture.proofs.Pixels.{picture-length}
+use Rattle.output.specs.Output.{Wrote, pictureInto, refusalText, refusalInto}
+use Rattle.output.proofs.Fronts.{wrote-as}
+use Rattle.whole.specs.Printed.{painted, sheetText, says, printed, mostPrinted, printedInto, SixLong}
+use Rattle.whole.proofs.Accepts.{at-most, accepts}
+use Rattle.whole.proofs.Lines.{LineTo, line-bound}
+use Rattle.whole.proofs.Sizes.{product, values-small, finished, written, refused}
+
+-- ---- paint_with: what finish leaves, written out
+
+pub paints : (h : Header) → LegalHeader 32 h → (ps : List Float) → length ps ≡ h .channels * (h .width * h .height)
+    → (rgb rgb′ : List ℕ) → length rgb ≡ 3 * (h .«picture_width» * h .«picture_height») → (t : Finish.Told)
+    → record { answer = t; bytes = rgb′ } ≡ Finish.finishing (h .width) (h .height) (h .«picture_width») (h .«picture_height») (h .channels) ps rgb
+    → (out : List ℕ) (r : ℕ) (out′ : List ℕ) → mostPrinted ≤ length out
+    → Wrote 0 (pictureInto (h .«picture_width») (h .«picture_height») rgb′ (length out)) out r out′ → Wrote 0 (painted h ps) out r out′
+paints h l ps long rgb rgb′ room t e out r out′ m w =
+    let is : rgb′ ≡ Finish.picture (h .width) (h .height) (h .«picture_width») (h .«picture_height») (h .channels) ps =
+    ap (λ (o : Finish.Outcome). o .bytes) (e ∙ finished h l ps long rgb room) in
+    wrote-as
+    (written h l ps rgb′ (length out) is (ap length is ∙ picture-length (h .width) (h .height) (h .«picture_width») (h .«picture_height») (h .channels) ps) m)
+    w
+
+-- ---- solved_with: how solving a legal sheet ends
+
+all-sized : (m : ℕ) (B : Buffers) → Sized m B → (names : List Name) → T (all (λ n. eqb n m) (lengths names B))
+all-sized m B h [] = tt
+all-sized m B h (b ∷ bs) = and-i (eqb (length (get b B)) m) (all (λ n. eqb n m) (lengths bs B)) (eq→eqb (h b)) (all-sized m B h bs)
+
+module _ (S : Sheet) (ls : List ℤ) (ts : List ℕ) (l : LegalSheet 32 S ls ts) (B : Buffers)
+    (long : SixLong (S .header) (B .plane) (B .prior) (B .gradient) (B .across) (B .down) (B .saved)) (a : Answer) (B′ : Buffers) (said : SolveIs S ls ts B a B′) where
+  abbrev size : ℕ
+  size = S .header .channels * (S .header .width * S .header .height)
+
+  sized : Sized size B
+  sized Plane = long .0
+  sized Prior = long .1
+  sized Gradient = long .2
+  sized Across = long .3
+  sized Down = long .4
+  sized Saved = long .5
+
+  ended : Ends 0 (blows S ls ts) (planes S ls ts) B a B′
+  ended = subst (λ (n : ℕ). Ends n (blows S ls ts) (planes S ls ts) B a B′) (accepts 32 S ls ts l (lengths allSix B) (all-sized size B sized allSix)) said
+
+  -- done: it did not blow, and the planes are there
+  module _ (one : OneOf (1 ∷ []) (tagOf the-type a)) where
+    not-blown : (b : Bool) → Ends 0 b (planes S ls ts) B a B′ → (b ≡ false) × (B′ .plane ≡ planes S ls ts) × (length (B′ .plane) ≡ size)
+    not-blown true e = absurd (no a (e .0) one)
+      where
+        no : (a : Answer) → a ≡ answer.Refused 10 → OneOf (1 ∷ []) (tagOf the-type a) → ⊥
+        no (answer.Refused m) e one = omega arith
+        no answer.Done e one = let z : _≡_ {A = ℕ} 0 1 = cc in omega arith
+        no answer.Blown e one = let z : _≡_ {A = ℕ} 0 1 = cc in omega arith
+    not-blown false e = (refl, e .1, e .2 Plane ∙ sized Plane)
+
+    pub done-long : length (B′ .plane) ≡ size
+    done-long = not-blown (blows S ls ts) ended .2
+
+    pub done-text : (out : List ℕ) (r : ℕ) (out′ : List ℕ) → Wrote 0 (painted (S .header) (B′ .plane)) out r out′ → Wrote 0 (sheetText S ls ts) out r out′
+    unfolding sheetText
+    done-text out r out′ w =
+        let d = not-blown (blows S ls ts) ended in
+        rw (d .0) (wrote-as (ap (painted (S .header)) (d .1)) w)
+
+  -- any other answer: it blew
+  module _ (other : OneOf (0 ∷ 2 ∷ []) (tagOf the-type a)) where
+    blown : (b : Bool) → Ends 0 b (planes S ls ts) B a B′ → b ≡ true
+    blown true e = refl
+    blown false e = absurd (no a (e .0) other)
+      where
+        no : (a : Answer) → a ≡ answer.Done → OneOf (0 ∷ 2 ∷ []) (tagOf the-type a) → ⊥
+        no (answer.Refused m) e one = let z : _≡_ {A = ℕ} 0 1 = cc in omega arith
+        no answer.Done e one = ⊎-elim (λ e. omega arith) (λ e. omega arith) one
+        no answer.Blown e one = let z : _≡_ {A = ℕ} 0 1 = cc in omega arith
+
+    pub blown-text : (out : List ℕ) (r : ℕ) (out′ : List ℕ) (number line : ℕ) → mostPrinted ≤ length out → Wrote 0 (refusalInto number line (length out)) out r out′
+        → number ≡ 10 → line ≡ 0 → Wrote 0 (sheetText S ls ts) out r out′
+    unfolding sheetText
+    blown-text out r out′ number line m w e f =
+        rw (blown (blows S ls ts) ended)
+        (wrote-as (refused number line (length out) (omega arith) m ∙ (λ i. refusalText (e i) (f i))) w)
+
+-- ---- read_with: reading into room of the lengths that measuring gave
+
+given : (a b : Lengths) → Gives a ≡ Gives b → a ≡ b
+given a b e = cc
+
+fits : (n m : ℕ) (T : Outcome Contents) → lengthsOf T ≡ Gives (record { levels = n; tables = m }) → fitted n m T ≡ T
+fits n m (Gives c) e =
+    let l : length (c .levels) ≡ n = ap (λ (x : Lengths). x .levels) (given _ _ e) in
+    let t : length (c .tables) ≡ m = ap (λ (x : Lengths). x .tables) (given _ _ e) in
+    rw (eq-eqb (length (c .levels)) n l, eq-eqb (length (c .tables)) m t) refl
+fits n m (Refused k at) e = refl
+
+module _ (text : List ℕ) (l₀ l : List ℤ) (t₀ t : List ℕ) (r : Read.Answer)
+    (room : measuring 32 text ≡ Gives (record { levels = length l₀; tables = length t₀ })) (said : Reads 32 text l₀ l t₀ t r) where
+  whole : fitted (length l₀) (length t₀) (readText 32 text) ≡ readText 32 text
+  whole = fits (length l₀) (length t₀) (readText 32 text) room
+
+  pub sheet-read : (s : Sheet) → r ≡ read.Sheet s → readText 32 text ≡ contents s l t
+  sheet-read s p =
+      by (readText 32 text) (sym (ap answerSays p) ∙ said .answer ∙ ap sheetIn whole) (said .levels ∙ ap (λ (o : Outcome Contents). levelsAfter o l₀) whole)
+      (said .tables ∙ ap (λ (o : Outcome Contents). tablesAfter o t₀) whole)
+    where
+      by : (T : Outcome Contents) → Gives s ≡ sheetIn T → l ≡ levelsAfter T l₀ → t ≡ tablesAfter T t₀ → T ≡ contents s l t
+      by (Gives c) e p q = let same : c .sheet ≡ s = cc in λ i. Gives (record { sheet = same i; levels = sym p i; tables = sym q i })
+      by (Refused k at) e p q = absurd (let z : _≡_ {A = ℕ} 0 1 = cc in omega arith)
+
+  pub sheet-legal : (s : Sheet) → r ≡ read.Sheet s → LegalSheet 32 s l t
+  sheet-legal s p = legal 32 text s l t (sheet-read s p)
+
+  pub sheet-text : (s : Sheet) → r ≡ read.Sheet s → (out : List ℕ) (n : ℕ) (out′ : List ℕ) → Wrote 0 (sheetText s l t) out n out′ → Wrote 0 (printed text) out n out′
+  unfolding printed says
+  sheet-text s p out n out′ w = wrote-as (ap says (sym (sheet-read s p))) w
+
+  -- a refusal was measured before
+  pub not-refused : (k line : ℕ) → r ≡ read.Refused k line → ⊥
+  not-refused k line p = by (readText 32 text) room (sym (ap answerSays p) ∙ said .answer ∙ ap sheetIn whole)
+    where
+      by : (T : Outcome Contents) → lengthsOf T ≡ Gives (record { levels = length l₀; tables = length t₀ }) → Refused k line ≡ sheetIn T → ⊥
+      by (Gives c) m e = let z : _≡_ {A = ℕ} 0 1 = cc in omega arith
+      by (Refused k at) m e = let z : _≡_ {A = ℕ} 0 1 = cc in omega arith
+
+-- ---- read_and_solve: how much room that is at most
+
+levels-most : (S : Sheet) (ls : List ℤ) (ts : List ℕ) → LegalSheet 32 S ls ts → (n : ℕ) → n ≤ S .header .channels → levelsTo S n ≤ n * (S .header .width * S .header .height)
+levels-most S ls ts l zero h = omega arith
+levels-most S ls ts l (suc n) h =
+    let x = l .channel n h in
+    omega (
+      arith,
+      levels-most S ls ts l n (omega arith),
+      suc-mul n (S .header .width * S .header .height),
+      product (channelAt S n .width) (channelAt S n .height) (S .header .width) (S .header .height) (x .width .top) (x .height .top),
+    )
+
+pub room-small : (text : List ℕ) (n m : ℕ) → measuring 32 text ≡ Gives (record { levels = n; tables = m }) → (n ≤ 3072) × (m ≤ 192)
+room-small text n m e = by (readText 32 text) refl e
+  where
+    by : (T : Outcome Contents) → readText 32 text ≡ T → lengthsOf T ≡ Gives (record { levels = n; tables = m }) → (n ≤ 3072) × (m ≤ 192)
+    by (Gives c) q e =
+        let s = c .sheet in
+        let l = legal 32 text s (c .levels) (c .tables) q in
+        let ln : length (c .levels) ≡ n = ap (λ (x : Lengths). x .levels) (given _ _ e) in
+        let lm : length (c .tables) ≡ m = ap (λ (x : Lengths). x .tables) (given _ _ e) in (
+          omega (arith, l .levels-count, levels-most s (c .levels) (c .tables) l (s .header .channels) (omega arith), values-small (s .header) (l .header)),
+          omega (arith, l .tables-count, at-most (s .header .channels) (l .header .channels)),
+        )
+    by (Refused k at) q e = absurd (let z : _≡_ {A = ℕ} 0 1 = cc in omega arith)
+
+-- the front of a list, as a part from place 0
+pub front-long : {A : Type 0} (n : ℕ) (xs : List A) → n ≤ length xs → length (take (n - 0) xs) ≡ n
+front-long n xs h = let e : n - 0 ≡ n = omega arith in rw e (length-take-le n xs h)
+
+pub same-room : (o : Outcome Lengths) (n m n′ m′ : ℕ) → o ≡ Gives (record { levels = n; tables = m }) → n′ ≡ n → m′ ≡ m → o ≡ Gives (record { levels = n′; tables = m′ })
+same-room o n m n′ m′ e p q = e ∙ (λ i. Gives (record { levels = sym p i; tables = sym q i }))
+
+-- ---- answer: the refusal of measuring is that of reading
+
+pub measured-room : (o : Outcome Lengths) (r : Measured) (n m : ℕ) → measuredSays r ≡ o → r ≡ measured.Lengths n m → o ≡ Gives (record { levels = n; tables = m })
+measured-room o r n m e p = sym e ∙ ap measuredSays p
+
+pub refusal-text : (text : List ℕ) → length text ≤ 20453 → (r : Measured) (k line : ℕ) → measuredSays r ≡ measuring 32 text → r ≡ measured.Refused k line
+    → (out : List ℕ) (n : ℕ) (out′ : List ℕ) → mostPrinted ≤ length out → Wrote 0 (refusalInto k line (length out)) out n out′ → Wrote 0 (printed text) out n out′
+unfolding printed says
+refusal-text text h r k line e p out n out′ m w = by (readText 32 text) (line-bound 32 text) (sym (ap measuredSays p) ∙ e)
+  where
+    by : (T : Outcome Contents) → LineTo (length text + 2) T → Refused k line ≡ lengthsOf T → Wrote 0 (says T) out n out′
+    by (Gives c) b q = absurd (let z : _≡_ {A = ℕ} 0 1 = cc in omega arith)
+    by (Refused k′ line′) b q =
+        let number : k ≡ k′ = cc in
+        let same : line ≡ line′ = cc in
+        wrote-as (refused k line (length out) (omega arith) m ∙ (λ i. refusalText (number i) (same i))) w
+
+-- ---- smooth_text: enough room, and as much of the text as decides
+
+pub roomy : (text out : List ℕ) (n : ℕ) (out′ : List ℕ) → mostPrinted ≤ length out → Wrote 0 (printed text) out n out′
+    → Wrote 0 (printedInto text (length out)) out n out′
+unfolding printedInto
+roomy text out n out′ h w = rw (le-leb mostPrinted (length out) h) w
+
+pub first-bytes : (text part out : List ℕ) (n : ℕ) (out′ : List ℕ) → mostPrinted ≤ length out → Wrote 0 (printed part) out n out′ → part ≡ take 20453 text
+    → Wrote 0 (printedInto text (length out)) out n out′
+unfolding printed
+first-bytes text part out n out′ h w e =
+    roomy text out n out′ h (wrote-as (ap printed e ∙ ap says (decides 32 text 20453 (omega (arith, decisive-32)))) w)

@@ -1,0 +1,50 @@
+-- What the program `smooth` prints for a text (document 01, "Whole run and picture", last paragraph): demands 1 and 2 from end to end.
+use Prim.Native.Nat.{ℕ, _*_}
+use mathlib.Core.Path.{_≡_}
+use mathlib.Core.Bool.{cond}
+use mathlib.Core.List.{List, []}
+use lib.Dec.{leb}
+use lib.ListN.{length}
+use lib.IntN.{ℤ}
+use lib.Ieee.{Float}
+use Rattle.sheet.specs.declared.Header.{Header}
+use Rattle.sheet.specs.declared.Sheet.{Sheet}
+use Rattle.sheet.specs.Reading.{Outcome, Contents, readText}
+use Rattle.sheet.specs.Reading.Outcome.{Gives, Refused}
+use Rattle.solve.specs.Solve.{planes, blows}
+use Rattle.picture.specs.Finish.{picture}
+use Rattle.output.specs.Output.{pictureText, refusalText}
+
+-- the text of a header's picture of these planes
+unfoldable pub painted : Header → List Float → List ℕ
+painted h ps =
+    let width = h .«picture_width» in
+    let height = h .«picture_height» in
+    pictureText width height (picture (h .width) (h .height) width height (h .channels) ps)
+
+-- "A blown channel ends the program with 10"; "The line is 0 for 10"
+unfoldable pub sheetText : Sheet → List ℤ → List ℕ → List ℕ
+sheetText s levels tables = cond (blows s levels tables) (refusalText 10 0) (painted (s .header) (planes s levels tables))
+
+-- "A refusal prints only `X`, number and line"
+unfoldable pub says : Outcome Contents → List ℕ
+says (Gives c) = sheetText (c .sheet) (c .levels) (c .tables)
+says (Refused k line) = refusalText k line
+
+-- "W and H above 32 are 2 there"
+unfoldable pub printed : List ℕ → List ℕ
+printed text = says (readText 32 text)
+
+-- No text that it prints takes more room: a picture of 32 by 32.
+abbrev pub mostPrinted : ℕ
+mostPrinted = 7242
+
+-- what the call writes to a buffer of `room` bytes: the text, or nothing where the buffer could be too small for some text
+unfoldable pub printedInto : List ℕ → ℕ → List ℕ
+printedInto text room = cond (leb mostPrinted room) (printed text) []
+
+-- what the functions ask of the room that they are lent: each of the six has (channels of the sheet) × W × H values
+abbrev pub SixLong : Header → List Float → List Float → List Float → List Float → List Float → List Float → Type 0
+SixLong h plane prior gradient across down saved =
+    let n = h .channels * (h .width * h .height) in
+    (length plane ≡ n) × (length prior ≡ n) × (length gradient ≡ n) × (length across ≡ n) × (length down ≡ n) × (length saved ≡ n)

@@ -1,0 +1,146 @@
+// The whole program as a function: the bytes that `smooth` prints for a text.
+use record::Answer;
+use sheet::Header;
+use sheet::Measured;
+use sheet::Sheet;
+use solve::solve;
+ghost use mathlib.Core.Path.{_≡_};
+ghost use Prim.Native.Nat.{_*_, _≤_};
+ghost use lib.ListN.{length};
+ghost use Rattle.sheet.specs.Calls.{measuring, Lengths};
+ghost use Rattle.sheet.specs.Reading.Outcome.{Gives};
+ghost use Rattle.sheet.specs.Legal.{LegalHeader, LegalSheet};
+ghost use Rattle.output.specs.Output.{Wrote};
+ghost use Rattle.whole.specs.Printed.{painted, sheetText, printed, mostPrinted, printedInto, SixLong};
+
+// The text of the picture of solved planes; rgb is room for its bytes.
+fn paint_with(h: Header, planes: &[f32], rgb: &mut [u8], out: &mut [u8]) -> usize
+    requires { ⌜ LegalHeader 32 h × (length (now planes) ≡ h .channels * (h .width * h .height)) × (length (now rgb) ≡ 3 * (h .«picture_width» * h .«picture_height»)) × (mostPrinted ≤ length (now out)) ⌝ }
+    ensures { λ r. ⌜ Wrote 0 (painted h (now (planes .entry))) (now (out .entry)) r (now (out .exit)) ⌝ }
+{
+    let width = h.picture_width;
+    let height = h.picture_height;
+    let _done = picture::finish(h.width, h.height, width, height, h.channels, planes, rgb);
+    output::write_picture(width, height, &rgb[..], out)
+}
+
+// The same, with room of its own.
+fn paint(h: Header, planes: &[f32], out: &mut [u8]) -> usize
+    requires { ⌜ LegalHeader 32 h × (length (now planes) ≡ h .channels * (h .width * h .height)) × (mostPrinted ≤ length (now out)) ⌝ }
+    ensures { λ r. ⌜ Wrote 0 (painted h (now (planes .entry))) (now (out .entry)) r (now (out .exit)) ⌝ }
+{
+    let mut rgb = [0u8; 3072];
+    let n = 3 * ((h.picture_width as usize) * (h.picture_height as usize));
+    paint_with(h, planes, &mut rgb[0..n], out)
+}
+
+// The text of a sheet that was read: its picture, or 10. The six are room for its runs.
+fn solved_with(
+    s: Sheet,
+    levels: &[i16],
+    tables: &[u16],
+    plane: &mut [f32],
+    prior: &mut [f32],
+    gradient: &mut [f32],
+    across: &mut [f32],
+    down: &mut [f32],
+    saved: &mut [f32],
+    out: &mut [u8],
+) -> usize
+    requires { ⌜ LegalSheet 32 s (now levels) (now tables) × SixLong (s .header) (now plane) (now prior) (now gradient) (now across) (now down) (now saved) × (mostPrinted ≤ length (now out)) ⌝ }
+    ensures { λ r. ⌜ Wrote 0 (sheetText s (now (levels .entry)) (now (tables .entry))) (now (out .entry)) r (now (out .exit)) ⌝ }
+{
+    let h = s.header;
+    let answer = solve(
+        s,
+        levels,
+        tables,
+        plane,
+        prior,
+        gradient,
+        across,
+        down,
+        saved,
+    );
+    let Answer::Done = answer else {
+        return output::write_refusal(10, 0, out);
+    };
+    paint(h, &plane[..], out)
+}
+
+// The same, with room of its own.
+fn solved(s: Sheet, levels: &[i16], tables: &[u16], out: &mut [u8]) -> usize
+    requires { ⌜ LegalSheet 32 s (now levels) (now tables) × (mostPrinted ≤ length (now out)) ⌝ }
+    ensures { λ r. ⌜ Wrote 0 (sheetText s (now (levels .entry)) (now (tables .entry))) (now (out .entry)) r (now (out .exit)) ⌝ }
+{
+    let mut plane = [0.0f32; 3072];
+    let mut prior = [0.0f32; 3072];
+    let mut gradient = [0.0f32; 3072];
+    let mut across = [0.0f32; 3072];
+    let mut down = [0.0f32; 3072];
+    let mut saved = [0.0f32; 3072];
+    let h = s.header;
+    let n = (h.channels as usize) * ((h.width as usize) * (h.height as usize));
+    solved_with(
+        s,
+        levels,
+        tables,
+        &mut plane[0..n],
+        &mut prior[0..n],
+        &mut gradient[0..n],
+        &mut across[0..n],
+        &mut down[0..n],
+        &mut saved[0..n],
+        out,
+    )
+}
+
+// The text of a sheet; levels and tables are room for its levels and tables.
+fn read_with(text: &[u8], levels: &mut [i16], tables: &mut [u16], out: &mut [u8]) -> usize
+    requires { ⌜ (measuring 32 (now text) ≡ Gives (record { levels = length (now levels); tables = length (now tables) })) × (mostPrinted ≤ length (now out)) ⌝ }
+    ensures { λ r. ⌜ Wrote 0 (printed (now (text .entry))) (now (out .entry)) r (now (out .exit)) ⌝ }
+{
+    match sheet::read(text, 32, levels, tables) {
+        sheet::Answer::Sheet(s) => solved(s, &levels[..], &tables[..], out),
+        sheet::Answer::Refused { number, line } => output::write_refusal(number, line, out),
+    }
+}
+
+// The same, with room of its own for n levels and m quantisers.
+fn read_and_solve(text: &[u8], n: usize, m: usize, out: &mut [u8]) -> usize
+    requires { ⌜ (measuring 32 (now text) ≡ Gives (record { levels = n; tables = m })) × (mostPrinted ≤ length (now out)) ⌝ }
+    ensures { λ r. ⌜ Wrote 0 (printed (now (text .entry))) (now (out .entry)) r (now (out .exit)) ⌝ }
+{
+    let mut levels = [0i16; 3072];
+    let mut tables = [0u16; 192];
+    read_with(text, &mut levels[0..n], &mut tables[0..m], out)
+}
+
+// The text of a refusal, or of a sheet. What is read is short enough that a line's number has few digits.
+fn answer(text: &[u8], out: &mut [u8]) -> usize
+    requires { ⌜ (length (now text) ≤ 20453) × (mostPrinted ≤ length (now out)) ⌝ }
+    ensures { λ r. ⌜ Wrote 0 (printed (now (text .entry))) (now (out .entry)) r (now (out .exit)) ⌝ }
+{
+    match sheet::measure(text, 32) {
+        Measured::Refused { number, line } => output::write_refusal(number, line, out),
+        Measured::Lengths {
+            levels: n,
+            tables: m,
+        } => read_and_solve(text, n, m, out),
+    }
+}
+
+// What `smooth` prints for a text, written to the front of `out`, and how many bytes that is; 0, with nothing written, where `out` has fewer than
+// 7,242 bytes. Of a longer text the first 20,453 bytes decide.
+// Ruled out: a grey picture for every sheet; a refusal for a sheet that keeps every rule.
+pub fn smooth_text(text: &[u8], out: &mut [u8]) -> usize
+    ensures { λ r. ⌜ Wrote 0 (printedInto (now (text .entry)) (length (now (out .entry)))) (now (out .entry)) r (now (out .exit)) ⌝ }
+{
+    if out.len() < 7242 {
+        return 0;
+    }
+    if 20453 < text.len() {
+        return answer(&text[0..20453], out);
+    }
+    answer(text, out)
+}
