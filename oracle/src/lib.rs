@@ -6,6 +6,7 @@ pub mod floats;
 pub mod jobs;
 pub mod picture;
 pub mod probe;
+pub mod program;
 pub mod random;
 pub mod run;
 pub mod sheet;

@@ -1,0 +1,163 @@
+//! Runs a program on texts, some at a time, each within a time; and the grammar of what `smooth` prints.
+use std::{
+    io::{Read, Write},
+    process::{Command, Stdio},
+    thread,
+    time::{Duration, Instant},
+};
+
+/// How a program ended on a text. Exit status None: by a signal.
+#[derive(Debug, PartialEq)]
+pub enum Ending {
+    Ended { status: Option<i32>, printed: Vec<u8>, complained: bool },
+    Late,
+}
+
+/// Runs the program with the text as standard input. It may leave its input unread. It is killed when its time is over, also where it prints
+/// more than a pipe holds, 64 KiB; `smooth` prints at most 7,240 bytes.
+pub fn run(program: &str, text: &[u8], limit: Duration) -> Ending {
+    let mut command = Command::new(program);
+    let command = command.stdin(Stdio::piped()).stdout(Stdio::piped()).stderr(Stdio::piped());
+    let began = Instant::now();
+    let mut child = command.spawn().unwrap_or_else(|e| panic!("{program}: {e}"));
+    let mut input = child.stdin.take().expect("piped");
+    thread::scope(|scope| {
+        let mut feed = move || drop(input.write_all(text)); // an error: it has ended
+        if text.len() > 32_768 {
+            scope.spawn(feed);
+        } else {
+            feed();
+            drop(feed);
+        }
+        let status = loop {
+            match child.try_wait().expect("its status") {
+                Some(status) => break status,
+                None if began.elapsed() > limit => {
+                    let _ = child.kill();
+                    let _ = child.wait();
+                    return Ending::Late;
+                }
+                None => thread::sleep(Duration::from_micros(150)),
+            }
+        };
+        let mut printed = vec![];
+        child.stdout.take().expect("piped").read_to_end(&mut printed).expect("its output");
+        let complained = child.stderr.take().expect("piped").read(&mut [0]).expect("its complaints") > 0;
+        Ending::Ended { status: status.code(), printed, complained }
+    })
+}
+
+/// The same, up to three times where it is late: another program on the machine may have had the time.
+pub fn run_patiently(program: &str, text: &[u8], limit: Duration) -> Ending {
+    (0..3).map(|_| run(program, text, limit)).find(|ending| *ending != Ending::Late).unwrap_or(Ending::Late)
+}
+
+/// The answers for all items in their order, worked out by some threads.
+pub fn answers<T: Sync, R: Send>(items: &[T], threads: usize, answer: impl Fn(&T) -> R + Sync) -> Vec<R> {
+    let next = std::sync::atomic::AtomicUsize::new(0);
+    let work = || {
+        let mut own = vec![];
+        loop {
+            let i = next.fetch_add(1, std::sync::atomic::Ordering::Relaxed);
+            match items.get(i) {
+                Some(item) => own.push((i, answer(item))),
+                None => return own,
+            }
+        }
+    };
+    let mut all: Vec<(usize, R)> = thread::scope(|scope| {
+        let workers: Vec<_> = (0..threads).map(|_| scope.spawn(work)).collect();
+        workers.into_iter().flat_map(|worker| worker.join().expect("a worker")).collect()
+    });
+    all.sort_by_key(|(i, _)| *i);
+    all.into_iter().map(|(_, r)| r).collect()
+}
+
+/// A number as `smooth` prints it.
+fn number(field: &str) -> Option<u32> {
+    let plain =
+        !field.is_empty() && field.bytes().all(|b| b.is_ascii_digit()) && (field == "0" || !field.starts_with('0'));
+    if plain { field.parse().ok() } else { None }
+}
+
+/// Whether this is one complete picture, or one refusal that `smooth` can give.
+pub fn well_formed(printed: &[u8]) -> bool {
+    let Some(text) = std::str::from_utf8(printed).ok().and_then(|text| text.strip_suffix('\n')) else { return false };
+    let lines: Vec<Vec<&str>> = text.split('\n').map(|line| line.split('\t').collect()).collect();
+    let pixel = |p: &&str| p.len() == 6 && p.bytes().all(|b| matches!(b, b'0'..=b'9' | b'a'..=b'f'));
+    match lines[0][..] {
+        ["X", refusal, line] => match (number(refusal), number(line)) {
+            (Some(1..=7), Some(line)) => line > 0 && lines.len() == 1,
+            (Some(10), Some(0)) => lines.len() == 1,
+            _ => false,
+        },
+        ["I", w, h] => match (number(w), number(h)) {
+            (Some(w @ 1..=32), Some(h @ 1..=32)) => {
+                let row =
+                    |line: &Vec<&str>| line[0] == "R" && line.len() == w as usize + 1 && line[1..].iter().all(pixel);
+                lines.len() == h as usize + 1 && lines[1..].iter().all(row)
+            }
+            _ => false,
+        },
+        _ => false,
+    }
+}
+
+#[cfg(test)]
+mod tests {
+    use super::*;
+
+    #[test]
+    fn forms() {
+        let good = [
+            "I\t2\t1\nR\t818181\t818181\n",
+            "X\t7\t1\n",
+            "X\t1\t54\n",
+            "X\t10\t0\n",
+            "I\t1\t2\nR\t0a0b0c\nR\t000000\n",
+        ];
+        let bad = [
+            "",
+            "\n",
+            "X\t7\t1",
+            "X\t7\t1\n\n",
+            "X\t7\t1\nX\t7\t1\n",
+            "X\t8\t0\n",
+            "X\t10\t1\n",
+            "X\t7\t0\n",
+            "X\t07\t1\n",
+            "X\t7\t+1\n",
+            "X 7 1\n",
+            "I\t2\t1\n",
+            "I\t2\t1\nR\t818181\n",
+            "I\t2\t1\nR\t818181\t818181",
+            "I\t2\t1\nR\t818181\t81818\n",
+            "I\t2\t1\nR\t818181\t81818A\n",
+            "I\t2\t1\nR\t818181\t818181\nR\t818181\t818181\n",
+            "I\t2\t1\nR\t818181\t818181\nX\t7\t1\n",
+            "I\t0\t0\n",
+            "I\t1\t33\n",
+        ];
+        assert!(good.iter().all(|text| well_formed(text.as_bytes())));
+        for text in bad {
+            assert!(!well_formed(text.as_bytes()), "{text}");
+        }
+        assert!(!well_formed(b"X\t7\t\xff\n"));
+    }
+
+    #[test]
+    fn endings() {
+        let second = Duration::from_secs(1);
+        let ended =
+            |status, printed: &[u8]| Ending::Ended { status: Some(status), printed: printed.into(), complained: false };
+        assert_eq!(run("cat", b"abc", second), ended(0, b"abc"));
+        assert_eq!(run("false", &[0; 1_000_000], second), ended(1, b""));
+        assert_eq!(run("yes", b"", second), Ending::Late);
+    }
+
+    #[test]
+    fn answers_in_order() {
+        let items: Vec<usize> = (0..1000).collect();
+        assert_eq!(answers(&items, 2, |i| i * i), items.iter().map(|i| i * i).collect::<Vec<_>>());
+    }
+}
