@@ -15,7 +15,10 @@ use oracle::{
 use std::{fs, path::Path, process::ExitCode, time::Duration};
 
 const STEPS: u32 = 3;
-const KINDS: [(&str, u64, fn(&mut Random) -> Vec<u8>); 5] = [
+/// A kind of input: its name, its share of all, and one of them.
+type Kind = (&'static str, usize, fn(&mut Random) -> Vec<u8>);
+
+const KINDS: [Kind; 5] = [
     ("random bytes", 1, bytes),
     ("random tokens", 2, tokens),
     ("random lines", 2, lines),
@@ -212,7 +215,7 @@ fn main() -> ExitCode {
         let fault = fault(program, text, due);
         tally.count_in(kind, fault.is_none(), || format!("{}: input {i} of {} bytes", fault.expect("one"), text.len()));
     }
-    let shares: Vec<_> = KINDS.iter().flat_map(|kind| vec![kind; kind.1 as usize]).collect();
+    let shares: Vec<_> = KINDS.iter().flat_map(|kind| vec![kind; kind.1]).collect();
     let (mut pictures, mut refusals) = (0, [0; 11]);
     let all: Vec<u64> = (0..count).collect();
     for part in all.chunks(2_000) {
