@@ -1,5 +1,5 @@
 #!/bin/sh
-# Makes anew the lists of the Rust's answers that the crates `replay` and `replay_calls` replay inside the gate, and what they must write: each line the same.
+# Makes anew the lists of the Rust's answers that the crates `replay`, `replay_calls` and `replay_pictures` replay inside the gate, and what they must write.
 set -eu
 cd "$(dirname "$0")"
 out=../crates/replay
@@ -13,3 +13,10 @@ echo "$(wc -l < $out/stdin) same, 0 other" > $out/stdout
 out=../crates/replay_calls
 cargo run -q --release --bin calls -- --list 600 1 > $out/stdin
 echo "$(wc -l < $out/stdin) same, 0 other" > $out/stdout
+# texts, each after its length, and what the published Rust makes of them
+out=../crates/replay_pictures
+pack=$(mktemp -d)
+cargo run -q --release --bin smooth -- --pack 400 20261116 "$pack" 3
+cp "$pack/texts" $out/stdin
+cp "$pack/answers" $out/stdout
+rm -r "$pack"
