@@ -2,3 +2,5 @@
 pub mod SheetLaws
 pub mod InNumbers
 pub mod Lent
+pub mod WholeLaws
+pub mod RoundTrip

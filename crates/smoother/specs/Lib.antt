@@ -1,3 +1,4 @@
 -- What the contracts of the exported calls cite.
 pub mod Sheets
 pub mod Numbers
+pub mod Whole

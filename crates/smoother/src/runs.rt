@@ -8,7 +8,8 @@ ghost use Rattle.record.specs.Model.{answerOf};
 ghost use Rattle.serve.specs.Serve.{byteOf};
 ghost use Rattle.smoother.specs.Numbers.{StartNumbers, PushNumbers, DataNumbers, BlendNumbers, MoveNumbers, ProjectNumbers, ServeNumbers};
 
-fn number_of(a: Answer) -> u32
+// An answer's number. Ruled out: 0 for a project that marks its channel; 255 for a refusal.
+pub fn number_of(a: Answer) -> u32
     ensures { λ r. ⌜ r ≡ byteOf (answerOf a) ⌝ }
 {
     match a {

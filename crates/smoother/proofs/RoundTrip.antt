@@ -1,0 +1,104 @@
+-- A sheet's record lent out as numbers and given back: what the whole run refuses, its planes and whether it blows are those of the sheet, in either form
+-- of its weights.
+use mathlib.Core.Path.{_≡_, refl, sym, ap, _∙_, fun-ext}
+use Prim.Native.Nat.{ℕ, suc}
+use mathlib.Core.Bool.{Bool, true, false, cond, _&&_}
+use mathlib.Core.List.{List}
+use lib.Dec.{T, eqb, leb}
+use lib.IntN.{ℤ, pos}
+use lib.Ieee.{Float, binary32, ofBits, toBits, fits, ofInt}
+use lib.Ieee.Bits.{ofBits-toBits, ofBits-fits}
+use lib.Ieee.Fits.{ofInt-fits}
+use Rattle.text.specs.declared.weight.Weight.{Weight}
+use Rattle.text.specs.declared.weight.Weight.the-variants as weight
+use Rattle.text.specs.Weights.{valueOf}
+use Rattle.sheet.specs.declared.Sheet.{Sheet}
+use Rattle.fold.specs.Part.{part}
+use Rattle.scalar.specs.Buffers.{Buffers}
+use Rattle.calls.specs.Run.{Given, levelsBefore, every, among}
+use Rattle.calls.specs.Buffers.{join}
+use Rattle.calls.specs.Calls.{startRefusal, lengths, allSix}
+use Rattle.record.specs.declared.Run.{Run}
+use Rattle.record.specs.Model.{sheetOf, placesOf, givenOf}
+use Rattle.solve.specs.Solve.{joint, alone, tablesFor, planeOf, planesOf, runBlows, planes, blows, isLegal, allLegal, solveRefusal, Ends, SolveIs}
+use Rattle.smoother.specs.Sheets.{numbersOf, weightBits}
+use Rattle.smoother.specs.Whole.{sheetOfNumbers, numbersRefusal, answerIn, SolveNumbers}
+
+value-fits : (w : Weight) → T (fits binary32 (valueOf w))
+unfolding valueOf
+value-fits (weight.Bits n) = ofBits-fits binary32 n
+value-fits (weight.Whole n) = ofInt-fits binary32 (pos n)
+
+same-value : (w : Weight) → valueOf (weight.Bits (weightBits w)) ≡ valueOf w
+unfolding valueOf
+same-value w = ofBits-toBits binary32 (valueOf w) (value-fits w)
+
+same-choice : (b d : Bool) (x y z : Weight)
+    → valueOf (cond b (weight.Bits (weightBits x)) (cond d (weight.Bits (weightBits y)) (weight.Bits (weightBits z)))) ≡ valueOf (cond b x (cond d y z))
+same-choice true d x y z = same-value x
+same-choice false true x y z = same-value y
+same-choice false false x y z = same-value z
+
+same-mode : (b : Bool) → eqb (cond b 1 0) 1 ≡ b
+same-mode true = refl
+same-mode false = refl
+
+a-mode : (b : Bool) → leb (cond b 1 0) 1 ≡ true
+a-mode true = refl
+a-mode false = refl
+
+-- ---- what a sheet's whole run is made of: its mode, its channel count and its runs
+module _ (levels : List ℤ) (tables : List ℕ) where
+  abbrev ownGiven : Run → (ℕ → Run) → ℕ → Given
+  ownGiven J A c = givenOf (A c) (part levels (levelsBefore (sheetOf J) c) (levelsBefore (sheetOf J) (suc c))) (tablesFor tables c)
+
+  abbrev refusalBy : List ℕ → ℕ → Run → (ℕ → Run) → ℕ
+  refusalBy ls n J A = cond (isLegal J && every n (λ c. isLegal (A c))) (startRefusal (givenOf J levels tables) (placesOf J) ls) 13
+
+  abbrev planesBy : Bool → ℕ → Run → (ℕ → Run) → List Float
+  planesBy b n J A = cond b (planesOf (givenOf J levels tables)) (join n (λ c. planeOf (ownGiven J A c) 0))
+
+  abbrev blowsBy : Bool → ℕ → Run → (ℕ → Run) → Bool
+  blowsBy b n J A = cond b (runBlows (givenOf J levels tables)) (among n (λ c. runBlows (ownGiven J A c)))
+
+module _ (S : Sheet) where
+  abbrev S′ : Sheet
+  S′ = sheetOfNumbers (numbersOf S)
+
+  same-count : S′ .header .channels ≡ S .header .channels
+  unfolding sheetOfNumbers numbersOf
+  same-count = refl
+
+  mode-kept : S′ .header .joint ≡ S .header .joint
+  unfolding sheetOfNumbers numbersOf
+  mode-kept = same-mode (S .header .joint)
+
+  same-joint : joint S′ ≡ joint S
+  unfolding sheetOfNumbers numbersOf joint
+  same-joint = rw (same-value (S .header .smoothing0), same-value (S .header .data0), same-value (S .header .data1), same-value (S .header .data2))
+
+  same-alone : (c : ℕ) → alone S′ c ≡ alone S c
+  unfolding sheetOfNumbers numbersOf alone
+  same-alone c =
+      rw (same-value (S .header .data0), same-choice (eqb c 0) (eqb c 1) (S .header .smoothing0) (S .header .smoothing1) (S .header .smoothing2))
+
+  module _ (levels : List ℤ) (tables : List ℕ) where
+    pub same-refusal : (ls : List ℕ) → solveRefusal S′ levels tables ls ≡ solveRefusal S levels tables ls
+    unfolding solveRefusal allLegal
+    same-refusal ls = λ i. refusalBy levels tables ls (same-count i) (same-joint i) (fun-ext same-alone i)
+
+    pub same-planes : planes S′ levels tables ≡ planes S levels tables
+    unfolding planes
+    same-planes = λ i. planesBy levels tables (mode-kept i) (same-count i) (same-joint i) (fun-ext same-alone i)
+
+    pub same-blows : blows S′ levels tables ≡ blows S levels tables
+    unfolding blows
+    same-blows = λ i. blowsBy levels tables (mode-kept i) (same-count i) (same-joint i) (fun-ext same-alone i)
+
+    same-numbers : (ls : List ℕ) → numbersRefusal (numbersOf S) levels tables ls ≡ solveRefusal S levels tables ls
+    unfolding numbersRefusal numbersOf
+    same-numbers ls = ap (λ (b : Bool). cond b (solveRefusal S′ levels tables ls) 13) (a-mode (S .header .joint)) ∙ same-refusal ls
+
+    -- the exported call, lent the numbers of a sheet, does what `solve` does of the sheet
+    pub as-of-sheet : (B : Buffers) (k : ℕ) (B′ : Buffers) → SolveNumbers (numbersOf S) levels tables B k B′ ≡ SolveIs S levels tables B (answerIn k) B′
+    as-of-sheet B k B′ = λ i. Ends (same-numbers (lengths allSix B) i) (same-blows i) (same-planes i) B (answerIn k) B′

@@ -1,0 +1,80 @@
+-- The exported whole run and picture: a sheet's record given back as the numbers that reading lent out, and what `solve` and `finish` give, with the
+-- answer as a number.
+use Prim.Native.Nat.{ℕ, zero, suc, _+_}
+use mathlib.Core.Path.{_≡_}
+use mathlib.Core.Bool.{cond}
+use mathlib.Core.List.{List}
+use lib.ListN.{length, getD}
+use lib.Dec.{eqb, leb}
+use lib.IntN.{ℤ}
+use lib.Ieee.{Float}
+use Rattle.text.specs.declared.weight.Weight.the-variants as weight
+use Rattle.sheet.specs.declared.Sheet.{Sheet}
+use Rattle.sheet.specs.declared.Header.{Header}
+use Rattle.sheet.specs.declared.Channel.{Channel}
+use Rattle.scalar.specs.Buffers.{Buffers}
+use Rattle.calls.specs.Calls.{lengths, allSix}
+use Rattle.record.specs.declared.Answer.{Answer}
+use Rattle.record.specs.declared.Answer.the-variants.{Refused, Done}
+use Rattle.solve.specs.Solve.{solveRefusal, planes, blows, Ends}
+use Rattle.picture.specs.Finish.{Told, done, refused, finishing}
+
+-- ---- the record
+
+-- The sheet of a record's numbers, in the order of `numbersOf`: 1 is joint mode, a weight is its f32's bits.
+abbrev pub headerOf : List ℕ → Header
+headerOf ns =
+    record {
+      width = getD ns 0 0;
+      height = getD ns 1 0;
+      «picture_width» = getD ns 2 0;
+      «picture_height» = getD ns 3 0;
+      channels = getD ns 4 0;
+      joint = eqb (getD ns 5 0) 1;
+      iterations0 = getD ns 6 0;
+      iterations1 = getD ns 7 0;
+      iterations2 = getD ns 8 0;
+      smoothing0 = weight.Bits (getD ns 9 0);
+      smoothing1 = weight.Bits (getD ns 10 0);
+      smoothing2 = weight.Bits (getD ns 11 0);
+      data0 = weight.Bits (getD ns 12 0);
+      data1 = weight.Bits (getD ns 13 0);
+      data2 = weight.Bits (getD ns 14 0);
+    }
+
+-- own sides and factors from place i on
+abbrev pub channelFrom : List ℕ → ℕ → Channel
+channelFrom ns i =
+    record { width = getD ns i 0; height = getD ns (i + 1) 0; across = getD ns (i + 2) 0; down = getD ns (i + 3) 0 }
+
+unfoldable pub sheetOfNumbers : List ℕ → Sheet
+sheetOfNumbers ns = record { header = headerOf ns; first = channelFrom ns 15; second = channelFrom ns 19; third = channelFrom ns 23 }
+
+-- ---- solve
+
+-- "a lent buffer's length differs" (8), first: without 27 numbers there is no record; then 13 for a mode that is neither 0 nor 1, and then what `solve` refuses
+unfoldable pub numbersRefusal : List ℕ → List ℤ → List ℕ → List ℕ → ℕ
+numbersRefusal ns levels tables ls =
+    cond (eqb (length ns) 27) (cond (leb (getD ns 5 0) 1) (solveRefusal (sheetOfNumbers ns) levels tables ls) 13) 8
+
+-- the answer of a whole run by its number: 0 is done, any other a refusal
+abbrev pub answerIn : ℕ → Answer
+answerIn zero = Done
+answerIn (suc n) = Refused (suc n)
+
+-- `SolveIs` of the record's sheet
+abbrev pub SolveNumbers : List ℕ → List ℤ → List ℕ → Buffers → ℕ → Buffers → Type 0
+SolveNumbers ns levels tables B k B′ =
+    let S = sheetOfNumbers ns in
+    Ends (numbersRefusal ns levels tables (lengths allSix B)) (blows S levels tables) (planes S levels tables) B (answerIn k) B′
+
+-- ---- finish
+
+abbrev pub toldNumber : Told → ℕ
+toldNumber done = 0
+toldNumber (refused n) = n
+
+-- what `finish` answers and the bytes that it leaves
+pub record FinishNumbers (w h width height channels : ℕ) (planes : List Float) (rgb : List ℕ) (k : ℕ) (rgb′ : List ℕ) : Type 0 where
+  pub number : k ≡ toldNumber (finishing w h width height channels planes rgb .answer)
+  pub bytes : rgb′ ≡ finishing w h width height channels planes rgb .bytes

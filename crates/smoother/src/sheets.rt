@@ -1,0 +1,118 @@
+// The whole run of a sheet and its picture as C functions. Both answer 0 for done, or the table's number.
+use crate::runs;
+use sheet::Channel;
+use sheet::Header;
+use sheet::Sheet;
+use text::weight::Weight;
+ghost use mathlib.Core.Path.{_≡_};
+ghost use Prim.Native.Nat.{_+_, _<_};
+ghost use lib.ListN.{length};
+ghost use Rattle.solve.specs.Solve.{six};
+ghost use Rattle.smoother.specs.Whole.{headerOf, channelFrom, sheetOfNumbers, SolveNumbers, FinishNumbers};
+
+fn header_of(numbers: &[u32]) -> Header
+    requires { ⌜ length (now numbers) ≡ 27 ⌝ }
+    ensures { λ r. ⌜ r ≡ headerOf (now (numbers .entry)) ⌝ }
+{
+    Header {
+        width: numbers[0],
+        height: numbers[1],
+        picture_width: numbers[2],
+        picture_height: numbers[3],
+        channels: numbers[4],
+        joint: numbers[5] == 1,
+        iterations0: numbers[6],
+        iterations1: numbers[7],
+        iterations2: numbers[8],
+        smoothing0: Weight::Bits(numbers[9]),
+        smoothing1: Weight::Bits(numbers[10]),
+        smoothing2: Weight::Bits(numbers[11]),
+        data0: Weight::Bits(numbers[12]),
+        data1: Weight::Bits(numbers[13]),
+        data2: Weight::Bits(numbers[14]),
+    }
+}
+
+fn channel_from(numbers: &[u32], at: usize) -> Channel
+    requires { ⌜ at + 3 < length (now numbers) ⌝ }
+    ensures { λ r. ⌜ r ≡ channelFrom (now (numbers .entry)) at ⌝ }
+{
+    Channel {
+        width: numbers[at],
+        height: numbers[at + 1],
+        across: numbers[at + 2],
+        down: numbers[at + 3],
+    }
+}
+
+// The sheet that a record's numbers say.
+fn sheet_of(numbers: &[u32]) -> Sheet
+    requires { ⌜ length (now numbers) ≡ 27 ⌝ }
+    ensures { λ r. ⌜ r ≡ sheetOfNumbers (now (numbers .entry)) ⌝ }
+{
+    Sheet {
+        header: header_of(numbers),
+        first: channel_from(numbers, 15),
+        second: channel_from(numbers, 19),
+        third: channel_from(numbers, 23),
+    }
+}
+
+// The whole run of a sheet, by the 27 numbers that `smoother_read` lends out. 8 for another count of them, 13 for a mode that is neither 0 nor 1, and
+// else what `solve` answers. Ruled out: the planes of separate mode for a record whose mode is 1; 8 for six good buffers where a weight is infinite (13).
+#[no_mangle]
+pub extern "C" fn smoother_solve(
+    numbers: &[u32],
+    levels: &[i16],
+    tables: &[u16],
+    plane: &mut [f32],
+    prior: &mut [f32],
+    gradient: &mut [f32],
+    across: &mut [f32],
+    down: &mut [f32],
+    saved: &mut [f32],
+) -> u32
+    ensures { λ r. ⌜ SolveNumbers (now (numbers .entry)) (now (levels .entry)) (now (tables .entry))
+        (six (now (plane .entry)) (now (prior .entry)) (now (gradient .entry)) (now (across .entry)) (now (down .entry)) (now (saved .entry))) r
+        (six (now (plane .exit)) (now (prior .exit)) (now (gradient .exit)) (now (across .exit)) (now (down .exit)) (now (saved .exit))) ⌝ }
+{
+    if numbers.len() != 27 {
+        return 8;
+    }
+    if 1 < numbers[5] {
+        return 13;
+    }
+    let s = sheet_of(numbers);
+    let a = solve::solve(
+        s,
+        levels,
+        tables,
+        plane,
+        prior,
+        gradient,
+        across,
+        down,
+        saved,
+    );
+    runs::number_of(a)
+}
+
+// The picture's bytes of solved planes, which are only read. Ruled out: the second row of a picture narrower than the planes taken from the end of the
+// first row's part; bytes changed where 8 or 13 is answered.
+#[no_mangle]
+pub extern "C" fn smoother_finish(
+    w: u32,
+    h: u32,
+    width: u32,
+    height: u32,
+    channels: u32,
+    planes: &[f32],
+    rgb: &mut [u8],
+) -> u32
+    ensures { λ r. ⌜ FinishNumbers w h width height channels (now (planes .entry)) (now (rgb .entry)) r (now (rgb .exit)) ⌝ }
+{
+    match picture::finish(w, h, width, height, channels, planes, rgb) {
+        picture::Answer::Done => 0,
+        picture::Answer::Refused(n) => n as u32,
+    }
+}
