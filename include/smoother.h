@@ -3,7 +3,8 @@
  *     gcc -std=c11 -Iinclude program.c target/staticlib/libsmoother.a -o program
  *
  * Order of work: measure a sheet text, read it into buffers of the measured lengths, fill a run's record from it, start, then the
- * jobs of each step: push and data of every channel, blend once for all, move and project of every channel.
+ * jobs of each step: push and data of every channel, blend once for all, move and project of every channel. Or, for a whole sheet,
+ * measure, read, smoother_solve and smoother_finish.
  *
  * Memory. The library allocates nothing, keeps no pointer and has no state: every buffer and the record belong to the caller, who
  * lends them for the length of a call. So calls on different buffers may be made by different threads.
@@ -14,7 +15,7 @@
  * Everything else is checked: a length, number, level, quantiser, position or weight that is not usable is refused.
  *
  * Answers. 0 is done. 1 to 13 is a refusal: nothing that was lent has changed, except `*line` of measure and read. 255 (project
- * alone) is done, and the channel is now marked blown. */
+ * alone) is done, and the channel is now marked blown. smoother_solve's 10 is the one refusal that may change the buffers. */
 #ifndef SMOOTHER_H
 #define SMOOTHER_H
 
@@ -141,6 +142,24 @@ uint32_t smoother_serve(struct smoother_run *run, const uint8_t *jobs, size_t jo
                         size_t tables_len, float *plane, size_t plane_len, float *prior, size_t prior_len, float *gradient,
                         size_t gradient_len, float *across, size_t across_len, float *down, size_t down_len, float *saved,
                         size_t saved_len);
+
+/* ---- A whole sheet ---- */
+
+/* The whole run of a sheet, in its mode, by the SMOOTHER_NUMBERS numbers that smoother_read lends out: joint mode is one run, in separate mode
+ * each channel is one. plane, prior, gradient, across, down and saved have channels x W x H values each in either mode; what they hold before
+ * does not matter. Fields that no run of the sheet uses are not looked at.
+ * 0: plane holds the planes after the last job; the contents of the other five are not promised.
+ * 10: a channel is blown; the contents of the six are not promised.
+ * 8 for another count of numbers, 13 for a mode that is not 0 or 1 and for numbers of no legal sheet, 8, 4, 5: all six are unchanged. */
+uint32_t smoother_solve(const uint32_t *header, size_t header_len, const int16_t *levels, size_t levels_len, const uint16_t *tables,
+                        size_t tables_len, float *plane, size_t plane_len, float *prior, size_t prior_len, float *gradient,
+                        size_t gradient_len, float *across, size_t across_len, float *down, size_t down_len, float *saved,
+                        size_t saved_len);
+
+/* The picture of solved planes: channels x W x H values, only read. rgb has 3 x picture width x picture height bytes: red, green and blue
+ * of each pixel, row by row. Adds 128 to channel 0, converts, clamps and truncates; NaN gives 0. 0, 13, 8. */
+uint32_t smoother_finish(uint32_t w, uint32_t h, uint32_t picture_width, uint32_t picture_height, uint32_t channels,
+                         const float *planes, size_t planes_len, uint8_t *rgb, size_t rgb_len);
 
 #ifdef __cplusplus
 }

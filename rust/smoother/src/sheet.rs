@@ -1,5 +1,5 @@
 //! Sheet texts: measured, and read into a sheet.
-use crate::{Channel, Fault, Refusal, Run, ffi};
+use crate::{Buffers, Channel, Fault, Refusal, Run, ffi};
 
 /// Lengths of the levels and tables of a text.
 #[derive(Clone, Copy, Debug, PartialEq, Eq)]
@@ -153,4 +153,81 @@ impl Sheet {
     pub fn table_of(&self, c: usize) -> &[u16] {
         &self.tables[64 * c..][..64]
     }
+
+    /// The record's 27 numbers, as `read_into` lends them out.
+    pub fn numbers(&self) -> [u32; NUMBERS] {
+        let mut n = [0; NUMBERS];
+        n[..6].copy_from_slice(&[
+            self.width,
+            self.height,
+            self.picture_width,
+            self.picture_height,
+            self.count,
+            u32::from(self.joint),
+        ]);
+        n[6..9].copy_from_slice(&self.iterations);
+        n[9..12].copy_from_slice(&self.smoothing.map(f32::to_bits));
+        n[12..15].copy_from_slice(&self.data.map(f32::to_bits));
+        for (own, at) in self.own.iter().zip([15, 19, 23]) {
+            n[at..at + 4].copy_from_slice(&[own.width, own.height, own.across, own.down]);
+        }
+        n
+    }
+
+    /// The planes after the sheet's last job, in its mode. `Refusal::Blown` where a channel is blown.
+    pub fn solve(&self) -> Result<Vec<f32>, Refusal> {
+        let mut b = self.joint_run().buffers();
+        solve_into(&self.numbers(), &self.levels, &self.tables, &mut b)?;
+        Ok(b.plane)
+    }
+
+    /// The picture of solved planes: red, green and blue of each pixel, row by row.
+    pub fn finish(&self, planes: &[f32]) -> Result<Vec<u8>, Refusal> {
+        let within = |n: u32, most: u32| n.min(most).min(512) as usize;
+        let bytes = 3 * within(self.picture_width, self.width) * within(self.picture_height, self.height);
+        let mut rgb = vec![0; bytes];
+        let sides = [self.width, self.height, self.picture_width, self.picture_height];
+        finish_into(sides, self.count, planes, &mut rgb).map(|()| rgb)
+    }
+}
+
+fn done(number: u32) -> Result<(), Refusal> {
+    Refusal::of_number(number).map_or(Ok(()), Err)
+}
+
+/// The whole run of a sheet by its record's numbers, in lent buffers of channels × W × H values each; `b.plane` becomes the planes. Where it is
+/// refused, but for `Refusal::Blown`, the buffers are unchanged.
+pub fn solve_into(header: &[u32], levels: &[i16], tables: &[u16], b: &mut Buffers) -> Result<(), Refusal> {
+    // SAFETY: each pointer and length are of one slice, and the slices do not overlap.
+    done(unsafe {
+        ffi::smoother_solve(
+            header.as_ptr(),
+            header.len(),
+            levels.as_ptr(),
+            levels.len(),
+            tables.as_ptr(),
+            tables.len(),
+            b.plane.as_mut_ptr(),
+            b.plane.len(),
+            b.prior.as_mut_ptr(),
+            b.prior.len(),
+            b.gradient.as_mut_ptr(),
+            b.gradient.len(),
+            b.across.as_mut_ptr(),
+            b.across.len(),
+            b.down.as_mut_ptr(),
+            b.down.len(),
+            b.saved.as_mut_ptr(),
+            b.saved.len(),
+        )
+    })
+}
+
+/// The picture of planes, in lent bytes; `sides` are W, H and the picture's.
+pub fn finish_into(sides: [u32; 4], channels: u32, planes: &[f32], rgb: &mut [u8]) -> Result<(), Refusal> {
+    let [w, h, width, height] = sides;
+    // SAFETY: each pointer and length are of one slice, and the slices do not overlap.
+    done(unsafe {
+        ffi::smoother_finish(w, h, width, height, channels, planes.as_ptr(), planes.len(), rgb.as_mut_ptr(), rgb.len())
+    })
 }

@@ -311,3 +311,40 @@ fn separate_runs_of_a_sheet() {
         assert_eq!(b.saved, joint.saved[c * 256..][..256]);
     }
 }
+
+#[test]
+fn whole_example() {
+    let sheet = sheet_of(&whole());
+    let planes = sheet.solve().expect("planes");
+    assert_eq!(sheet.finish(&planes), Ok(vec![0x81; 6]));
+}
+
+#[test]
+fn solve_is_the_calls() {
+    let sheet = sheet_of(&joint(3, "w1 w1 w1"));
+    let (mut run, mut b) = started(&sheet);
+    for _ in 0..run.n {
+        for (job, c) in step(run.count) {
+            assert_eq!(call(&mut run, job, c, &sheet.levels, &sheet.tables, &mut b), Ok(Outcome::Done));
+        }
+    }
+    let bits = |values: &[f32]| values.iter().map(|x| x.to_bits()).collect::<Vec<_>>();
+    assert_eq!(bits(&sheet.solve().expect("planes")), bits(&b.plane));
+}
+
+#[test]
+fn solve_refuses() {
+    // document 01: "First data weight h7f000000, first iteration count 1: channel 0 blows in step 1."
+    assert_eq!(sheet_of(&joint(1, "h7f000000 w1 w1")).solve(), Err(Refusal::Blown));
+    let sheet = sheet_of(&joint(1, "w1 w1 w1"));
+    let mut b = sheet.joint_run().buffers();
+    let before = bits(&b);
+    assert_eq!(solve_into(&sheet.numbers()[1..], &sheet.levels, &sheet.tables, &mut b), Err(Refusal::Length));
+    assert_eq!(solve_into(&sheet.numbers(), &sheet.levels[1..], &sheet.tables, &mut b), Err(Refusal::Length));
+    let mut numbers = sheet.numbers();
+    numbers[6] = 1001;
+    assert_eq!(solve_into(&numbers, &sheet.levels, &sheet.tables, &mut b), Err(Refusal::Record));
+    assert_eq!(bits(&b), before);
+    assert_eq!(finish_into([16, 16, 17, 9], 3, &b.plane, &mut [0; 459]), Err(Refusal::Record));
+    assert_eq!(finish_into([16, 16, 13, 9], 3, &b.plane, &mut [0; 352]), Err(Refusal::Length));
+}
