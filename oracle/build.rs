@@ -3,13 +3,14 @@ use std::{env, fs, path::Path};
 
 /// The archives, and for each group of exports in src/probe.rs the archive and an export that tells whether it has the group.
 const ARCHIVES: [&str; 2] = ["probe", "smoother"];
-const GROUPS: [(&str, &str, &str); 6] = [
+const GROUPS: [(&str, &str, &str); 7] = [
     ("probe_float", "probe", "probe_mul_add"),
     ("probe_utils", "probe", "probe_upsample_pixels"),
     ("probe_jobs", "probe", "probe_blend"),
     ("smoother_sheet", "smoother", "smoother_read"),
     ("smoother_calls", "smoother", "smoother_start"),
     ("smoother_serve", "smoother", "smoother_serve"),
+    ("smoother_whole", "smoother", "smoother_solve"),
 ];
 
 fn main() {

@@ -6,7 +6,7 @@ rt staticlib probe
 rt staticlib smoother
 cd oracle
 cargo build --release --bins
-for run in arith utils jobs "sheets --compare" "calls --compare" "calls --faults"; do
+for run in arith utils jobs "sheets --compare" "calls --compare" "calls --faults" planes "planes --faults"; do
     # shellcheck disable=SC2086
     ./target/release/$run
 done

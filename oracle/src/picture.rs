@@ -27,6 +27,11 @@ fn lines(image: &RgbImage) -> String {
 
 /// None where a channel is blown.
 pub fn picture(sheet: &Sheet) -> Option<RgbImage> {
+    planes(sheet).map(|solved| drawn(sheet, solved))
+}
+
+/// The planes of all channels; none where a channel is blown.
+pub fn planes(sheet: &Sheet) -> Option<Vec<AlignedF32>> {
     let mut planes: Vec<AlignedF32> = vec![];
     for mut run in runs(sheet) {
         while !run.is_done() {
@@ -37,21 +42,37 @@ pub fn picture(sheet: &Sheet) -> Option<RgbImage> {
         }
         planes.extend(run.auxs.into_iter().map(|aux| aux.fdata));
     }
-    let settings = Artefact::default()
+    let solved = solved(sheet);
+    let pairs = || solved.iter().flat_map(|p| p.iter()).zip(planes.iter().flat_map(|p| p.iter()));
+    assert!(pairs().all(|(x, y)| same(*x, *y)), "the jobs' planes differ from those of `solve_cpu`");
+    Some(solved)
+}
+
+/// The published `solve_cpu`.
+pub fn solved(sheet: &Sheet) -> Vec<AlignedF32> {
+    solve_cpu(&settings(sheet), &jpeg(sheet), sheet.w, sheet.h)
+}
+
+/// The published `finish`.
+pub fn drawn(sheet: &Sheet, planes: Vec<AlignedF32>) -> RgbImage {
+    finish(&settings(sheet), &jpeg(sheet), planes, sheet.w, sheet.h)
+}
+
+fn settings(sheet: &Sheet) -> Artefact {
+    Artefact::default()
         .weight(ValueCollection::ForEach(sheet.smoothing.map(Weight::value)))
         .pweight(ValueCollection::ForEach(sheet.data.map(Weight::value)))
         .iterations(ValueCollection::ForEach(sheet.counts.map(|n| n as usize)))
-        .separate_components(!sheet.joint);
-    let jpeg = Jpeg {
+        .separate_components(!sheet.joint)
+}
+
+fn jpeg(sheet: &Sheet) -> Jpeg {
+    Jpeg {
         nchannel: sheet.channels.len() as u32,
         real_px_w: sheet.picture_w,
         real_px_h: sheet.picture_h,
         coefs: sheet.channels.iter().map(coefficient).collect(),
-    };
-    let solved = solve_cpu(&settings, &jpeg, sheet.w, sheet.h);
-    let pairs = || solved.iter().flat_map(|p| p.iter()).zip(planes.iter().flat_map(|p| p.iter()));
-    assert!(pairs().all(|(x, y)| same(*x, *y)), "the jobs' planes differ from those of `solve_cpu`");
-    Some(finish(&settings, &jpeg, solved, sheet.w, sheet.h))
+    }
 }
 
 #[cfg(test)]

@@ -264,6 +264,40 @@ exports! { smoother_serve:
     ) -> u32;
 }
 
+exports! { smoother_whole:
+    fn smoother_solve(
+        numbers: *const u32,
+        numbers_len: usize,
+        levels: *const i16,
+        levels_len: usize,
+        tables: *const u16,
+        tables_len: usize,
+        plane: *mut f32,
+        plane_len: usize,
+        prior: *mut f32,
+        prior_len: usize,
+        gradient: *mut f32,
+        gradient_len: usize,
+        across: *mut f32,
+        across_len: usize,
+        down: *mut f32,
+        down_len: usize,
+        saved: *mut f32,
+        saved_len: usize,
+    ) -> u32;
+    fn smoother_finish(
+        w: u32,
+        h: u32,
+        width: u32,
+        height: u32,
+        channels: u32,
+        planes: *const f32,
+        planes_len: usize,
+        rgb: *mut u8,
+        rgb_len: usize,
+    ) -> u32;
+}
+
 /// Whether the library has the call for a list of calls.
 pub const HAS_SERVE: bool = cfg!(smoother_serve);
 

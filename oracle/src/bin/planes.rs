@@ -1,0 +1,391 @@
+//! The whole run and the picture of the proved library beside the published `solve_cpu` and `finish`, bit for bit.
+//!
+//!     planes [N [SEED]]       N sheets at random (20,000), and fixed ones
+//!     planes --faults         plants faults, one kind after another, and fails unless each is reported
+//!     planes --bench [N]      times `solve_cpu` and `smoother_solve` on 32 by 32, three channels, N iterations (1,000), in both modes
+//!
+//! A sheet is written as text, read by the proved reader, solved by its numbers, and finished. Some of what is lent is damaged first, in a length, a number,
+//! a quantiser or a level, or in two of these: the answer is then document 01's, and a refusal leaves all buffers as they were.
+use artefact::AlignedF32;
+use oracle::{
+    bench::best,
+    floats::{any, same},
+    picture::{drawn, planes, solved},
+    probe::{smoother_finish, smoother_measure, smoother_read, smoother_solve},
+    random::Random,
+    sheet::{Channel, Sheet, Weight},
+    tally::Tally,
+    texts::{fixed_runs, legal},
+};
+use std::{collections::BTreeMap, process::ExitCode};
+
+fn main() -> ExitCode {
+    let args: Vec<String> = std::env::args().skip(1).collect();
+    let number = |i: usize, default: u64| args.get(i).map_or(default, |a| a.parse().expect("a whole number"));
+    match args.first().map(String::as_str) {
+        Some("--faults") => faults(),
+        Some("--bench") => bench(number(1, 1000) as u32),
+        _ => {
+            println!("seed {}", number(1, 1));
+            let (tally, answers) = compare(number(0, 20_000), number(1, 1), "");
+            println!("answers of solve, and how often: {answers:?}");
+            tally.close()
+        }
+    }
+}
+
+/// What the whole run is lent.
+#[derive(Clone)]
+struct Lent {
+    numbers: Vec<u32>,
+    levels: Vec<i16>,
+    tables: Vec<u16>,
+    six: [Vec<f32>; 6],
+}
+
+impl Lent {
+    /// By the proved reader. The six hold values left over from something else.
+    fn read(r: &mut Random, text: &[u8]) -> Self {
+        let (mut n, mut m, mut line) = (0, 0, 0);
+        let measured = unsafe { smoother_measure(text.as_ptr(), text.len(), 512, &mut n, &mut m, &mut line) };
+        let (mut levels, mut tables, mut numbers) = (vec![0; n], vec![0; m], vec![0; 27]);
+        let (l, t, h) = (levels.as_mut_ptr(), tables.as_mut_ptr(), numbers.as_mut_ptr());
+        let read = unsafe { smoother_read(text.as_ptr(), text.len(), 512, l, n, t, m, h, 27, &mut line) };
+        assert_eq!((measured, read), (0, 0), "a legal text");
+        let all = (numbers[4] * numbers[0] * numbers[1]) as usize;
+        let left = any(r);
+        let six = [0; 6].map(|_| (0..all).map(|i| if i % 7 == 0 { any(r) } else { left }).collect());
+        Self { numbers, levels, tables, six }
+    }
+
+    fn solve(&mut self) -> u32 {
+        let Self { numbers: n, levels: l, tables: t, six: [a, b, c, d, e, f] } = self;
+        let [a, b, c, d, e, f] = [a, b, c, d, e, f].map(|x| (x.as_mut_ptr(), x.len()));
+        let (n, l, t) = ((n.as_ptr(), n.len()), (l.as_ptr(), l.len()), (t.as_ptr(), t.len()));
+        unsafe {
+            smoother_solve(n.0, n.1, l.0, l.1, t.0, t.1, a.0, a.1, b.0, b.1, c.0, c.1, d.0, d.1, e.0, e.1, f.0, f.1)
+        }
+    }
+
+    /// By document 01 and docs/DECISIONS.md, in order: no record (8), no legal record (13), lengths (8), quantisers (4), levels (5).
+    fn refusal(&self) -> u32 {
+        let n = &self.numbers;
+        if n.len() != 27 {
+            return 8;
+        }
+        if !(n[5] <= 1 && self.is_legal()) {
+            return 13;
+        }
+        let count = n[4] as usize;
+        let all = count * (n[0] * n[1]) as usize;
+        let own: usize = (0..count).map(|c| (n[15 + 4 * c] * n[16 + 4 * c]) as usize).sum();
+        if self.six.iter().any(|x| x.len() != all) || self.levels.len() != own || self.tables.len() != 64 * count {
+            8
+        } else if self.tables.iter().any(|q| !(1..=255).contains(q)) {
+            4
+        } else if self.levels.iter().any(|d| !(-2047..=2047).contains(d)) {
+            5
+        } else {
+            0
+        }
+    }
+
+    /// What the runs of the sheet use, in either mode.
+    fn is_legal(&self) -> bool {
+        let n = &self.numbers;
+        let weight = |bits: u32| f32::from_bits(bits).is_finite() && bits >> 31 == 0;
+        let own = |side: u32, factor: u32, full: u32| {
+            side % 8 == 0
+                && side >= 8
+                && (1..=4).contains(&factor)
+                && u64::from(side) * u64::from(factor) <= full.into()
+        };
+        let channel = |c: usize| {
+            let own_sides = own(n[15 + 4 * c], n[17 + 4 * c], n[0]) && own(n[16 + 4 * c], n[18 + 4 * c], n[1]);
+            own_sides && n[6 + c] <= 1000 && weight(n[9 + c]) && weight(n[12 + c])
+        };
+        n[..2].iter().all(|side| side % 8 == 0 && (8..=512).contains(side))
+            && (n[4] == 1 || n[4] == 3)
+            && (0..n[4] as usize).all(channel)
+    }
+
+    /// The sheet, where nothing is refused.
+    fn sheet(&self) -> Sheet {
+        let n = &self.numbers;
+        let weights = |at: usize| [0, 1, 2].map(|c| Weight::Bits(n[at + c]));
+        let mut levels = self.levels.iter().map(|d| i32::from(*d));
+        let channel = |c: usize| {
+            let [w, h, across, down] = [15, 16, 17, 18].map(|i| n[i + 4 * c]);
+            let table = self.tables[64 * c..][..64].iter().map(|q| u32::from(*q)).collect();
+            Channel { w, h, across, down, table, levels: levels.by_ref().take((w * h) as usize).collect() }
+        };
+        Sheet {
+            w: n[0],
+            h: n[1],
+            picture_w: n[2],
+            picture_h: n[3],
+            joint: n[5] == 1,
+            counts: [n[6], n[7], n[8]],
+            smoothing: weights(9),
+            data: weights(12),
+            channels: (0..n[4] as usize).map(channel).collect(),
+        }
+    }
+}
+
+/// Changes a length, a number, a quantiser or a level. Iteration counts stay small or become illegal.
+fn damage(r: &mut Random, x: &mut Lent) {
+    const NUMBERS: [u32; 22] = [
+        0,
+        1,
+        2,
+        3,
+        4,
+        5,
+        8,
+        12,
+        16,
+        24,
+        32,
+        40,
+        512,
+        513,
+        520,
+        0x3f80_0000,
+        0x7f7f_ffff,
+        0x7f80_0000,
+        0x7fc0_0000,
+        0x8000_0000,
+        0xbf80_0000,
+        u32::MAX,
+    ];
+    match r.below(10) {
+        0 => x.numbers.resize(r.pick(&[0, 1, 26, 28, 54]), 1),
+        1 => x.levels.resize(longer(r, x.levels.len()), 0),
+        2 => x.tables.resize(longer(r, x.tables.len()), 1),
+        3 => {
+            let b = r.below(6);
+            x.six[b].resize(longer(r, x.six[b].len()), 0.0);
+        }
+        4 if !x.tables.is_empty() => {
+            let at = r.below(x.tables.len());
+            x.tables[at] = r.pick(&[0, 1, 255, 256, u16::MAX]);
+        }
+        5 if !x.levels.is_empty() => {
+            let at = r.below(x.levels.len());
+            x.levels[at] = r.pick(&[2047, 2048, -2047, -2048, i16::MIN, i16::MAX]);
+        }
+        _ => {
+            let at = r.below(x.numbers.len().max(1));
+            let count = (6..9).contains(&at);
+            let new = if count { r.pick(&[0, 1, 2, 1001, 65_536, u32::MAX]) } else { r.pick(&NUMBERS) };
+            x.numbers.iter_mut().skip(at).take(1).for_each(|n| *n = new);
+        }
+    }
+}
+
+fn longer(r: &mut Random, length: usize) -> usize {
+    r.pick(&[0, length.saturating_sub(1), length + 1, length.saturating_sub(64), length + 64])
+}
+
+/// The sheets, each with its kind; the largest only where `large`.
+fn sheets(r: &mut Random, count: u64, large: bool) -> impl Iterator<Item = (&'static str, Sheet)> {
+    let fixed = fixed_runs().into_iter().map(|(_, sheet, _)| ("fixed sheet", sheet));
+    let modes = if large { &[true, false][..] } else { &[] };
+    let large: Vec<_> = modes.iter().map(|joint| ("512 by 512, three channels", full(r, 512, *joint, 1))).collect();
+    fixed.chain(large).chain(
+        (0..count).map(
+            move |i| {
+                if i % 50 == 0 { ("sides to 512", legal(r, 512, 2)) } else { ("sides to 64", legal(r, 64, 5)) }
+            },
+        ),
+    )
+}
+
+/// Three channels that cover all of it.
+fn full(r: &mut Random, side: u32, joint: bool, steps: u32) -> Sheet {
+    let channel = |_| Channel {
+        w: side,
+        h: side,
+        across: 1,
+        down: 1,
+        table: (0..64).map(|_| r.between(1, 99) as u32).collect(),
+        levels: (0..side * side).map(|_| r.between(-9, 9) as i32).collect(),
+    };
+    let channels = (0..3).map(channel).collect();
+    let weight = |thousandths: u32| Weight::Bits((thousandths as f32 / 1000.0).to_bits());
+    Sheet {
+        w: side,
+        h: side,
+        picture_w: side,
+        picture_h: side,
+        joint,
+        counts: [steps; 3],
+        smoothing: [300, 700, 1100].map(weight),
+        data: [5, 1, 2].map(weight),
+        channels,
+    }
+}
+
+const FAULTS: [&str; 9] = [
+    "the other mode",
+    "the second data weight for the first",
+    "one step less",
+    "the lowest bit of the last value",
+    "done where blown",
+    "a value changed by a refusal",
+    "another number of a refusal",
+    "a byte of the picture",
+    "width and height of the picture exchanged",
+];
+
+/// Compares, with a fault planted in what the proved library is lent or gives; none where its name is empty.
+fn compare(count: u64, seed: u64, fault: &str) -> (Tally, BTreeMap<u32, u64>) {
+    let (mut r, mut tally, mut answers) = (Random::new(seed), Tally::default(), BTreeMap::new());
+    let mut made = Random::new(seed ^ 0x5eed);
+    for (kind, sheet) in sheets(&mut made, count, fault.is_empty()) {
+        let whole = Lent::read(&mut r, &sheet.text());
+        if r.one_in(2) {
+            let mut x = whole.clone();
+            (0..r.pick(&[1, 1, 2])).for_each(|_| damage(&mut r, &mut x));
+            let due = x.refusal();
+            if due != 0 {
+                let before = x.clone();
+                let mut answer = x.solve();
+                *answers.entry(answer).or_default() += 1;
+                match fault {
+                    "a value changed by a refusal" => x.six[0].iter_mut().take(1).for_each(|v| *v = 1.5),
+                    "another number of a refusal" => answer = 21 - answer,
+                    _ => (),
+                }
+                let kept = x.six.iter().zip(&before.six).all(|(a, b)| equal(a, b));
+                tally.count_in("refused", answer == due && kept, || format!("{answer} for {due}, {:?}", x.numbers));
+            } else {
+                let sheet = x.sheet();
+                solved_as(&mut tally, &mut answers, "damaged, but legal", &sheet, x, fault);
+            }
+        }
+        let plane = solved_as(&mut tally, &mut answers, kind, &sheet, whole, fault);
+        finished(&mut tally, &mut r, &sheet, plane, fault);
+    }
+    (tally, answers)
+}
+
+/// Solves, and holds the planes against the published ones; gives the proved planes.
+fn solved_as(
+    tally: &mut Tally,
+    answers: &mut BTreeMap<u32, u64>,
+    kind: &str,
+    sheet: &Sheet,
+    mut x: Lent,
+    fault: &str,
+) -> Option<Vec<f32>> {
+    match fault {
+        "the other mode" => x.numbers[5] ^= 1,
+        "the second data weight for the first" => x.numbers[12] = x.numbers[13],
+        "one step less" => x.numbers[6] = x.numbers[6].saturating_sub(1),
+        _ => (),
+    }
+    let mut answer = x.solve();
+    let [mut plane, ..] = x.six;
+    *answers.entry(answer).or_default() += 1;
+    match fault {
+        "the lowest bit of the last value" => {
+            plane.iter_mut().last().into_iter().for_each(|v| *v = f32::from_bits(v.to_bits() ^ 1));
+        }
+        "done where blown" if answer == 10 => answer = 0,
+        _ => (),
+    }
+    let due = planes(sheet);
+    let equal = match &due {
+        None => answer == 10,
+        Some(due) => answer == 0 && equal(&plane, &due.iter().flat_map(|p| p.iter().copied()).collect::<Vec<_>>()),
+    };
+    tally.count_in(kind, equal, || format!("answer {answer}, blown {}, numbers {:?}", due.is_none(), x.numbers));
+    (answer == 0).then_some(plane)
+}
+
+/// The picture of the planes, and of any values; then with wrong sizes or lengths.
+fn finished(tally: &mut Tally, r: &mut Random, sheet: &Sheet, plane: Option<Vec<f32>>, fault: &str) {
+    let all = sheet.channels.len() * (sheet.w * sheet.h) as usize;
+    let kind = if plane.is_some() { "pictures" } else { "pictures of any values" };
+    let plane = plane
+        .unwrap_or_else(|| (0..all).map(|_| if r.one_in(3) { any(r) } else { r.between(-200, 200) as f32 }).collect());
+    let sizes = [sheet.w, sheet.h, sheet.picture_w, sheet.picture_h, sheet.channels.len() as u32];
+    let mut lent = sizes;
+    if fault == "width and height of the picture exchanged" && lent[2].max(lent[3]) <= lent[0].min(lent[1]) {
+        lent.swap(2, 3);
+    }
+    let bytes = (3 * sheet.picture_w * sheet.picture_h) as usize;
+    let (answer, mut rgb) = finish(lent, &plane, bytes);
+    if fault == "a byte of the picture" {
+        rgb[0] ^= 1;
+    }
+    let parts = plane.chunks((sheet.w * sheet.h) as usize).map(|part| AlignedF32::from(part.to_vec()));
+    let due = drawn(sheet, parts.collect()).bytes;
+    tally.count_in(kind, answer == 0 && rgb == due, || format!("answer {answer}, sizes {sizes:?}"));
+
+    let (mut lent, mut values, mut length) = (sizes, all, bytes);
+    match r.below(8) {
+        0 => values = longer(r, values),
+        1 => length = longer(r, length),
+        _ => lent[r.below(5)] = r.pick(&[0, 1, 2, 3, 4, 8, 12, 16, 64, 512, 513, 520, u32::MAX]),
+    }
+    let [w, h, width, height, channels] = lent;
+    let legal = [w, h].iter().all(|n| n % 8 == 0 && (8..=512).contains(n))
+        && (1..=w).contains(&width)
+        && (1..=h).contains(&height)
+        && (channels == 1 || channels == 3);
+    let fits = || values == (channels * w * h) as usize && length == (3 * width * height) as usize;
+    let due = if !legal {
+        13
+    } else if !fits() {
+        8
+    } else {
+        0
+    };
+    if due != 0 {
+        let mut values = vec![0.5; values];
+        values.iter_mut().zip(&plane).for_each(|(x, y)| *x = *y);
+        let (answer, rgb) = finish(lent, &values, length);
+        let kept = rgb.iter().all(|byte| *byte == 7);
+        tally.count_in("pictures refused", answer == due && kept, || format!("{answer} for {due}, {lent:?}"));
+    }
+}
+
+/// The proved `finish` on bytes that are 7.
+fn finish([w, h, width, height, channels]: [u32; 5], planes: &[f32], bytes: usize) -> (u32, Vec<u8>) {
+    let mut rgb = vec![7; bytes];
+    let answer = unsafe {
+        smoother_finish(w, h, width, height, channels, planes.as_ptr(), planes.len(), rgb.as_mut_ptr(), rgb.len())
+    };
+    (answer, rgb)
+}
+
+fn equal(a: &[f32], b: &[f32]) -> bool {
+    a.len() == b.len() && a.iter().zip(b).all(|(x, y)| same(*x, *y))
+}
+
+fn faults() -> ExitCode {
+    let missed: Vec<_> = FAULTS.into_iter().filter(|fault| compare(400, 1, fault).0.differ() == 0).collect();
+    println!("{} kinds of fault planted, {} reported; missed: {missed:?}", FAULTS.len(), FAULTS.len() - missed.len());
+    u8::from(!missed.is_empty()).into()
+}
+
+fn bench(steps: u32) -> ExitCode {
+    let mut r = Random::new(1);
+    for joint in [true, false] {
+        let sheet = full(&mut r, 32, joint, steps);
+        let mut x = Lent::read(&mut r, &sheet.text());
+        let rust = best(3, 1, || solved(&sheet)) / 1e9;
+        let proved = best(3, 1, || x.solve()) / 1e9;
+        let due: Vec<f32> = solved(&sheet).iter().flat_map(|p| p.iter().copied()).collect();
+        assert!(equal(&x.six[0], &due), "the planes differ");
+        let mode = if joint { "joint" } else { "separate" };
+        println!(
+            "{mode}: published {rust:.2} s, proved {proved:.2} s, ratio {:.1}; the planes are equal",
+            proved / rust
+        );
+    }
+    ExitCode::SUCCESS
+}
