@@ -4,9 +4,11 @@ set -eu
 cd "$(dirname "$0")/.."
 rt staticlib probe
 rt staticlib smoother
+./smooth --build
 cd oracle
 cargo build --release --bins
 for run in arith utils jobs "sheets --compare" "calls --compare" "calls --faults" planes "planes --faults"; do
     # shellcheck disable=SC2086
     ./target/release/$run
 done
+./target/release/smooth --compare ../target/bin/smooth 20000
