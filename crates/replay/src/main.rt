@@ -1,8 +1,8 @@
 // Replays the oracle's answers: each line of standard input has an operation, its operands and the answer of the Rust.
 // Writes how many of the lines have the answer that the proved code gives, and how many have another.
 mod arith;
+mod block;
 mod sheets;
-mod solver;
 mod transforms;
 
 use words::Tally;
@@ -32,7 +32,7 @@ fn same_line(s: &[u8], at: usize) -> bool
     }
     if second == b'o' {
         if first == b's' {
-            return solver::same_solve(s, at);
+            return block::same_solve(s, at);
         }
     }
     if first == b'r' {

@@ -1,10 +1,10 @@
 use Rattle.replay.proofs.Whole.{covers, size}
 use borrow.Author.Needs.{needs}
-use Rattle.replay.proofs.solver.data64.Statement.{statement}
-use Rattle.replay.proofs.solver.data64.Tie as tie
-use Rattle.replay.proofs.solver.data64.Reads as reads
-use Rattle.replay.proofs.solver.data64.Lts as lts
-use Rattle.replay.proofs.solver.own.Reads as own-reads
+use Rattle.replay.proofs.block.data64.Statement.{statement}
+use Rattle.replay.proofs.block.data64.Tie as tie
+use Rattle.replay.proofs.block.data64.Reads as reads
+use Rattle.replay.proofs.block.data64.Lts as lts
+use Rattle.replay.proofs.block.own.Reads as own-reads
 use Rattle.scalar.proofs.dct_gradient.data.Reads as data-reads
 
 own-requires : tie.Need-own-requires

@@ -2,11 +2,11 @@ use mathlib.Core.Path.{_≡_}
 use Prim.Native.Nat.{_≤_, _-_}
 use lib.ListN.{length}
 use borrow.Author.Needs.{needs}
-use Rattle.replay.proofs.solver.read_table.Statement.{statement}
-use Rattle.replay.proofs.solver.read_table.Tie as tie
-use Rattle.replay.proofs.solver.read_table.Reads as reads
-use Rattle.replay.proofs.solver.read_table.Lts as lts
-use Rattle.replay.proofs.solver.quantiser.Reads as quantiser-reads
+use Rattle.replay.proofs.block.read_table.Statement.{statement}
+use Rattle.replay.proofs.block.read_table.Tie as tie
+use Rattle.replay.proofs.block.read_table.Reads as reads
+use Rattle.replay.proofs.block.read_table.Lts as lts
+use Rattle.replay.proofs.block.quantiser.Reads as quantiser-reads
 use Rattle.words.proofs.next_word.Reads as next-word-reads
 use Rattle.words.proofs.number.Reads as number-reads
 use Rattle.words.proofs.word_at.Reads as word-at-reads

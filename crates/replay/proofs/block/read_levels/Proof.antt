@@ -2,11 +2,11 @@ use mathlib.Core.Path.{_≡_}
 use Prim.Native.Nat.{_≤_, _-_}
 use lib.ListN.{length}
 use borrow.Author.Needs.{needs}
-use Rattle.replay.proofs.solver.read_levels.Statement.{statement}
-use Rattle.replay.proofs.solver.read_levels.Tie as tie
-use Rattle.replay.proofs.solver.read_levels.Reads as reads
-use Rattle.replay.proofs.solver.read_levels.Lts as lts
-use Rattle.replay.proofs.solver.level.Reads as level-reads
+use Rattle.replay.proofs.block.read_levels.Statement.{statement}
+use Rattle.replay.proofs.block.read_levels.Tie as tie
+use Rattle.replay.proofs.block.read_levels.Reads as reads
+use Rattle.replay.proofs.block.read_levels.Lts as lts
+use Rattle.replay.proofs.block.level.Reads as level-reads
 use Rattle.words.proofs.next_word.Reads as next-word-reads
 use Rattle.words.proofs.number.Reads as number-reads
 use Rattle.words.proofs.word_at.Reads as word-at-reads

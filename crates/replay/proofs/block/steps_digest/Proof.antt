@@ -2,11 +2,11 @@ use mathlib.Core.Path.{_≡_}
 use Prim.Native.Nat.{_≤_, _<_, _-_}
 use lib.ListN.{length}
 use borrow.Author.Needs.{needs}
-use Rattle.replay.proofs.solver.steps_digest.Statement.{statement}
-use Rattle.replay.proofs.solver.steps_digest.Tie as tie
-use Rattle.replay.proofs.solver.steps_digest.Reads as reads
-use Rattle.replay.proofs.solver.steps_digest.Lts as lts
-use Rattle.replay.proofs.solver.step_digest.Reads as step-digest-reads
+use Rattle.replay.proofs.block.steps_digest.Statement.{statement}
+use Rattle.replay.proofs.block.steps_digest.Tie as tie
+use Rattle.replay.proofs.block.steps_digest.Reads as reads
+use Rattle.replay.proofs.block.steps_digest.Lts as lts
+use Rattle.replay.proofs.block.step_digest.Reads as step-digest-reads
 use Rattle.steps.proofs.solve.step_constants.Reads as step-constants-reads
 
 abbrev Inv-loop : tie.InvT-loop

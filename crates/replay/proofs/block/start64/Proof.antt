@@ -1,10 +1,10 @@
 use Rattle.replay.proofs.Whole.{covers, size}
 use borrow.Author.Needs.{needs}
-use Rattle.replay.proofs.solver.start64.Statement.{statement}
-use Rattle.replay.proofs.solver.start64.Tie as tie
-use Rattle.replay.proofs.solver.start64.Reads as reads
-use Rattle.replay.proofs.solver.start64.Lts as lts
-use Rattle.replay.proofs.solver.own.Reads as own-reads
+use Rattle.replay.proofs.block.start64.Statement.{statement}
+use Rattle.replay.proofs.block.start64.Tie as tie
+use Rattle.replay.proofs.block.start64.Reads as reads
+use Rattle.replay.proofs.block.start64.Lts as lts
+use Rattle.replay.proofs.block.own.Reads as own-reads
 use Rattle.scalar.proofs.auxiliary.start.Reads as start-reads
 
 own-requires : tie.Need-own-requires

@@ -1,10 +1,10 @@
 use Rattle.replay.proofs.Whole.{covers, size}
 use borrow.Author.Needs.{needs}
-use Rattle.replay.proofs.solver.project64.Statement.{statement}
-use Rattle.replay.proofs.solver.project64.Tie as tie
-use Rattle.replay.proofs.solver.project64.Reads as reads
-use Rattle.replay.proofs.solver.project64.Lts as lts
-use Rattle.replay.proofs.solver.own.Reads as own-reads
+use Rattle.replay.proofs.block.project64.Statement.{statement}
+use Rattle.replay.proofs.block.project64.Tie as tie
+use Rattle.replay.proofs.block.project64.Reads as reads
+use Rattle.replay.proofs.block.project64.Lts as lts
+use Rattle.replay.proofs.block.own.Reads as own-reads
 use Rattle.scalar.proofs.projection.project_onto_box.Reads as project-onto-box-reads
 
 own-requires : tie.Need-own-requires

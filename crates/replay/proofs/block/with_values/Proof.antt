@@ -1,9 +1,9 @@
 use Prim.Native.Nat.{_≤_, _<_, _-_}
 use borrow.Author.Needs.{needs}
-use Rattle.replay.proofs.solver.with_values.Statement.{statement}
-use Rattle.replay.proofs.solver.with_values.Tie as tie
-use Rattle.replay.proofs.solver.with_values.Reads as reads
-use Rattle.replay.proofs.solver.with_values.Lts as lts
+use Rattle.replay.proofs.block.with_values.Statement.{statement}
+use Rattle.replay.proofs.block.with_values.Tie as tie
+use Rattle.replay.proofs.block.with_values.Reads as reads
+use Rattle.replay.proofs.block.with_values.Lts as lts
 use Rattle.float.proofs.bits.to_bits.Reads as to-bits-reads
 use Rattle.replay.proofs.sheets.wide32.Reads as wide32-reads
 use Rattle.replay.proofs.sheets.with.Reads as with-reads
