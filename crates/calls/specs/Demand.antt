@@ -10,17 +10,17 @@ use Rattle.scalar.specs.Buffers.{Buffers}
 use Rattle.calls.specs.Buffers.{channel, joined}
 use Rattle.calls.specs.Jobs.{Call, Jobs, fixed}
 use Rattle.interval.specs.Interval.{InInterval}
-use Rattle.calls.specs.Calls.{State, answers, final, noneYet, plainAnswers, plainPlaces}
+use Rattle.calls.specs.Calls.{Answer, State, answers, final, noneYet, plainAnswers, plainPlaces}
 
 -- channel c's saved coefficient k is in its interval
 abbrev pub SavedIn : Given → ℕ → ℕ → Buffers → Type 0
 SavedIn G c k b = InInterval (level G c k) (level G c k) (quantiser G c k) (getD (b .saved) k nan)
 
--- The claim, of a list xs of calls made one after the other on the state s that start left:
--- t is the state that they leave, and ps are the plain run's counts and marks after the same calls.
-pub record Claim (J : Jobs) (G : Given) (xs : List Call) (s t : State) (ps : List Place) : Type 0 where
+-- The claim, of a list xs of calls made one after the other on a fresh run: `said` are the answers given, t is the state left,
+-- and ps are the plain run's counts and marks after the same calls.
+pub record Claim (J : Jobs) (G : Given) (xs : List Call) (said : List Answer) (t : State) (ps : List Place) : Type 0 where
   -- each call answers as the plain run does
-  pub same-answers : answers J G xs s ≡ plainAnswers J G xs (noneYet G)
+  pub same-answers : said ≡ plainAnswers J G xs (noneYet G)
   -- positions and marks are the plain run's counts and marks
   pub same-places : t .places ≡ ps
   -- the lent buffers hold each channel's six, as they are fixed for its count, one channel after the other
@@ -29,4 +29,4 @@ pub record Claim (J : Jobs) (G : Given) (xs : List Call) (s t : State) (ps : Lis
   pub in-interval : (c : ℕ) → c < count G → place ps c .mark ≡ false → (k : ℕ) → k < coefs (G .sheet) c → SavedIn G c k (channel (area G) c (t .buffers))
 
 abbrev pub Demand3 : Jobs → Given → List Call → State → Type 0
-Demand3 J G xs s = Claim J G xs s (final J G xs s) (plainPlaces J G xs (noneYet G))
+Demand3 J G xs s = Claim J G xs (answers J G xs s) (final J G xs s) (plainPlaces J G xs (noneYet G))
