@@ -9,7 +9,7 @@ use lib.ListN.{length, getD, set, take, length-map}
 use lib.Seq.{take-all}
 use Rattle.calls.specs.Run.{Own, Place, fresh}
 use Rattle.calls.proofs.Tests.{getD-map-lt}
-use Rattle.record.specs.Model.{ownOf, placeOf, sheetOf, placesOf, withPlace, withPlaces, placed, noChannel}
+use Rattle.record.specs.Model.{ownOf, placeOf, sheetOf, placesOf, sheetWith, withPlace, withPlaces, withChannels, placed, noChannel}
 use Rattle.record.specs.declared.Run.{Run}
 use Rattle.record.specs.declared.Channel.{Channel}
 use Rattle.record.proofs.Channels.{first-long, at-place}
@@ -51,29 +51,28 @@ owns-stay n (x ∷ xs) [] = refl
 owns-stay zero (x ∷ xs) (p ∷ ps) = refl
 owns-stay (suc n) (x ∷ xs) (p ∷ ps) = ap (λ (l : List Own). ownOf x ∷ l) (owns-stay n xs ps)
 
-places-are : (n : ℕ) (xs : List Channel) (ps : List Place) → length ps ≡ n → n ≤ length xs → map placeOf (take n (withPlaces xs ps)) ≡ ps
-places-are n xs [] e h = rw (← e)
-places-are n [] (p ∷ ps) e h = absurd (not-suc-le-zero (rw (← e) at h))
-places-are n (x ∷ xs) (p ∷ ps) e h = rw (← e) (ap (λ (l : List Place). p ∷ l) (places-are (length ps) xs ps refl (le-of-suc-le-suc (rw (← e) at h))))
+-- other places, as many as there are
+places-are : (n : ℕ) (xs : List Channel) (ps : List Place) → length ps ≡ length (map placeOf (take n xs)) → map placeOf (take n (withPlaces xs ps)) ≡ ps
+places-are zero [] [] e = refl
+places-are (suc n) [] [] e = refl
+places-are zero [] (p ∷ ps) e = absurd (omega arith)
+places-are (suc n) [] (p ∷ ps) e = absurd (omega arith)
+places-are zero (x ∷ xs) [] e = refl
+places-are zero (x ∷ xs) (p ∷ ps) e = absurd (omega arith)
+places-are (suc n) (x ∷ xs) [] e = absurd (omega arith)
+places-are (suc n) (x ∷ xs) (p ∷ ps) e = ap (λ (l : List Place). p ∷ l) (places-are n xs ps (omega arith))
 
 -- ---- the struct
 
-with : Run → List Channel → Run
-with r cs = record { w = r .w; h = r .h; n = r .n; smoothing = r .smoothing; count = r .count; channels = cs }
-
 pub placed-same : (r : Run) → placed r (placesOf r) ≡ r
-unfolding with
-placed-same r = ap (with r) (none (r .count) (r .channels))
+placed-same r = ap (withChannels r) (none (r .count) (r .channels))
 
 pub placed-one : (r : Run) (c : ℕ) (q : Place) → c < r .count
-    → record { w = r .w; h = r .h; n = r .n; smoothing = r .smoothing; count = r .count; channels = set (r .channels) c (withPlace (getD (r .channels) c noChannel) q) }
-    ≡ placed r (set (placesOf r) c q)
-unfolding with
-placed-one r c q h = ap (with r) (sym (one (r .count) (r .channels) c q h))
+    → withChannels r (set (r .channels) c (withPlace (getD (r .channels) c noChannel) q)) ≡ placed r (set (placesOf r) c q)
+placed-one r c q h = ap (withChannels r) (sym (one (r .count) (r .channels) c q h))
 
 pub placed-none : (r : Run) (qs : List Place) → r ≡ placed r (take 0 qs)
-unfolding with
-placed-none r qs = ap (with r) (sym (none-yet (r .channels) qs))
+placed-none r qs = ap (withChannels r) (sym (none-yet (r .channels) qs))
 
 -- a change of each place, channel by channel: one more, at the code's `k + 1`, and all of them
 module _ (r : Run) (long : r .count ≤ length (r .channels)) (g : Place → Place) where
@@ -82,27 +81,24 @@ module _ (r : Run) (long : r .count ≤ length (r .channels)) (g : Place → Pla
 
   pub placed-more : (k : ℕ) → k < r .count
       → let s = placed r (take k (map g (placesOf r))) in
-      record { w = s .w; h = s .h; n = s .n; smoothing = s .smoothing; count = s .count; channels = set (s .channels) k (withPlace (getD (s .channels) k noChannel) (g (placeOf (getD (r .channels) k noChannel)))) }
+      withChannels r (set (s .channels) k (withPlace (getD (s .channels) k noChannel) (g (placeOf (getD (r .channels) k noChannel)))))
       ≡ placed r (take (k + 1) (map g (placesOf r)))
-  unfolding with
   placed-more k h =
       let is : g (placeOf (getD (r .channels) k noChannel)) ≡ getD (map g (placesOf r)) k fresh =
       ap g (sym (at-place r k long h)) ∙ sym (getD-map-lt g (placesOf r) fresh fresh k (omega (arith, first-long placeOf fresh r long))) in
-      rw (is, add-one) (ap (with r) (more (r .channels) (map g (placesOf r)) k (omega arith) (omega (arith, counted))))
+      rw (is, add-one) (ap (withChannels r) (more (r .channels) (map g (placesOf r)) k (omega arith) (omega (arith, counted))))
 
   pub placed-all : (k : ℕ) → r .count ≤ k → placed r (take k (map g (placesOf r))) ≡ placed r (map g (placesOf r))
   placed-all k h = ap (placed r) (take-all k (map g (placesOf r)) (omega (arith, counted)))
 
 pub sheet-stays : (r : Run) (ps : List Place) → sheetOf (placed r ps) ≡ sheetOf r
-sheet-stays r ps =
-    ap (λ (os : List Own). record { W = r .w; H = r .h; N = r .n; smoothing = r .smoothing; count = r .count; owns = os }) (owns-stay (r .count) (r .channels) ps)
+sheet-stays r ps = ap (sheetWith r) (owns-stay (r .count) (r .channels) ps)
 
-pub places-placed : (r : Run) (ps : List Place) → length ps ≡ r .count → r .count ≤ length (r .channels) → placesOf (placed r ps) ≡ ps
-places-placed r ps e h = places-are (r .count) (r .channels) ps e h
+pub places-placed : (r : Run) (ps : List Place) → length ps ≡ length (placesOf r) → placesOf (placed r ps) ≡ ps
+places-placed r ps e = places-are (r .count) (r .channels) ps e
 
-pub placed-twice : (r : Run) (ps qs : List Place) → length ps ≡ r .count → length qs ≡ r .count → placed (placed r ps) qs ≡ placed r qs
-unfolding with
-placed-twice r ps qs e f = ap (with r) (twice (r .channels) ps qs (e ∙ sym f))
+pub placed-twice : (r : Run) (ps qs : List Place) → length ps ≡ length qs → placed (placed r ps) qs ≡ placed r qs
+placed-twice r ps qs e = ap (withChannels r) (twice (r .channels) ps qs e)
   where
     twice : (xs : List Channel) (ps qs : List Place) → length ps ≡ length qs → withPlaces (withPlaces xs ps) qs ≡ withPlaces xs qs
     twice [] ps qs e = refl

@@ -19,16 +19,12 @@ ownOf c = record { width = c .width; height = c .height; across = c .across; dow
 abbrev pub placeOf : Channel → Place
 placeOf c = record { position = c .position; mark = c .mark }
 
+-- the sheet's half, with these own numbers of the channels
+abbrev pub sheetWith : Run → List Own → Sheet
+sheetWith r os = record { W = r .w; H = r .h; N = r .n; smoothing = r .smoothing; count = r .count; owns = os }
+
 abbrev pub sheetOf : Run → Sheet
-sheetOf r =
-    record {
-      W = r .w;
-      H = r .h;
-      N = r .n;
-      smoothing = r .smoothing;
-      count = r .count;
-      owns = map ownOf (take (r .count) (r .channels));
-    }
+sheetOf r = sheetWith r (map ownOf (take (r .count) (r .channels)))
 
 abbrev pub placesOf : Run → List Place
 placesOf r = map placeOf (take (r .count) (r .channels))
@@ -41,7 +37,10 @@ givenOf r levels tables = record { sheet = sheetOf r; levels = levels; tables = 
 abbrev pub Legal : Run → Type 0
 Legal r = T (legal (sheetOf r) (placesOf r))
 
--- ---- the struct with other places: channel by channel, as long as there are places; the rest of it stays
+-- ---- the struct with other channels, and with other places: channel by channel, as long as there are places; the rest of it stays
+
+abbrev pub withChannels : Run → List Channel → Run
+withChannels r cs = record { w = r .w; h = r .h; n = r .n; smoothing = r .smoothing; count = r .count; channels = cs }
 
 abbrev pub withPlace : Channel → Place → Channel
 withPlace c p =
@@ -53,8 +52,7 @@ withPlaces (c ∷ cs) [] = c ∷ cs
 withPlaces (c ∷ cs) (p ∷ ps) = withPlace c p ∷ withPlaces cs ps
 
 abbrev pub placed : Run → List Place → Run
-placed r ps =
-    record { w = r .w; h = r .h; n = r .n; smoothing = r .smoothing; count = r .count; channels = withPlaces (r .channels) ps }
+placed r ps = withChannels r (withPlaces (r .channels) ps)
 
 -- what is read past the three channels
 abbrev pub noChannel : Channel

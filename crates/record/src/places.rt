@@ -7,7 +7,7 @@ ghost use Prim.Native.Nat.{suc, _+_, _*_, _/_, _<_, _≤_};
 ghost use lib.ListN.{getD, set};
 ghost use Rattle.calls.specs.Run.{fresh, place};
 ghost use Rattle.calls.specs.Calls.{blended};
-ghost use Rattle.record.specs.Model.{Legal, placesOf, placed, withPlace, noChannel};
+ghost use Rattle.record.specs.Model.{Legal, placesOf, placed, withChannels, withPlace, noChannel};
 
 // Where channel c's values begin and end in a lent buffer, and the step that its next job belongs to.
 pub struct Span {
@@ -33,7 +33,7 @@ pub fn span_of(run: Run, c: u32) -> Span
 
 fn with_place(run: Run, c: usize, position: u32, mark: bool) -> Run
     requires { ⌜ c < 3 ⌝ }
-    ensures { λ r. ⌜ r ≡ record { w = run .w; h = run .h; n = run .n; smoothing = run .smoothing; count = run .count; channels = set (run .channels) c (withPlace (getD (run .channels) c noChannel) (record { position = position; mark = mark })) } ⌝ }
+    ensures { λ r. ⌜ r ≡ withChannels run (set (run .channels) c (withPlace (getD (run .channels) c noChannel) (record { position = position; mark = mark }))) ⌝ }
 {
     let mut next = run;
     let mut x = run.channels[c];

@@ -15,10 +15,9 @@ use Rattle.calls.specs.Jobs.{Call, on, blend}
 use Rattle.calls.specs.Calls.{State, Outcome, settle, accept, refusal, lengths, lent, call, answers, final, blended}
 use Rattle.demand.specs.Solver.{jobs}
 use Rattle.record.specs.declared.Run.{Run}
-use Rattle.record.specs.declared.Channel.{Channel}
 use Rattle.record.specs.declared.Answer.{Answer}
-use Rattle.record.specs.Model.{placeOf, placesOf, givenOf, withPlace, withPlaces, placed, answerOf}
-use Rattle.record.proofs.Placed.{placed-same, sheet-stays}
+use Rattle.record.specs.Model.{placesOf, givenOf, placed, answerOf}
+use Rattle.record.proofs.Placed.{placed-same, sheet-stays, places-placed, placed-twice}
 use Rattle.run.specs.Public.{Result, gave, stateOf, callOf}
 use Rattle.calls.proofs.Tests.{all-anywhere}
 use Rattle.serve.specs.Serve.{numbered, numberedOf, callList, allJobs, byteOf, Listed, ran, listOf}
@@ -43,31 +42,6 @@ module _ (G : Given) where
   unfolding final
   final-long [] s = refl
   final-long (x ∷ xs) s = final-long xs (call jobs G x s .after) ∙ call-long x s
-
--- ---- the struct with other places, as many as it has
-
-places-are : (n : ℕ) (cs : List Channel) (ps : List Place) → length ps ≡ length (map placeOf (take n cs)) → map placeOf (take n (withPlaces cs ps)) ≡ ps
-places-are zero [] [] e = refl
-places-are (suc n) [] [] e = refl
-places-are zero [] (p ∷ ps) e = absurd (omega arith)
-places-are (suc n) [] (p ∷ ps) e = absurd (omega arith)
-places-are zero (c ∷ cs) [] e = refl
-places-are zero (c ∷ cs) (p ∷ ps) e = absurd (omega arith)
-places-are (suc n) (c ∷ cs) [] e = absurd (omega arith)
-places-are (suc n) (c ∷ cs) (p ∷ ps) e = ap (λ (l : List Place). p ∷ l) (places-are n cs ps (omega arith))
-
-pub places-placed : (r : Run) (ps : List Place) → length ps ≡ length (placesOf r) → placesOf (placed r ps) ≡ ps
-places-placed r ps e = places-are (r .count) (r .channels) ps e
-
-twice : (cs : List Channel) (ps qs : List Place) → length ps ≡ length qs → withPlaces (withPlaces cs ps) qs ≡ withPlaces cs qs
-twice [] ps qs e = refl
-twice (c ∷ cs) [] qs e = refl
-twice (c ∷ cs) (p ∷ ps) [] e = absurd (omega arith)
-twice (c ∷ cs) (p ∷ ps) (q ∷ qs) e = ap (λ (l : List Channel). withPlace c q ∷ l) (twice cs ps qs (omega arith))
-
-pub placed-twice : (r : Run) (ps qs : List Place) → length ps ≡ length qs → placed (placed r ps) qs ≡ placed r qs
-placed-twice r ps qs e =
-    ap (λ (cs : List Channel). record { w = r .w; h = r .h; n = r .n; smoothing = r .smoothing; count = r .count; channels = cs }) (twice (r .channels) ps qs e)
 
 -- ---- a list of calls
 
