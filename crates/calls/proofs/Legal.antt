@@ -12,8 +12,8 @@ use lib.ListN.{length, getD, set, length-set, length-map}
 use lib.Seq.{getD-set-same, getD-set-other}
 use borrow.Author.Tests.{eqb-false}
 use Rattle.calls.specs.Run.{Sheet, Place, fresh, place, every, among, blendsIn, placeOk, placesOk}
-use Rattle.calls.specs.Jobs.{Job, push, fidelity, move, project, Call, on, blend, turn, blendTurn}
-use Rattle.calls.specs.Calls.{first, turnTests, advance, blended}
+use Rattle.calls.specs.Jobs.{Job, push, fidelity, move, project, Call, on, blend, turn, blendTurn, Seen}
+use Rattle.calls.specs.Calls.{first, turnTests, advance, onward}
 use Rattle.calls.proofs.Tests.{never, not-is, or-r, or-i, every-at, every-of, none-at, getD-map-lt, passed-of, turn-numbered}
 
 -- ---- what an accepted call has passed
@@ -115,18 +115,18 @@ same-blends fidelity p e = omega arith
 same-blends move p e = omega arith
 same-blends project p e = omega arith
 
-pub advance-position : (j : Job) (bad : Bool) (p : Place) → advance j bad p .position ≡ suc (p .position)
-advance-position push bad p = refl
-advance-position fidelity bad p = refl
-advance-position move bad p = refl
-advance-position project bad p = refl
+pub advance-position : (j : Job) (x : Seen) (p : Place) → advance j x p .position ≡ suc (p .position)
+advance-position push x p = refl
+advance-position fidelity x p = refl
+advance-position move x p = refl
+advance-position project x p = refl
 
-advance-is : (S : Sheet) (j : Job) (bad : Bool) (p : Place) → PlaceIs S p → p .mark ≡ false → (p .position ≡ 5 * S .N → ⊥) → p .position % 5 ≡ turn j
-    → PlaceIs S (advance j bad p)
-advance-is S push bad p h m f t = record { within = omega (arith, h .within); marked = λ e. never (p .mark) m e }
-advance-is S fidelity bad p h m f t = record { within = omega (arith, h .within); marked = λ e. never (p .mark) m e }
-advance-is S move bad p h m f t = record { within = omega (arith, h .within); marked = λ e. never (p .mark) m e }
-advance-is S project bad p h m f t = record { within = omega (arith, h .within); marked = λ e. omega arith }
+advance-is : (S : Sheet) (j : Job) (x : Seen) (p : Place) → PlaceIs S p → p .mark ≡ false → (p .position ≡ 5 * S .N → ⊥) → p .position % 5 ≡ turn j
+    → PlaceIs S (advance j x p)
+advance-is S push x p h m f t = record { within = omega (arith, h .within); marked = λ e. never (p .mark) m e }
+advance-is S fidelity x p h m f t = record { within = omega (arith, h .within); marked = λ e. never (p .mark) m e }
+advance-is S move x p h m f t = record { within = omega (arith, h .within); marked = λ e. never (p .mark) m e }
+advance-is S project x p h m f t = record { within = omega (arith, h .within); marked = λ e. omega arith }
 
 -- places after a store at channel c
 module _ (ps : List Place) (c : ℕ) (p : Place) where
@@ -136,9 +136,9 @@ module _ (ps : List Place) (c : ℕ) (p : Place) where
   pub place-elsewhere : (d : ℕ) → c ≢ d → place (set ps c p) d ≡ place ps d
   place-elsewhere d f = getD-set-other ps c d p fresh (λ e. f (sym e))
 
-module _ (S : Sheet) (ps : List Place) (j : Job) (c : ℕ) (bad : Bool) (is : PlacesAre S ps) (below : c < S .count) (r : Ready S ps (turn j) c) where
+module _ (S : Sheet) (ps : List Place) (j : Job) (c : ℕ) (x : Seen) (is : PlacesAre S ps) (below : c < S .count) (r : Ready S ps (turn j) c) where
   p : Place
-  p = advance j bad (place ps c)
+  p = advance j x (place ps c)
 
   in-list : c < length ps
   in-list = omega (arith, is .long)
@@ -151,7 +151,7 @@ module _ (S : Sheet) (ps : List Place) (j : Job) (c : ℕ) (bad : Bool) (is : Pl
         | yes e ↦
             subst (λ (i : ℕ). blendsIn (place (set ps c p) i .position) ≡ blendsIn (place ps i .position)) e
             (ap (λ (q : Place). blendsIn (q .position)) (place-here ps c p in-list)
-            ∙ ap blendsIn (advance-position j bad (place ps c))
+            ∙ ap blendsIn (advance-position j x (place ps c))
             ∙ same-blends j (place ps c .position) (r .next))
         | no f ↦ ap (λ (q : Place). blendsIn (q .position)) (place-elsewhere ps c p d f)
       ]
@@ -163,11 +163,11 @@ module _ (S : Sheet) (ps : List Place) (j : Job) (c : ℕ) (bad : Bool) (is : Pl
         | yes e ↦
             subst (λ (i : ℕ). PlaceIs S (place (set ps c p) i)) e
             (subst (PlaceIs S) (sym (place-here ps c p in-list))
-            (advance-is S j bad (place ps c) (is .each c below) (r .unmarked) (r .unfinished) (r .next)))
+            (advance-is S j x (place ps c) (is .each c below) (r .unmarked) (r .unfinished) (r .next)))
         | no f ↦ subst (PlaceIs S) (sym (place-elsewhere ps c p d f)) (is .each d h)
       ]
 
-  pub job-legal : PlacesAre S (set ps c (advance j bad (place ps c)))
+  pub job-legal : PlacesAre S (set ps c (advance j x (place ps c)))
   unfolding p
   job-legal =
       record {
@@ -182,19 +182,19 @@ module _ (S : Sheet) (ps : List Place) (is : PlacesAre S ps) (r : (c : ℕ) → 
   pub blend-same : (c : ℕ) → c < S .count → place ps c .position ≡ place ps 0 .position
   blend-same c h = omega (arith, is .equal c h, r c h .next, r 0 (omega arith) .next)
 
-  pub place-blended : (c : ℕ) → c < S .count → place (map blended ps) c ≡ blended (place ps c)
-  place-blended c h = getD-map-lt blended ps fresh fresh c (omega (arith, is .long))
+  pub place-blended : (c : ℕ) → c < S .count → place (map onward ps) c ≡ onward (place ps c)
+  place-blended c h = getD-map-lt onward ps fresh fresh c (omega (arith, is .long))
 
-  blended-is : (c : ℕ) → c < S .count → PlaceIs S (blended (place ps c))
+  blended-is : (c : ℕ) → c < S .count → PlaceIs S (onward (place ps c))
   blended-is c h = record { within = omega (arith, is .each c h .within, r c h .unfinished); marked = λ e. never (place ps c .mark) (r c h .unmarked) e }
 
-  blended-position : (c : ℕ) → c < S .count → place (map blended ps) c .position ≡ suc (place ps 0 .position)
+  blended-position : (c : ℕ) → c < S .count → place (map onward ps) c .position ≡ suc (place ps 0 .position)
   blended-position c h = ap (λ (q : Place). q .position) (place-blended c h) ∙ ap suc (blend-same c h)
 
-  pub blend-legal : PlacesAre S (map blended ps)
+  pub blend-legal : PlacesAre S (map onward ps)
   blend-legal =
       record {
-        long = length-map ps blended ∙ is .long;
+        long = length-map ps onward ∙ is .long;
         each = λ c h. subst (PlaceIs S) (sym (place-blended c h)) (blended-is c h);
         equal = λ c h. ap blendsIn (blended-position c h ∙ sym (blended-position 0 (omega arith)));
       }

@@ -15,10 +15,10 @@ use lib.Ieee.{Float, nan}
 use Rattle.calls.specs.Run.{Sheet, Place, Given, fresh, place, count, area, coefs, levelsBefore, sheetOk, placesOk, legal}
 use Rattle.scalar.specs.Buffers.{Buffers}
 use Rattle.calls.specs.Buffers.{Name, Saved, get, channel, putChannel, joined, Sized}
-use Rattle.calls.specs.Jobs.{Job, push, fidelity, move, project, Call, on, blend, turn, blendTurn, Jobs, next, fixed, isBlown}
+use Rattle.calls.specs.Jobs.{Job, push, fidelity, move, project, Call, on, blend, turn, blendTurn, Jobs, next, fixed, isBlown, Seen, seen, seenAt}
 use Rattle.scalar.specs.Blown.{bad, anyBad}
 use Rattle.scalar.specs.Blown as Blown
-use Rattle.calls.specs.Calls.{Answer, refused, done, blown, State, Outcome, first, turnTests, lent, lentLevels, all, buffersLong, valuesLong, lengths, lendTests, refusal, levelOk, tableOk, advance, blended, reply, worked, accept, settle, call, Plain, plainAccept, plainSettle, plain}
+use Rattle.calls.specs.Calls.{Answer, refused, done, blown, State, Outcome, first, turnTests, lent, lentLevels, all, buffersLong, valuesLong, lengths, lendTests, refusal, levelOk, tableOk, advance, onward, reply, worked, told, accept, settle, call, Plain, plainAccept, plainSettle, plain}
 use Rattle.calls.proofs.Laws.{GivenOk, AllIn, Laws}
 use Rattle.calls.proofs.Parts.{channel-sized, put-sized, put-same, put-other, joined-channels}
 use Rattle.calls.proofs.Tests.{never, not-of, and-false, or-false-l, or-false-r, Passed, skip}
@@ -103,11 +103,15 @@ module _ (J : Jobs) (laws : Laws J) (G : Given) (ok : GivenOk G) (s : State) (in
         ∙ sym (next-is J G j (q / 5) (fixed J G q) c)
         ∙ ap (λ (r : ℕ). next J G r (q / 5) (fixed J G q) c) (sym (t .next))
 
+    -- and what it tells is told of the buffers fixed for both counts
+    told-is : told J G j c s ≡ seenAt J G (place (s .places) c .position) c
+    told-is = λ i. seen J G c (inv .as-fixed c below i) (worked-is i)
+
     x : Buffers
     x = worked J G j c s
 
     o : Place
-    o = advance j (isBlown G c (worked J G j c s)) (place (s .places) c)
+    o = advance j (told J G j c s) (place (s .places) c)
 
     -- the lent part, and the part handed back, have the channel's length
     part-sized : Sized (area G) (channel (area G) c (s .buffers))
@@ -134,7 +138,7 @@ module _ (J : Jobs) (laws : Laws J) (G : Given) (ok : GivenOk G) (s : State) (in
         long : coefs (G .sheet) c ≤ length (J .work project G c step b .saved)
         long = omega (arith, coefs-fit G ok c below, laws .work-sized project G ok c step below b part-sized Saved)
 
-        go : (i : Job) → advance i (isBlown G c (J .work i G c step b)) (place (s .places) c) .mark ≡ false → AllIn G c (J .work i G c step b)
+        go : (i : Job) → advance i (seen J G c b (J .work i G c step b)) (place (s .places) c) .mark ≡ false → AllIn G c (J .work i G c step b)
         go push e = laws .push-in G ok c step below b part-sized was
         go fidelity e = laws .fidelity-in G ok c step below b part-sized was
         go move e = laws .move-in G ok c step below b part-sized was
@@ -145,7 +149,7 @@ module _ (J : Jobs) (laws : Laws J) (G : Given) (ok : GivenOk G) (s : State) (in
     unfolding o x
     x-marked = go j
       where
-        go : (i : Job) → advance i (isBlown G c (worked J G j c s)) (place (s .places) c) .mark ≡ true → isBlown G c (worked J G j c s) ≡ true
+        go : (i : Job) → advance i (told J G j c s) (place (s .places) c) .mark ≡ true → isBlown G c (worked J G j c s) ≡ true
         go push e = never (place (s .places) c .mark) (t .unmarked) e
         go fidelity e = never (place (s .places) c .mark) (t .unmarked) e
         go move e = never (place (s .places) c .mark) (t .unmarked) e
@@ -180,7 +184,7 @@ module _ (J : Jobs) (laws : Laws J) (G : Given) (ok : GivenOk G) (s : State) (in
         here
         ∙ worked-is
         ∙ ap (λ (r : ℕ). fixed J G r c)
-        (sym (ap (λ (q : Place). q .position) at-here ∙ advance-position j (isBlown G c (worked J G j c s)) (place (s .places) c)))
+        (sym (ap (λ (q : Place). q .position) at-here ∙ advance-position j (told J G j c s) (place (s .places) c)))
 
     after-fixed : (d : ℕ) → d < count G → channel (area G) d B′ ≡ fixed J G (place ps′ d .position) d
     after-fixed d q =
@@ -215,11 +219,11 @@ module _ (J : Jobs) (laws : Laws J) (G : Given) (ok : GivenOk G) (s : State) (in
     unfolding x o B′ ps′
     job-good =
         record {
-          same-answer = ap (λ (b : Buffers). reply j (isBlown G c b)) worked-is;
-          same-places = ap (λ (b : Buffers). set (s .places) c (advance j (isBlown G c b) (place (s .places) c))) worked-is;
+          same-answer = ap (reply j) told-is;
+          same-places = ap (λ (x : Seen). set (s .places) c (advance j x (place (s .places) c))) told-is;
           again =
               record {
-                legal-places = job-legal (G .sheet) (s .places) j c (isBlown G c x) (inv .legal-places) below t;
+                legal-places = job-legal (G .sheet) (s .places) j c (told J G j c s) (inv .legal-places) below t;
                 sized = put-sized (area G) c (count G) (s .buffers) (inv .sized) below x x-sized;
                 as-fixed = after-fixed;
                 inside = after-inside;
@@ -255,7 +259,7 @@ module _ (J : Jobs) (laws : Laws J) (G : Given) (ok : GivenOk G) (s : State) (in
         (ap (λ (r : ℕ). next J G r (q / 5) (fixed J G q) c) turn-is
         ∙ ap (λ (B : Buffers). channel (area G) c (J .blending G (q / 5) B)) all-fixed)
 
-    at-blended : (c : ℕ) → c < count G → place (map blended (s .places)) c ≡ blended (place (s .places) c)
+    at-blended : (c : ℕ) → c < count G → place (map onward (s .places)) c ≡ onward (place (s .places) c)
     at-blended c h = place-blended (G .sheet) (s .places) (inv .legal-places) t c h
 
     pub blend-good : Good J G (accept J G blend s) (plainAccept J G blend (s .places))

@@ -8,7 +8,7 @@ use lib.IntN.{ℤ, natAbs}
 use Rattle.calls.specs.Run.{Sheet, Place, Given, fresh, place, count, area, levelsBefore, every, among, legal}
 use Rattle.scalar.specs.Buffers.{Buffers}
 use Rattle.calls.specs.Buffers.{Name, Plane, Prior, Gradient, Across, Down, Saved, get, channel, putChannel, joined}
-use Rattle.calls.specs.Jobs.{Job, push, fidelity, move, project, Call, on, blend, turn, blendTurn, Jobs, fixed, isBlown}
+use Rattle.calls.specs.Jobs.{Job, push, fidelity, move, project, Call, on, blend, turn, blendTurn, Jobs, Seen, seen, seenAt}
 
 -- a call's answer: the refusal's number in the table; accepted; accepted, and the channel is now marked blown
 pub data Answer : Type 0 where
@@ -108,43 +108,50 @@ startRefusal G ps ls = first (lendTests G ps ls true)
 
 -- ---- an accepted call
 
--- A channel's place after a job: "its position advances", and project marks the channel "if then any plane value or saved coefficient is NaN or infinite".
-abbrev pub advance : Job → Bool → Place → Place
-advance push bad p = record { position = suc (p .position); mark = p .mark }
-advance fidelity bad p = record { position = suc (p .position); mark = p .mark }
-advance move bad p = record { position = suc (p .position); mark = p .mark }
-advance project bad p = record { position = suc (p .position); mark = bad }
+-- A channel's place after a job: "its position advances"
+abbrev pub onward : Place → Place
+onward p = record { position = suc (p .position); mark = p .mark }
 
-abbrev pub blended : Place → Place
-blended p = record { position = suc (p .position); mark = p .mark }
+-- and project marks the channel "if then any plane value or saved coefficient is NaN or infinite".
+abbrev pub marked : Seen → Place → Place
+marked x p = record { position = suc (p .position); mark = x .blown }
+
+abbrev pub advance : Job → Seen → Place → Place
+advance push x p = onward p
+advance fidelity x p = onward p
+advance move x p = onward p
+advance project x p = marked x p
 
 -- "The call is accepted and says so"
-abbrev pub reply : Job → Bool → Answer
-reply push bad = done
-reply fidelity bad = done
-reply move bad = done
-reply project bad = cond bad blown done
+abbrev pub reply : Job → Seen → Answer
+reply push x = done
+reply fidelity x = done
+reply move x = done
+reply project x = cond (x .blown) blown done
 
 -- channel c's buffers after its job; the step is the position's fifth
 abbrev pub worked : Jobs → Given → Job → ℕ → State → Buffers
 worked J G j c s = J .work j G c (place (s .places) c .position / 5) (channel (area G) c (s .buffers))
 
+-- and what the job tells
+abbrev pub told : Jobs → Given → Job → ℕ → State → Seen
+told J G j c s = seen J G c (channel (area G) c (s .buffers)) (worked J G j c s)
+
 abbrev pub accept : Jobs → Given → Call → State → Outcome
 accept J G (on j c) s =
-    let x = worked J G j c s in
-    let bad = isBlown G c x in
+    let x = told J G j c s in
     record {
-      answer = reply j bad;
+      answer = reply j x;
       after = record {
-        places = set (s .places) c (advance j bad (place (s .places) c));
-        buffers = putChannel (area G) c (s .buffers) x;
+        places = set (s .places) c (advance j x (place (s .places) c));
+        buffers = putChannel (area G) c (s .buffers) (worked J G j c s);
       };
     }
 accept J G blend s =
     record {
       answer = done;
       after = record {
-        places = map blended (s .places);
+        places = map onward (s .places);
         buffers = J .blending G (place (s .places) 0 .position / 5) (s .buffers);
       };
     }
@@ -191,9 +198,9 @@ pub record Plain : Type 0 where
 -- "An accepted project marks the channel exactly when the buffers fixed for its new count meet the condition of job 5."
 abbrev pub plainAccept : Jobs → Given → Call → List Place → Plain
 plainAccept J G (on j c) ps =
-    let bad = isBlown G c (fixed J G (suc (place ps c .position)) c) in
-    record { answer = reply j bad; places = set ps c (advance j bad (place ps c)) }
-plainAccept J G blend ps = record { answer = done; places = map blended ps }
+    let x = seenAt J G (place ps c .position) c in
+    record { answer = reply j x; places = set ps c (advance j x (place ps c)) }
+plainAccept J G blend ps = record { answer = done; places = map onward ps }
 
 abbrev pub plainSettle : ℕ → List Place → Plain → Plain
 plainSettle zero ps o = o

@@ -51,3 +51,16 @@ fixed J G (suc p) c = next J G (p % 5) (p / 5) (fixed J G p) c
 -- the condition of job 5: "any plane value or saved coefficient is NaN or infinite"
 abbrev pub isBlown : Given → ℕ → Buffers → Bool
 isBlown G c b = Blown.isBlown (coefs (G .sheet) c) (b .plane) (b .saved)
+
+-- what a job tells of its channel, beside the channel's buffers
+pub record Seen : Type 0 where
+  -- the condition of job 5 then holds
+  pub blown : Bool
+
+-- by the channel's buffers before and after the job
+abbrev pub seen : Jobs → Given → ℕ → Buffers → Buffers → Seen
+seen J G c before after = record { blown = isBlown G c after }
+
+-- of channel c's job after its first p, by the buffers fixed for these counts
+abbrev pub seenAt : Jobs → Given → ℕ → ℕ → Seen
+seenAt J G p c = seen J G c (fixed J G p c) (fixed J G (suc p) c)
