@@ -7,7 +7,7 @@ use native.Mathlib.Numerals.{add-one}
 use mathlib.Core.List.{List, [], _∷_, map}
 use lib.ListN.{length, getD, set, take, length-map}
 use lib.Seq.{take-all}
-use Rattle.calls.specs.Run.{Own, Place, fresh}
+use Rattle.calls.specs.Run.{Own, Place, fresh, place}
 use Rattle.calls.proofs.Tests.{getD-map-lt}
 use Rattle.record.specs.Model.{ownOf, placeOf, sheetOf, placesOf, sheetWith, withPlace, withPlaces, withChannels, placed, noChannel}
 use Rattle.record.specs.declared.Run.{Run}
@@ -29,21 +29,18 @@ one zero (x ∷ xs) c q h = absurd (not-suc-le-zero h)
 one (suc n) (x ∷ xs) zero q h = ap (λ (l : List Channel). withPlace x q ∷ l) (none n xs)
 one (suc n) (x ∷ xs) (suc c) q h = ap (λ (l : List Channel). x ∷ l) (one n xs c q (le-of-suc-le-suc h))
 
--- the first k of other places, and one more
-more : (xs : List Channel) (qs : List Place) (k : ℕ) → k < length xs → k < length qs
-    → set (withPlaces xs (take k qs)) k (withPlace (getD (withPlaces xs (take k qs)) k noChannel) (getD qs k fresh)) ≡ withPlaces xs (take (suc k) qs)
-more [] qs k h l = absurd (not-suc-le-zero h)
-more (x ∷ xs) [] k h l = absurd (not-suc-le-zero l)
-more (x ∷ xs) (q ∷ qs) zero h l = none-left xs
-  where
-    none-left : (ys : List Channel) → withPlace x q ∷ ys ≡ withPlace x q ∷ withPlaces ys []
-    none-left [] = refl
-    none-left (y ∷ ys) = refl
-more (x ∷ xs) (q ∷ qs) (suc k) h l = ap (λ (r : List Channel). withPlace x q ∷ r) (more xs qs k (le-of-suc-le-suc h) (le-of-suc-le-suc l))
-
+-- no other place
 none-yet : (xs : List Channel) (qs : List Place) → withPlaces xs (take 0 qs) ≡ xs
 none-yet [] qs = refl
 none-yet (x ∷ xs) qs = refl
+
+-- the first k of other places, and one more
+more : (xs : List Channel) (qs : List Place) (k : ℕ) → k < length xs → k < length qs
+    → set (withPlaces xs (take k qs)) k (withPlace (getD xs k noChannel) (getD qs k fresh)) ≡ withPlaces xs (take (suc k) qs)
+more [] qs k h l = absurd (not-suc-le-zero h)
+more (x ∷ xs) [] k h l = absurd (not-suc-le-zero l)
+more (x ∷ xs) (q ∷ qs) zero h l = ap (λ (ys : List Channel). withPlace x q ∷ ys) (sym (none-yet xs qs))
+more (x ∷ xs) (q ∷ qs) (suc k) h l = ap (λ (ys : List Channel). withPlace x q ∷ ys) (more xs qs k (le-of-suc-le-suc h) (le-of-suc-le-suc l))
 
 owns-stay : (n : ℕ) (xs : List Channel) (ps : List Place) → map ownOf (take n (withPlaces xs ps)) ≡ map ownOf (take n xs)
 owns-stay n [] ps = refl
@@ -67,22 +64,24 @@ places-are (suc n) (x ∷ xs) (p ∷ ps) e = ap (λ (l : List Place). p ∷ l) (
 pub placed-same : (r : Run) → placed r (placesOf r) ≡ r
 placed-same r = ap (withChannels r) (none (r .count) (r .channels))
 
-pub placed-one : (r : Run) (c : ℕ) (q : Place) → c < r .count
-    → withChannels r (set (r .channels) c (withPlace (getD (r .channels) c noChannel) q)) ≡ placed r (set (placesOf r) c q)
-placed-one r c q h = ap (withChannels r) (sym (one (r .count) (r .channels) c q h))
-
 pub placed-none : (r : Run) (qs : List Place) → r ≡ placed r (take 0 qs)
 placed-none r qs = ap (withChannels r) (sym (none-yet (r .channels) qs))
 
--- a change of each place, channel by channel: one more, at the code's `k + 1`, and all of them
+-- a change of places: of channel c's; and of each, channel by channel, one more, at the code's `k + 1`, and all of them
 module _ (r : Run) (long : r .count ≤ length (r .channels)) (g : Place → Place) where
+  -- channel c with its place changed
+  abbrev changed : ℕ → Channel
+  changed c = withPlace (getD (r .channels) c noChannel) (g (placeOf (getD (r .channels) c noChannel)))
+
+  pub placed-one : (c : ℕ) → c < r .count
+      → withChannels r (set (r .channels) c (changed c)) ≡ placed r (set (placesOf r) c (g (place (placesOf r) c)))
+  placed-one c h = rw (at-place r c long h) (ap (withChannels r) (sym (one (r .count) (r .channels) c (g (placeOf (getD (r .channels) c noChannel))) h)))
+
   counted : length (map g (placesOf r)) ≡ r .count
   counted = length-map (placesOf r) g ∙ first-long placeOf fresh r long
 
   pub placed-more : (k : ℕ) → k < r .count
-      → let s = placed r (take k (map g (placesOf r))) in
-      withChannels r (set (s .channels) k (withPlace (getD (s .channels) k noChannel) (g (placeOf (getD (r .channels) k noChannel)))))
-      ≡ placed r (take (k + 1) (map g (placesOf r)))
+      → withChannels r (set (placed r (take k (map g (placesOf r))) .channels) k (changed k)) ≡ placed r (take (k + 1) (map g (placesOf r)))
   placed-more k h =
       let is : g (placeOf (getD (r .channels) k noChannel)) ≡ getD (map g (placesOf r)) k fresh =
       ap g (sym (at-place r k long h)) ∙ sym (getD-map-lt g (placesOf r) fresh fresh k (omega (arith, first-long placeOf fresh r long))) in

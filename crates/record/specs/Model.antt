@@ -7,9 +7,11 @@ use lib.Ieee.{nan}
 use lib.Dec.{T}
 use lib.IntN.{ℤ}
 use Rattle.calls.specs.Run.{Own, Sheet, Place, Given, legal}
+use Rattle.calls.specs.Jobs as Jobs
 use Rattle.calls.specs.Calls as Calls
 use Rattle.record.specs.declared.Run.{Run}
 use Rattle.record.specs.declared.Channel.{Channel}
+use Rattle.record.specs.declared.Seen.{Seen}
 use Rattle.record.specs.declared.Answer.{Answer}
 use Rattle.record.specs.declared.Answer.the-variants.{Refused, Done, Blown}
 
@@ -59,6 +61,10 @@ abbrev pub noChannel : Channel
 noChannel = record { width = 0; height = 0; across = 0; down = 0; weight = nan; position = 0; mark = false }
 
 -- ---- answers
+
+-- what a job tells
+abbrev pub seenOf : Seen → Jobs.Seen
+seenOf x = record { blown = x .blown }
 
 -- document 01's number and values for each case: a refusal's number in the table, accepted, accepted and blown
 abbrev pub answerOf : Answer → Calls.Answer

@@ -36,6 +36,11 @@ pub enum Answer {
     Blown,
 }
 
+// What a job tells of its channel: whether any plane value or saved coefficient is then NaN or infinite.
+pub struct Seen {
+    pub blown: bool,
+}
+
 // A call's answer, with the record as it is afterwards.
 pub struct Told {
     pub answer: Answer,

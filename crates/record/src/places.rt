@@ -1,13 +1,15 @@
 // A channel's part of the lent buffers, and the record with new positions and marks.
+use crate::Channel;
 use crate::Run;
+use crate::Seen;
 use crate::refusals::area;
 ghost use mathlib.Core.Path.{_≡_};
 ghost use mathlib.Core.List.{map};
 ghost use Prim.Native.Nat.{suc, _+_, _*_, _/_, _<_, _≤_};
-ghost use lib.ListN.{getD, set};
+ghost use lib.ListN.{set};
 ghost use Rattle.calls.specs.Run.{fresh, place};
-ghost use Rattle.calls.specs.Calls.{blended};
-ghost use Rattle.record.specs.Model.{Legal, placesOf, placed, withChannels, withPlace, noChannel};
+ghost use Rattle.calls.specs.Calls.{onward, marked};
+ghost use Rattle.record.specs.Model.{Legal, placeOf, placesOf, placed, withChannels, withPlace, seenOf};
 
 // Where channel c's values begin and end in a lent buffer, and the step that its next job belongs to.
 pub struct Span {
@@ -31,48 +33,83 @@ pub fn span_of(run: Run, c: u32) -> Span
     }
 }
 
-fn with_place(run: Run, c: usize, position: u32, mark: bool) -> Run
+// The record with another channel c.
+fn with_channel(run: Run, c: usize, x: Channel) -> Run
     requires { ⌜ c < 3 ⌝ }
-    ensures { λ r. ⌜ r ≡ withChannels run (set (run .channels) c (withPlace (getD (run .channels) c noChannel) (record { position = position; mark = mark }))) ⌝ }
+    ensures { λ r. ⌜ r ≡ withChannels run (set (run .channels) c x) ⌝ }
 {
     let mut next = run;
-    let mut x = run.channels[c];
-    x.position = position;
-    x.mark = mark;
     next.channels[c] = x;
     next
 }
 
-// The record after an accepted job of channel c.
-pub fn advanced(run: Run, c: u32, mark: bool) -> Run
-    requires { ⌜ Legal run × (c < run .count) ⌝ }
-    ensures { λ r. ⌜ r ≡ placed run (set (placesOf run) c (record { position = suc (place (placesOf run) c .position); mark = mark })) ⌝ }
+// A channel after an accepted job.
+fn onward(x: Channel) -> Channel
+    requires { ⌜ x .position < 4294967295 ⌝ }
+    ensures { λ r. ⌜ r ≡ withPlace x (onward (placeOf x)) ⌝ }
 {
-    let x = run.channels[c as usize];
-    with_place(run, c as usize, x.position + 1, mark)
+    let mut next = x;
+    next.position = x.position + 1;
+    next
+}
+
+// A channel after an accepted project, which told this of it.
+fn marked(x: Channel, seen: Seen) -> Channel
+    requires { ⌜ x .position < 4294967295 ⌝ }
+    ensures { λ r. ⌜ r ≡ withPlace x (marked (seenOf seen) (placeOf x)) ⌝ }
+{
+    let mut next = x;
+    next.position = x.position + 1;
+    next.mark = seen.blown;
+    next
+}
+
+// A channel of a fresh run: position 0, no mark.
+fn fresh(x: Channel) -> Channel
+    ensures { λ r. ⌜ r ≡ withPlace x fresh ⌝ }
+{
+    let mut next = x;
+    next.position = 0;
+    next.mark = false;
+    next
+}
+
+// The record after an accepted job of channel c, but for project.
+pub fn advanced(run: Run, c: u32) -> Run
+    requires { ⌜ Legal run × (c < run .count) ⌝ }
+    ensures { λ r. ⌜ r ≡ placed run (set (placesOf run) c (onward (place (placesOf run) c))) ⌝ }
+{
+    with_channel(run, c as usize, onward(run.channels[c as usize]))
+}
+
+// The record after an accepted project of channel c.
+pub fn projected(run: Run, c: u32, seen: Seen) -> Run
+    requires { ⌜ Legal run × (c < run .count) ⌝ }
+    ensures { λ r. ⌜ r ≡ placed run (set (placesOf run) c (marked (seenOf seen) (place (placesOf run) c))) ⌝ }
+{
+    with_channel(run, c as usize, marked(run.channels[c as usize], seen))
 }
 
 // The record after an accepted blend.
 pub fn blended(run: Run) -> Run
     requires { ⌜ Legal run ⌝ }
-    ensures { λ r. ⌜ r ≡ placed run (map blended (placesOf run)) ⌝ }
+    ensures { λ r. ⌜ r ≡ placed run (map onward (placesOf run)) ⌝ }
 {
     let mut next = run;
     for c in 0..run.count as usize {
-        let x = run.channels[c];
-        next = with_place(next, c, x.position + 1, x.mark);
+        next = with_channel(next, c, onward(run.channels[c]));
     }
     next
 }
 
-// The record of a fresh run: positions 0, no marks.
+// The record of a fresh run.
 pub fn cleared(run: Run) -> Run
     requires { ⌜ Legal run ⌝ }
     ensures { λ r. ⌜ r ≡ placed run (map (λ p. fresh) (placesOf run)) ⌝ }
 {
     let mut next = run;
     for c in 0..run.count as usize {
-        next = with_place(next, c, 0, false);
+        next = with_channel(next, c, fresh(run.channels[c]));
     }
     next
 }

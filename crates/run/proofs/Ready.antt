@@ -10,11 +10,11 @@ use lib.Ieee.Fits.{and-l, and-r}
 use lib.IntN.{ℤ}
 use lib.ListN.{length, set}
 use Rattle.scalar.specs.Buffers.{Buffers}
-use Rattle.calls.specs.Run.{Given, Place, place, legal, count, area, levelsBefore}
+use Rattle.calls.specs.Run.{Given, place, legal, count, area, levelsBefore}
 use Rattle.calls.specs.Buffers.{putChannel}
-use Rattle.calls.specs.Jobs.{Job, project, Call, on, blend, turn, isBlown}
+use Rattle.calls.specs.Jobs.{Job, project, Call, on, blend, turn, Seen}
 use Rattle.calls.specs.Calls as Calls
-use Rattle.calls.specs.Calls.{all, buffersLong, valuesLong, lengths, lent, lentLevels, lendTests, refusal, call, settle, accept, worked, reply, advance}
+use Rattle.calls.specs.Calls.{all, buffersLong, valuesLong, lengths, lent, lentLevels, lendTests, refusal, call, settle, accept, worked, told, reply, advance, marked}
 use Rattle.calls.proofs.Tests.{passed-all, not-is, or-r}
 use Rattle.calls.proofs.Legal.{Ready, ready-of}
 use Rattle.demand.specs.Solver.{jobs}
@@ -106,32 +106,25 @@ blendable r levels tables ls e =
       long = all-are (r .count * (r .w * r .h)) ls (and-l (buffersLong G ls) true (not-is (buffersLong G ls && true) (p .1 .0)));
     }
 
--- channel c's place one job on
-abbrev pub next : Run → ℕ → Bool → Place
-next r c m = record { position = suc (place (placesOf r) c .position); mark = m }
-
--- an accepted job of channel c: with the mark m, the buffers B′ and the record r′ afterwards
+-- an accepted job of channel c: with the record r′ and the buffers B′ afterwards
 module _ (r : Run) (levels : List ℤ) (tables : List ℕ) (j : Job) (c : ℕ) (B : Buffers) where
-  abbrev bad : Bool
-  bad = isBlown (givenOf r levels tables) c (worked jobs (givenOf r levels tables) j c (stateOf r B))
+  abbrev x : Seen
+  x = told jobs (givenOf r levels tables) j c (stateOf r B)
 
   pub job-result : refusal (givenOf r levels tables) (placesOf r) (on j c) (lengths (lent (on j c)) B) ≡ 0
-      → (m : Bool) → advance j bad (place (placesOf r) c) ≡ next r c m
-      → {r′ : Run} → r′ ≡ placed r (set (placesOf r) c (next r c m))
+      → {r′ : Run} → r′ ≡ placed r (set (placesOf r) c (advance j x (place (placesOf r) c)))
       → {B′ : Buffers} → putChannel (r .w * r .h) c B (worked jobs (givenOf r levels tables) j c (stateOf r B)) ≡ B′
-      → callOf r (on j c) levels tables B ≡ record { answer = reply j bad; run = r′; buffers = B′ }
-  job-result e m a {r′} p {B′} b =
-      call-accepted r levels tables (on j c) B e
-      ∙ (λ i. record { answer = reply j bad; run = (ap (λ (q : Place). placed r (set (placesOf r) c q)) a ∙ sym p) i; buffers = b i })
+      → callOf r (on j c) levels tables B ≡ record { answer = reply j x; run = r′; buffers = B′ }
+  job-result e p b = call-accepted r levels tables (on j c) B e ∙ (λ i. record { answer = reply j x; run = sym p i; buffers = b i })
 
--- an accepted project, whose answer says the mark
+-- an accepted project, whose answer says what it tells
 module _ (r : Run) (levels : List ℤ) (tables : List ℕ) (c : ℕ) (B : Buffers) where
   pub project-result : refusal (givenOf r levels tables) (placesOf r) (on project c) (lengths (lent (on project c)) B) ≡ 0
-      → (m : Bool) → isBlown (givenOf r levels tables) c (worked jobs (givenOf r levels tables) project c (stateOf r B)) ≡ m
-      → (a : Answer) → answerOf a ≡ reply project m
-      → {r′ : Run} → r′ ≡ placed r (set (placesOf r) c (next r c m))
+      → (x : Seen) → told jobs (givenOf r levels tables) project c (stateOf r B) ≡ x
+      → (a : Answer) → answerOf a ≡ reply project x
+      → {r′ : Run} → r′ ≡ placed r (set (placesOf r) c (marked x (place (placesOf r) c)))
       → {B′ : Buffers} → putChannel (r .w * r .h) c B (worked jobs (givenOf r levels tables) project c (stateOf r B)) ≡ B′
       → callOf r (on project c) levels tables B ≡ gave a r′ B′
-  project-result e m b a q {r′} p {B′} w =
-      job-result r levels tables project c B e m (ap (next r c) b) p w
-      ∙ (λ i. record { answer = (ap (reply project) b ∙ sym q) i; run = r′; buffers = B′ })
+  project-result e x t a q {r′} p {B′} b =
+      job-result r levels tables project c B e (p ∙ ap (λ (y : Seen). placed r (set (placesOf r) c (marked y (place (placesOf r) c)))) (sym t)) b
+      ∙ (λ i. record { answer = (ap (reply project) t ∙ sym q) i; run = r′; buffers = B′ })

@@ -1,5 +1,6 @@
 // What a job of one channel is handed: its own sides, and its part of the levels and of the tables.
 use record::Run;
+use record::Seen;
 use scalar::coef::Own;
 ghost use mathlib.Core.Path.{_≡_};
 ghost use Prim.Native.Nat.{_+_, _*_, _<_};
@@ -135,8 +136,8 @@ pub fn blown_part(run: Run, c: u32, plane: &[f32], saved: &[f32]) -> bool
     scalar::blown::is_blown(&plane[from..to], &saved[from..to], n)
 }
 
-// Job 5 on channel c's part, and whether the channel is blown then.
-pub fn project_mark(
+// Job 5 on channel c's part, and what it tells of the channel.
+pub fn project_seen(
     run: Run,
     c: u32,
     levels: &[i16],
@@ -145,16 +146,18 @@ pub fn project_mark(
     across: &mut [f32],
     down: &mut [f32],
     saved: &mut [f32],
-) -> bool
+) -> Seen
     requires { ⌜ Fed run c (now levels) (now tables) × Whole run (now plane) × Whole run (now across) × Whole run (now down) × Whole run (now saved) ⌝ }
     ensures { λ r. ⌜ (record { plane = now (plane .exit); across = now (across .exit); down = now (down .exit); saved = now (saved .exit) }
         ≡ projectedPart (givenOf run (now (levels .entry)) (now (tables .entry))) c
         (record { plane = now (plane .entry); across = now (across .entry); down = now (down .entry); saved = now (saved .entry) }))
-        × (r ≡ blownPart (givenOf run (now (levels .entry)) (now (tables .entry))) c
+        × (r .blown ≡ blownPart (givenOf run (now (levels .entry)) (now (tables .entry))) c
         (record { plane = now (plane .entry); across = now (across .entry); down = now (down .entry); saved = now (saved .entry) })) ⌝ }
 {
     project_part(run, c, levels, tables, plane, across, down, saved);
-    blown_part(run, c, plane, saved)
+    Seen {
+        blown: blown_part(run, c, plane, saved),
+    }
 }
 
 // Start of channel c: its part of each of the six.

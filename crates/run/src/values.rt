@@ -3,6 +3,7 @@ use crate::parts;
 use gradients::grid::Grid;
 use record::Answer;
 use record::Run;
+use record::Seen;
 use record::Told;
 use steps::solve::Constants;
 ghost use mathlib.Core.Path.{_≡_};
@@ -11,7 +12,7 @@ ghost use Rattle.calls.specs.Run.{place};
 ghost use Rattle.calls.specs.Jobs.{project};
 ghost use Rattle.calls.specs.Calls.{reply};
 ghost use Rattle.demand.specs.Solver.{constantsOf};
-ghost use Rattle.record.specs.Model.{Legal, sheetOf, placesOf, answerOf};
+ghost use Rattle.record.specs.Model.{Legal, sheetOf, placesOf, seenOf, answerOf};
 ghost use Rattle.run.specs.Public.{StartIs, PushIs, DataIs, BlendIs, MoveIs, ProjectIs};
 
 // The constants of the step that channel c's next job belongs to.
@@ -38,7 +39,7 @@ pub fn push_value(run: Run, c: u32, plane: &mut [f32], prior: &mut [f32]) -> Tol
     let k = constants_of(run, c);
     let n = record::refusals::area(run);
     steps::solve::push_channel(plane, prior, k, c as usize, n);
-    let next = record::places::advanced(run, c, false);
+    let next = record::places::advanced(run, c);
     Told {
         answer: Answer::Done,
         run: next,
@@ -65,7 +66,7 @@ pub fn data_value(
         };
     }
     parts::data_part(run, c, levels, tables, gradient, saved);
-    let next = record::places::advanced(run, c, false);
+    let next = record::places::advanced(run, c);
     Told {
         answer: Answer::Done,
         run: next,
@@ -120,7 +121,7 @@ pub fn move_value(run: Run, c: u32, plane: &mut [f32], gradient: &[f32]) -> Told
     let k = constants_of(run, c);
     let n = record::refusals::area(run);
     steps::step::move_channel(plane, gradient, k, c as usize, n);
-    let next = record::places::advanced(run, c, false);
+    let next = record::places::advanced(run, c);
     Told {
         answer: Answer::Done,
         run: next,
@@ -128,10 +129,10 @@ pub fn move_value(run: Run, c: u32, plane: &mut [f32], gradient: &[f32]) -> Told
 }
 
 // The answer of an accepted project: done, or done and blown.
-fn project_reply(mark: bool) -> Answer
-    ensures { λ r. ⌜ answerOf r ≡ reply project mark ⌝ }
+fn project_reply(seen: Seen) -> Answer
+    ensures { λ r. ⌜ answerOf r ≡ reply project (seenOf seen) ⌝ }
 {
-    if mark {
+    if seen.blown {
         return Answer::Blown;
     }
     Answer::Done
@@ -159,9 +160,9 @@ pub fn project_value(
             run,
         };
     }
-    let mark = parts::project_mark(run, c, levels, tables, plane, across, down, saved);
-    let next = record::places::advanced(run, c, mark);
-    let answer = project_reply(mark);
+    let seen = parts::project_seen(run, c, levels, tables, plane, across, down, saved);
+    let next = record::places::projected(run, c, seen);
+    let answer = project_reply(seen);
     Told { answer, run: next }
 }
 

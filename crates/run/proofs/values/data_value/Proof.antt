@@ -1,6 +1,5 @@
 -- `data_value`: refused as it was, or the channel's gradient anew.
 use mathlib.Core.Path.{_≡_, refl, sym, ap, _∙_}
-use mathlib.Core.Bool.{false}
 use mathlib.Core.List.{List, [], _∷_}
 use lib.Ieee.{Float}
 use lib.ListN.{length}
@@ -8,7 +7,7 @@ use Rattle.calls.specs.Jobs.{fidelity, on}
 use Rattle.record.specs.Model.{givenOf}
 use Rattle.run.specs.Parts.{Fed}
 use Rattle.run.specs.Public.{forData}
-use Rattle.run.proofs.Ready.{call-refused, Accepted, accepted, fed, job-result, next}
+use Rattle.run.proofs.Ready.{call-refused, Accepted, accepted, fed, job-result}
 use Rattle.run.proofs.Jobs.{data-buffers}
 use borrow.Author.Needs.{needs}
 use Rattle.run.proofs.values.data_value.Statement.{statement}
@@ -44,7 +43,7 @@ returns-2 c =
     λ o.
     job-result r (a .levels .now) (a .tables .now) fidelity (a .c) (forData o (a .gradient .now) (a .saved .now))
     (sym (c .before .before .before .before .before .before .fed-refusal .ensures fidelity refl refl) ∙ c .before .before .before .before .before .if1 .left)
-    false (ap (next r (a .c)) (passed (c .before .before .before .before .before) .ready .unmarked)) (c .advanced .ensures)
+    (c .advanced .ensures)
     (data-buffers (givenOf r (a .levels .now) (a .tables .now)) (a .c) o (a .gradient .now) (a .saved .now)
     ∙ sym (ap (λ (g : List Float). forData o g (a .saved .now)) (c .before .before .before .data-part .ensures)))
 

@@ -5,7 +5,7 @@ use Prim.Native.Nat.{ℕ}
 use lib.ListN.{length}
 use Rattle.scalar.specs.Projection.{Box}
 use Rattle.calls.specs.Jobs.{project, on}
-use Rattle.record.specs.Model.{givenOf}
+use Rattle.record.specs.Model.{givenOf, seenOf}
 use Rattle.run.specs.Parts.{Fed}
 use Rattle.run.specs.Public.{forProject}
 use Rattle.run.proofs.Ready.{call-refused, Accepted, accepted, fed, project-result}
@@ -34,29 +34,29 @@ returns c =
     call-refused (a .run) (a .levels .now) (a .tables .now) (on project (a .c)) (forProject o (a .plane .now) (a .across .now) (a .down .now) (a .saved .now)) (c .before .fed-refusal .result)
     (c .before .fed-refusal .ensures project refl refl) (c .if1 .taken)
 
-project-mark-requires : tie.Need-project-mark-requires
-project-mark-requires c κs =
+project-seen-requires : tie.Need-project-seen-requires
+project-seen-requires c κs =
     let l = passed (c .before .before .before .before) .long in
     (given (c .before .before .before .before), l .0, l .1 .0, l .1 .1 .0, l .1 .1 .1 .0)
 
-advanced-requires : tie.Need-advanced-requires
-advanced-requires c κs = (passed (c .before .before .before .before .before .before .before .before .before .before .before .before .before) .is-legal, passed (c .before .before .before .before .before .before .before .before .before .before .before .before .before) .below)
+projected-requires : tie.Need-projected-requires
+projected-requires c κs = (passed (c .before .before .before .before .before .before .before .before .before .before .before .before .before) .is-legal, passed (c .before .before .before .before .before .before .before .before .before .before .before .before .before) .below)
 
 returns-2 : tie.Need-returns-2
 returns-2 c =
     let a = c .before .before .before .before .before .before .before .before .before .before .before .before .before .before .before .before .before .before .before .before .before .before .before .args in
     let G = givenOf (a .run) (a .levels .now) (a .tables .now) in
-    let p = c .before .before .before .before .before .before .before .before .before .before .project-mark .ensures in
+    let p = c .before .before .before .before .before .before .before .before .before .before .project-seen .ensures in
     λ o.
     project-result (a .run) (a .levels .now) (a .tables .now) (a .c) (forProject o (a .plane .now) (a .across .now) (a .down .now) (a .saved .now))
     (sym (c .before .before .before .before .before .before .before .before .before .before .before .before .before .before .before .before .fed-refusal .ensures project refl refl) ∙ c .before .before .before .before .before .before .before .before .before .before .before .before .before .before .before .if1 .left)
-    (c .before .before .before .before .before .before .before .before .before .before .project-mark .result) (project-marks G (a .c) o (a .plane .now) (a .across .now) (a .down .now) (a .saved .now) ∙ sym (p .1))
-    (c .project-reply .result) (c .project-reply .ensures) (c .before .advanced .ensures)
+    (seenOf (c .before .before .before .before .before .before .before .before .before .before .project-seen .result)) (λ i. record { blown = (project-marks G (a .c) o (a .plane .now) (a .across .now) (a .down .now) (a .saved .now) ∙ sym (p .1)) i })
+    (c .project-reply .result) (c .project-reply .ensures) (c .before .projected .ensures)
     (project-buffers G (a .c) o (a .plane .now) (a .across .now) (a .down .now) (a .saved .now)
     ∙ sym (ap (λ (b : Box). forProject o (b .plane) (b .across) (b .down) (b .saved)) (p .0)))
 
 pub project-value-spec : {M : Type 1} → statement M
 project-value-spec =
     tie.close
-    (tie.spec (λ c. search needs) (λ c κs. search needs) returns project-mark-requires advanced-requires
+    (tie.spec (λ c. search needs) (λ c κs. search needs) returns project-seen-requires projected-requires
     (λ c κs. search needs) (λ c. search needs) (λ c. search needs) (λ c. search needs) (λ c. search needs) returns-2)

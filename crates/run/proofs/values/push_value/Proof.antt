@@ -1,6 +1,5 @@
 -- `push_value`: refused as it was, or the channel's part pushed.
 use mathlib.Core.Path.{_≡_, refl, sym, ap, _∙_}
-use mathlib.Core.Bool.{false}
 use mathlib.Core.List.{[], _∷_}
 use Prim.Native.Nat.{_*_, _/_}
 use lib.ListN.{length}
@@ -11,7 +10,7 @@ use Rattle.demand.specs.Solver.{constantsOf}
 use Rattle.record.specs.Model.{sheetOf, placesOf}
 use Rattle.record.proofs.Sizes.{part-ends}
 use Rattle.run.specs.Public.{forPush}
-use Rattle.run.proofs.Ready.{call-refused, Accepted, accepted, job-result, next}
+use Rattle.run.proofs.Ready.{call-refused, Accepted, accepted, job-result}
 use Rattle.run.proofs.Jobs.{push-buffers}
 use borrow.Author.Needs.{needs}
 use Rattle.run.proofs.values.push_value.Statement.{statement}
@@ -45,12 +44,11 @@ returns-2 : tie.Need-returns-2
 returns-2 c =
     let a = c .before .before .before .before .before .before .before .before .before .before .before .before .before .before .before .args in
     let r = a .run in
-    let h = passed (c .before .before .before .before .before .before .before .before .before .before) in
     let done = rw (c .before .before .before .before .before .before .before .before .before .constants-of .ensures, c .before .before .before .before .before .before .before .before .area .ensures) at (c .before .before .before .before .before .push-channel .ensures) in
     λ levels tables o.
     job-result r levels tables push (a .c) (forPush o (a .plane .now) (a .prior .now))
     (sym (c .before .before .before .before .before .before .before .before .before .before .before .job-refusal .ensures push levels tables refl refl) ∙ c .before .before .before .before .before .before .before .before .before .before .if1 .left)
-    false (ap (next r (a .c)) (h .ready .unmarked)) (c .advanced .ensures)
+    (c .advanced .ensures)
     (push-buffers (r .w * r .h) (a .c) o (constantsOf (sheetOf r) (place (placesOf r) (a .c) .position / 5)) (a .plane .now) (a .prior .now)
     ∙ sym (ap (λ (s : Planes). forPush o (s .plane) (s .prior)) done))
 

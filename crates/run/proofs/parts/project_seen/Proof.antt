@@ -1,4 +1,4 @@
--- `project_mark`: project keeps the buffers' lengths, and what is looked at afterwards is channel c's part as project left it.
+-- `project_seen`: project keeps the buffers' lengths, and what is looked at afterwards is channel c's part as project left it.
 use mathlib.Core.Path.{_≡_, ap, _∙_}
 use Prim.Native.Nat.{_*_}
 use lib.ListN.{length}
@@ -10,8 +10,8 @@ use Rattle.calls.specs.Buffers.{partOf}
 use Rattle.record.specs.Model.{sheetOf, givenOf}
 use Rattle.run.proofs.Jobs.{project-long, project-blown}
 use borrow.Author.Needs.{needs}
-use Rattle.run.proofs.parts.project_mark.Statement.{statement}
-use Rattle.run.proofs.parts.project_mark.Tie as tie
+use Rattle.run.proofs.parts.project_seen.Statement.{statement}
+use Rattle.run.proofs.parts.project_seen.Tie as tie
 
 -- the four buffers as they were lent, and what the channel is given
 abbrev box : tie.After-project-part → Box
@@ -41,8 +41,8 @@ returns c =
           ∙ project-blown (given (c .before .before .before .before .before .before .before .before .before .before .before)) (a .c) (c .before .before .before .before .before .before .before .before .before .before .before .before .before .before .before .before .before .before .before .before .before .pre .0 .below) (box (c .before .before .before .before .before .before .before .before .before .before .before)) (long (c .before .before .before .before .before .before .before .before .before .before .before)),
     )
 
-pub project-mark-spec : {M : Type 1} → statement M
-project-mark-spec =
+pub project-seen-spec : {M : Type 1} → statement M
+project-seen-spec =
     tie.close
     (tie.spec (λ c κs. search needs) blown-part-requires
     (λ c. search needs) (λ c. search needs) (λ c. search needs) (λ c. search needs) returns)
