@@ -9,7 +9,7 @@ use lib.Dec.{T, leb, eqb, leb→le, eqb→eq}
 use lib.ListN.{length}
 use lib.Ieee.Fits.{and-l, and-r}
 use Rattle.calls.specs.Run.{Own, Sheet, Given, own, count, area, coefs, every, side, fullSide, factor, weight, ownOk, headerOk, sheetOk}
-use Rattle.calls.proofs.Laws.{GivenOk}
+use Rattle.calls.specs.Between.{GivenOk}
 use Rattle.calls.proofs.Tests.{every-at}
 
 pub record OwnIs (S : Sheet) (o : Own) : Type 0 where

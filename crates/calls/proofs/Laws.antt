@@ -2,28 +2,15 @@
 use Prim.Native.Nat.{ℕ, _*_, _<_}
 use mathlib.Core.Path.{_≡_}
 use mathlib.Core.Bool.{false}
-use mathlib.Core.List.{List}
-use lib.ListN.{length, getD}
-use lib.Dec.{T}
+use lib.ListN.{getD}
 use lib.Ieee.{nan}
-use Rattle.calls.specs.Run.{Given, count, area, coefs, levelsBefore, sheetOk}
+use Rattle.calls.specs.Run.{Given, count, area, coefs}
 use Rattle.scalar.specs.Buffers.{Buffers}
 use Rattle.calls.specs.Buffers.{channel, Sized}
 use Rattle.calls.specs.Jobs.{Job, push, fidelity, move, project, Jobs}
 use Rattle.scalar.specs.Blown.{bad}
-use Rattle.calls.specs.Calls.{all, levelOk, tableOk}
 use Rattle.calls.specs.Demand.{SavedIn}
-
--- what start has seen of its input: a legal sheet, lengths, quantisers and levels
-pub record GivenOk (G : Given) : Type 0 where
-  pub sheet-ok : T (sheetOk (G .sheet))
-  pub levels-long : length (G .levels) ≡ levelsBefore (G .sheet) (count G)
-  pub tables-long : length (G .tables) ≡ count G * 64
-  pub tables-ok : T (all tableOk (G .tables))
-  pub levels-ok : T (all levelOk (G .levels))
-
-abbrev pub AllIn : Given → ℕ → Buffers → Type 0
-AllIn G c b = (k : ℕ) → k < coefs (G .sheet) c → SavedIn G c k b
+use Rattle.calls.specs.Between.{GivenOk, AllIn}
 
 -- Lengths are kept. Saved coefficients are in their intervals at the start and stay there, but that project may leave some that are not finite.
 -- Each is of a G that start accepts and a channel c of it.

@@ -14,7 +14,8 @@ use borrow.Author.Tests.{eqb-false}
 use Rattle.calls.specs.Run.{Sheet, Place, fresh, place, every, among, blendsIn, placeOk, placesOk}
 use Rattle.calls.specs.Jobs.{Job, push, fidelity, move, project, Call, on, blend, turn, blendTurn, Seen}
 use Rattle.calls.specs.Calls.{first, turnTests, advance, onward}
-use Rattle.calls.proofs.Tests.{never, not-is, or-r, or-i, every-at, every-of, none-at, getD-map-lt, passed-of, turn-numbered}
+use Rattle.calls.specs.Between.{PlaceIs, PlacesAre}
+use Rattle.calls.proofs.Tests.{never, or-r, or-i, every-at, every-of, none-at, getD-map-lt, silent, holds, passed-of}
 
 -- ---- what an accepted call has passed
 
@@ -26,36 +27,30 @@ pub record Ready (S : Sheet) (ps : List Place) (j c : ℕ) : Type 0 where
 
 pub ready-of : (S : Sheet) (ps : List Place) (j : Job) (c : ℕ) → first (turnTests S ps (on j c)) ≡ 0 → (c < S .count) × Ready S ps (turn j) c
 ready-of S ps j c e =
-    let h = passed-of (turnTests S ps (on j c)) (turn-numbered S ps (on j c)) e in (
-      ltb→lt c (S .count) (not-is (ltb c (S .count)) (h .0)),
+    let h = passed-of (turnTests S ps (on j c)) e in
+    let p = place ps c .position in (
+      ltb→lt c (S .count) (holds 11 (ltb c (S .count)) (h .0)),
       record {
-        unmarked = h .1 .0;
-        unfinished = eqb-false (place ps c .position) (5 * S .N) (h .1 .1 .0);
-        next = eqb→eq (place ps c .position % 5) (turn j) (not-is (eqb (place ps c .position % 5) (turn j)) (h .1 .1 .1 .0));
+        unmarked = silent 9 (place ps c .mark) (h .1 .0);
+        unfinished = eqb-false p (5 * S .N) (silent 10 (eqb p (5 * S .N)) (h .1 .1 .0));
+        next = eqb→eq (p % 5) (turn j) (holds 8 (eqb (p % 5) (turn j)) (h .1 .1 .1 .0));
       },
     )
 
 -- blend: every channel is
 pub blend-ready-of : (S : Sheet) (ps : List Place) → first (turnTests S ps blend) ≡ 0 → (c : ℕ) → c < S .count → Ready S ps blendTurn c
 blend-ready-of S ps e c h =
-    let t = passed-of (turnTests S ps blend) (turn-numbered S ps blend) e in
+    let t = passed-of (turnTests S ps blend) e in
+    let marked : ℕ → Bool = λ c. place ps c .mark in
+    let ended : ℕ → Bool = λ c. eqb (place ps c .position) (5 * S .N) in
     let due : ℕ → Bool = λ c. eqb (place ps c .position % 5) blendTurn in
     record {
-      unmarked = none-at (S .count) (λ c. place ps c .mark) (t .0) c h;
-      unfinished = eqb-false (place ps c .position) (5 * S .N) (none-at (S .count) (λ c. eqb (place ps c .position) (5 * S .N)) (t .1 .0) c h);
-      next = eqb→eq (place ps c .position % 5) blendTurn (every-at (S .count) due (not-is (every (S .count) due) (t .1 .1 .0)) c h);
+      unmarked = none-at (S .count) marked (silent 9 (among (S .count) marked) (t .0)) c h;
+      unfinished = eqb-false (place ps c .position) (5 * S .N) (none-at (S .count) ended (silent 10 (among (S .count) ended) (t .1 .0)) c h);
+      next = eqb→eq (place ps c .position % 5) blendTurn (every-at (S .count) due (holds 8 (every (S .count) due) (t .1 .1 .0)) c h);
     }
 
 -- ---- legal places, as facts
-
-pub record PlaceIs (S : Sheet) (p : Place) : Type 0 where
-  pub within : p .position ≤ 5 * S .N
-  pub marked : p .mark ≡ true → (0 < p .position) × (p .position % 5 ≡ 0)
-
-pub record PlacesAre (S : Sheet) (ps : List Place) : Type 0 where
-  pub long : length ps ≡ S .count
-  pub each : (c : ℕ) → c < S .count → PlaceIs S (place ps c)
-  pub equal : (c : ℕ) → c < S .count → blendsIn (place ps c .position) ≡ blendsIn (place ps 0 .position)
 
 place-is : (S : Sheet) (p : Place) → T (placeOk S p) → PlaceIs S p
 unfolding placeOk

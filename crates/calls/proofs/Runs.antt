@@ -11,13 +11,14 @@ use Rattle.calls.specs.Run.{Sheet, Place, Given, fresh, place, count, ar
 use Rattle.scalar.specs.Buffers.{Buffers}
 use Rattle.calls.specs.Buffers.{channel, joined, Sized}
 use Rattle.calls.specs.Jobs.{Call, Jobs, fixed}
-use Rattle.calls.specs.Calls.{Answer, refused, done, State, Outcome, first, lendTests, allSix, all, levelOk, tableOk, buffersLong, valuesLong, lengths, startRefusal, settle, call, begin, start, answers, final, noneYet, plain, plainAnswers, plainPlaces}
+use Rattle.calls.specs.Calls.{Answer, refused, done, State, Outcome, first, lendTests, allSix, lengths, startRefusal, settle, call, begin, start, answers, final, noneYet, plain, plainAnswers, plainPlaces}
 use Rattle.calls.specs.Demand.{Demand3}
-use Rattle.calls.proofs.Laws.{GivenOk, AllIn, Laws}
+use Rattle.calls.specs.Between.{GivenOk, PlaceIs, PlacesAre, AllIn, Inv}
+use Rattle.calls.proofs.Laws.{Laws}
 use Rattle.calls.proofs.Parts.{joined-sized, channel-joined, joined-channels}
-use Rattle.calls.proofs.Tests.{never, not-is, Passed, passed-of, lend-numbered}
-use Rattle.calls.proofs.Legal.{PlaceIs, PlacesAre, places-are}
-use Rattle.calls.proofs.Step.{Inv, Good, call-good}
+use Rattle.calls.proofs.Tests.{never, Lent, lent-of}
+use Rattle.calls.proofs.Legal.{places-are}
+use Rattle.calls.proofs.Step.{Good, call-good}
 
 -- ---- a list of calls
 
@@ -60,33 +61,24 @@ module _ (J : Jobs) (G : Given) (s : State) where
       go (suc r) e = let z : _≡_ {A = ℕ} 0 1 = cc in absurd (omega arith)
 
   module _ (e : start J G s .answer ≡ done) where
-    tests-passed : Passed (lendTests G (s .places) (lengths allSix (s .buffers)) true)
-    tests-passed =
-        passed-of (lendTests G (s .places) (lengths allSix (s .buffers)) true) (lend-numbered G (s .places) (lengths allSix (s .buffers)) true) (accepted e)
-
-    long : T (valuesLong G)
-    long =
-        and-r (buffersLong G (lengths allSix (s .buffers))) (valuesLong G)
-        (not-is (buffersLong G (lengths allSix (s .buffers)) && valuesLong G) (tests-passed .1 .0))
-
-    is-legal : T (legal (G .sheet) (s .places))
-    is-legal = not-is (legal (G .sheet) (s .places)) (tests-passed .0)
+    passed : Lent G (s .places) (lengths allSix (s .buffers)) true
+    passed = lent-of G (s .places) (lengths allSix (s .buffers)) true (accepted e)
 
     pub given-ok : GivenOk G
     given-ok =
         record {
-          sheet-ok = and-l (sheetOk (G .sheet)) (placesOk (G .sheet) (s .places)) is-legal;
-          levels-long = eqb→eq _ _ (and-l (eqb (length (G .levels)) (levelsBefore (G .sheet) (count G))) (eqb (length (G .tables)) (count G * 64)) long);
-          tables-long = eqb→eq _ _ (and-r (eqb (length (G .levels)) (levelsBefore (G .sheet) (count G))) (eqb (length (G .tables)) (count G * 64)) long);
-          tables-ok = not-is (all tableOk (G .tables)) (tests-passed .1 .1 .0);
-          levels-ok = not-is (all levelOk (G .levels)) (tests-passed .1 .1 .1 .0);
+          sheet-ok = and-l (sheetOk (G .sheet)) (placesOk (G .sheet) (s .places)) (passed .is-legal);
+          levels-long = passed .levels-long refl;
+          tables-long = passed .tables-long refl;
+          tables-ok = passed .tables-ok refl;
+          levels-ok = passed .levels-ok refl;
         }
 
     -- all places are fresh, and there is one for each channel
     fresh-places : map (λ p. fresh) (s .places) ≡ noneYet G
     fresh-places =
         map-fresh (s .places)
-        ∙ ap (λ (k : ℕ). replicate k fresh) (places-are (G .sheet) (s .places) (and-r (sheetOk (G .sheet)) (placesOk (G .sheet) (s .places)) is-legal) .long)
+        ∙ ap (λ (k : ℕ). replicate k fresh) (places-are (G .sheet) (s .places) (and-r (sheetOk (G .sheet)) (placesOk (G .sheet) (s .places)) (passed .is-legal)) .long)
 
     -- the state that start leaves
     s₀ : State

@@ -18,32 +18,22 @@ use Rattle.calls.specs.Buffers.{Name, Saved, get, channel, putChannel, j
 use Rattle.calls.specs.Jobs.{Job, push, fidelity, move, project, Call, on, blend, turn, blendTurn, Jobs, next, fixed, isBlown, Seen, seen, seenAt}
 use Rattle.scalar.specs.Blown.{bad, anyBad}
 use Rattle.scalar.specs.Blown as Blown
-use Rattle.calls.specs.Calls.{Answer, refused, done, blown, State, Outcome, first, turnTests, lent, lentLevels, all, buffersLong, valuesLong, lengths, lendTests, refusal, levelOk, tableOk, advance, onward, reply, worked, told, accept, settle, call, Plain, plainAccept, plainSettle, plain}
-use Rattle.calls.proofs.Laws.{GivenOk, AllIn, Laws}
+use Rattle.calls.specs.Calls.{Answer, refused, done, blown, State, Outcome, first, turnTests, lent, lentLevels, all, lengths, lendTests, refusal, advance, onward, reply, worked, told, accept, settle, call, Plain, plainAccept, plainSettle, plain}
+use Rattle.calls.specs.Between.{GivenOk, AllIn, Inv}
+use Rattle.calls.proofs.Laws.{Laws}
 use Rattle.calls.proofs.Parts.{channel-sized, put-sized, put-same, put-other, joined-channels}
-use Rattle.calls.proofs.Tests.{never, not-of, and-false, or-false-l, or-false-r, Passed, skip}
+use Rattle.calls.proofs.Tests.{never, or-false-l, or-false-r, Passed, skip, of-lent}
 use Rattle.calls.proofs.Facts.{coefs-fit}
-use Rattle.calls.proofs.Legal.{Ready, ready-of, blend-ready-of, PlacesAre, places-ok, advance-position, place-here, place-elsewhere, job-legal, blend-same, place-blended, blend-legal}
+use Rattle.calls.proofs.Legal.{Ready, ready-of, blend-ready-of, places-ok, advance-position, place-here, place-elsewhere, job-legal, blend-same, place-blended, blend-legal}
 
 module _ (J : Jobs) (G : Given) where
-  pub record Inv (s : State) : Type 0 where
-    pub legal-places : PlacesAre (G .sheet) (s .places)
-    pub sized : Sized (count G * area G) (s .buffers)
-    pub as-fixed : (c : ℕ) → c < count G → channel (area G) c (s .buffers) ≡ fixed J G (place (s .places) c .position) c
-    pub inside : (c : ℕ) → c < count G → place (s .places) c .mark ≡ false → AllIn G c (channel (area G) c (s .buffers))
-    pub marked : (c : ℕ) → c < count G → place (s .places) c .mark ≡ true → isBlown G c (fixed J G (place (s .places) c .position) c) ≡ true
-
   -- what a call must give: the plain run's answer and places, and the same between the calls
   pub record Good (o : Outcome) (p : Plain) : Type 0 where
     pub same-answer : o .answer ≡ p .answer
     pub same-places : o .after .places ≡ p .places
-    pub again : Inv (o .after)
+    pub again : Inv J G (o .after)
 
 -- ---- 13, 8, 4 and 5 are never given
-
-or-second : (a b : Bool) → T b → T (a || b)
-or-second true b t = tt
-or-second false b t = t
 
 sized-names : (m : ℕ) (B : Buffers) → Sized m B → (names : List Name) → T (all (λ n. eqb n m) (lengths names B))
 sized-names m B h [] = tt
@@ -53,23 +43,15 @@ module _ (J : Jobs) (G : Given) (ok : GivenOk G) where
   pub lend-passed : (s : State) → Inv J G s → (names : List Name) (levels : Bool) → Passed (lendTests G (s .places) (lengths names (s .buffers)) levels)
   lend-passed s inv names levels =
       let S = G .sheet in
-      let long : Bool = buffersLong G (lengths names (s .buffers)) in (
-        not-of (legal S (s .places)) (and-i (sheetOk S) (placesOk S (s .places)) (ok .sheet-ok) (places-ok S (s .places) (inv .legal-places))),
-        (
-          not-of (long && (not levels || valuesLong G))
-              (and-i long (not levels || valuesLong G)
-              (sized-names (count G * area G) (s .buffers) (inv .sized) names)
-              (or-second (not levels) (valuesLong G)
-              (and-i (eqb (length (G .levels)) (levelsBefore (G .sheet) (count G))) (eqb (length (G .tables)) (count G * 64)) (eq→eqb (ok .levels-long)) (eq→eqb (ok .tables-long))))),
-          (
-            and-false levels (not (all tableOk (G .tables))) (not-of (all tableOk (G .tables)) (ok .tables-ok)),
-            (
-              and-false levels (not (all levelOk (G .levels))) (not-of (all levelOk (G .levels)) (ok .levels-ok)),
-              tt,
-            ),
-          ),
-        ),
-      )
+      of-lent G (s .places) (lengths names (s .buffers)) levels
+      record {
+        is-legal = and-i (sheetOk S) (placesOk S (s .places)) (ok .sheet-ok) (places-ok S (s .places) (inv .legal-places));
+        long = sized-names (count G * area G) (s .buffers) (inv .sized) names;
+        levels-long = λ e. ok .levels-long;
+        tables-long = λ e. ok .tables-long;
+        tables-ok = λ e. ok .tables-ok;
+        levels-ok = λ e. ok .levels-ok;
+      }
 
 -- ---- an accepted job of one channel
 

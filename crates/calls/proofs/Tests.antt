@@ -1,19 +1,22 @@
 -- What the tests of a call tell: of each channel, and of refusals that were not given.
 use mathlib.Core.Path.{_≡_, refl, sym, ap, _∙_, subst}
 use mathlib.Core.Logic.{_≢_, _⊎_, inl, inr}
-use Prim.Native.Nat.{ℕ, zero, suc, _-_, _<_}
+use Prim.Native.Nat.{ℕ, zero, suc, _+_, _-_, _*_, _<_}
 use native.Mathlib.Nat.{le-of-suc-le-suc, not-suc-le-zero, eq-or-lt-of-le}
 use native.Mathlib.Omega.{arith}
+use native.Mathlib.Numerals.{add-one}
 use native.Mathlib.Decide.{ℕ-discrete}
 use mathlib.Core.Bool.{Bool, true, false, not, _&&_, _||_, cond}
 use mathlib.Core.List.{List, [], _∷_, _++_, map}
-use lib.Dec.{T}
-use lib.Ieee.Fits.{and-l, and-r, and-i}
+use lib.Dec.{T, eqb, eqb→eq}
+use lib.IntN.{ℤ}
+use lib.Ieee.Fits.{and-l, and-r, and-i, eq→eqb}
 use lib.ListN.{length, getD, take, drop}
+use lib.Seq.{drop-cons}
 use Rattle.fold.specs.Part.{part}
-use Rattle.calls.specs.Run.{Sheet, Place, Given, every, among, legal}
-use Rattle.calls.specs.Jobs.{Call, on, blend}
-use Rattle.calls.specs.Calls.{Tests, first, all, turnTests, lendTests, lentLevels, refusal}
+use Rattle.calls.specs.Run.{Place, Given, every, among, legal, count, levelsBefore}
+use Rattle.calls.specs.Jobs.{Call}
+use Rattle.calls.specs.Calls.{Tests, first, test, all, levelOk, levelFault, levelsFault, tableOk, buffersLong, valuesLong, turnTests, lendTests, lentLevels, refusal}
 
 pub never : {X : Type 0} (b : Bool) → b ≡ false → b ≡ true → X
 never b p q = let z : _≡_ {A = ℕ} 0 1 = cc in absurd (omega arith)
@@ -99,44 +102,115 @@ module _ {A : Type 0} where
 
 -- ---- refusals that were not given
 
+-- a test that gives no number
+pub silent : (n : ℕ) (b : Bool) → test (suc n) b ≡ 0 → b ≡ false
+silent n true e = absurd (omega arith)
+silent n false e = refl
+
+pub holds : (n : ℕ) (b : Bool) → test (suc n) (not b) ≡ 0 → T b
+holds n b e = not-is b (silent n (not b) e)
+
+pub test-of : (n : ℕ) (b : Bool) → T b → test n (not b) ≡ 0
+test-of n b t = ap (test n) (not-of b t)
+
 abbrev pub Passed : Tests → Type 0
 Passed [] = Unit {0}
-Passed (t ∷ ts) = (t .1 ≡ false) × Passed ts
+Passed (t ∷ ts) = (t ≡ 0) × Passed ts
 
--- no test has the number 0
-abbrev pub Numbered : Tests → Type 0
-Numbered [] = Unit {0}
-Numbered (t ∷ ts) = (0 < t .0) × Numbered ts
-
-pub passed-of : (ts : Tests) → Numbered ts → first ts ≡ 0 → Passed ts
-passed-of [] n e = tt
-passed-of (t ∷ ts) n e = go (t .1) e (passed-of ts (n .1))
-  where
-    go : (b : Bool) → cond b (t .0) (first ts) ≡ 0 → (first ts ≡ 0 → Passed ts) → (b ≡ false) × Passed ts
-    go true e k = absurd (omega (arith, n .0))
-    go false e k = (refl, k e)
-
-pub turn-numbered : (S : Sheet) (ps : List Place) (x : Call) → Numbered (turnTests S ps x)
-turn-numbered S ps (on j c) = (omega arith, (omega arith, (omega arith, (omega arith, tt))))
-turn-numbered S ps blend = (omega arith, (omega arith, (omega arith, tt)))
-
-pub lend-numbered : (G : Given) (ps : List Place) (ls : List ℕ) (levels : Bool) → Numbered (lendTests G ps ls levels)
-lend-numbered G ps ls levels = (omega arith, (omega arith, (omega arith, (omega arith, tt))))
+pub passed-of : (ts : Tests) → first ts ≡ 0 → Passed ts
+passed-of [] e = tt
+passed-of (zero ∷ ts) e = (refl, passed-of ts e)
+passed-of (suc n ∷ ts) e = absurd (omega arith)
 
 -- tests that are passed may be left out
 pub skip : (ts us : Tests) → Passed ts → first (ts ++ us) ≡ first us
 skip [] us h = refl
-skip (t ∷ ts) us h = ap (λ (b : Bool). cond b (t .0) (first (ts ++ us))) (h .0) ∙ skip ts us (h .1)
+skip (t ∷ ts) us h = ap (λ (n : ℕ). first (n ∷ ts ++ us)) (h .0) ∙ skip ts us (h .1)
 
 -- and what comes after a refusal is not looked at
 pub stops : (ts us : Tests) → first ts ≢ 0 → first (ts ++ us) ≡ first ts
 stops [] us n = absurd (n refl)
-stops (t ∷ ts) us n = go (t .1) n (stops ts us)
-  where
-    go : (b : Bool) → cond b (t .0) (first ts) ≢ 0 → (first ts ≢ 0 → first (ts ++ us) ≡ first ts)
-        → cond b (t .0) (first (ts ++ us)) ≡ cond b (t .0) (first ts)
-    go true n k = refl
-    go false n k = k n
+stops (zero ∷ ts) us n = stops ts us n
+stops (suc t ∷ ts) us n = refl
+
+-- ---- a list looked at value by value, from place k on: one that has a fault, and one that has none
+
+module _ {A : Type 0} (f : A → ℕ) (d : A) (xs : List A) (k : ℕ) (h : k < length xs) where
+  from-here : first (map f (drop k xs)) ≡ first (f (getD xs k d) ∷ map f (drop (suc k) xs))
+  from-here = ap (λ (ys : List A). first (map f ys)) (drop-cons xs k d h)
+
+  pub fault-here : f (getD xs k d) ≢ 0 → first (map f (drop k xs)) ≡ f (getD xs k d)
+  fault-here n = from-here ∙ go (f (getD xs k d)) n
+    where
+      go : (t : ℕ) → t ≢ 0 → first (t ∷ map f (drop (suc k) xs)) ≡ t
+      go zero n = absurd (n refl)
+      go (suc t) n = refl
+
+  -- at the code's `k + 1`
+  pub none-here : f (getD xs k d) ≡ 0 → first (map f (drop k xs)) ≡ first (map f (drop (k + 1) xs))
+  none-here e = from-here ∙ ap (λ (n : ℕ). first (n ∷ map f (drop (suc k) xs))) e ∙ ap (λ (n : ℕ). first (map f (drop n xs))) (sym (add-one k))
+
+levels-fine : (ds : List ℤ) → levelsFault ds ≡ 0 → T (all levelOk ds)
+levels-fine [] e = tt
+levels-fine (d ∷ ds) e =
+    let h = passed-of (map levelFault (d ∷ ds)) e in
+    and-i (levelOk d) (all levelOk ds) (holds 4 (levelOk d) (h .0)) (levels-fine ds (sym (skip (levelFault d ∷ []) (map levelFault ds) (h .0, tt)) ∙ e))
+
+levels-faultless : (ds : List ℤ) → T (all levelOk ds) → levelsFault ds ≡ 0
+levels-faultless [] t = refl
+levels-faultless (d ∷ ds) t =
+    skip (levelFault d ∷ []) (map levelFault ds) (test-of 5 (levelOk d) (and-l (levelOk d) (all levelOk ds) t), tt)
+    ∙ levels-faultless ds (and-r (levelOk d) (all levelOk ds) t)
+
+-- ---- what a call that passed 13, 8, 4 and 5 was lent
+
+pub record Lent (G : Given) (ps : List Place) (ls : List ℕ) (levels : Bool) : Type 0 where
+  pub is-legal : T (legal (G .sheet) ps)
+  pub long : T (buffersLong G ls)
+  pub levels-long : levels ≡ true → length (G .levels) ≡ levelsBefore (G .sheet) (count G)
+  pub tables-long : levels ≡ true → length (G .tables) ≡ count G * 64
+  pub tables-ok : levels ≡ true → T (all tableOk (G .tables))
+  pub levels-ok : levels ≡ true → T (all levelOk (G .levels))
+
+module _ (G : Given) (ps : List Place) (ls : List ℕ) where
+  abbrev levels-are : Bool
+  levels-are = eqb (length (G .levels)) (levelsBefore (G .sheet) (count G))
+
+  abbrev tables-are : Bool
+  tables-are = eqb (length (G .tables)) (count G * 64)
+
+  pub lent-of : (levels : Bool) → first (lendTests G ps ls levels) ≡ 0 → Lent G ps ls levels
+  lent-of levels z =
+      let p = passed-of (lendTests G ps ls levels) z in
+      let both : T (buffersLong G ls && (not levels || valuesLong G)) = holds 7 (buffersLong G ls && (not levels || valuesLong G)) (p .1 .0) in
+      let values : levels ≡ true → T (valuesLong G) = or-r levels (valuesLong G) (and-r (buffersLong G ls) (not levels || valuesLong G) both) in
+      record {
+        is-legal = holds 12 (legal (G .sheet) ps) (p .0);
+        long = and-l (buffersLong G ls) (not levels || valuesLong G) both;
+        levels-long = λ e. eqb→eq _ _ (and-l levels-are tables-are (values e));
+        tables-long = λ e. eqb→eq _ _ (and-r levels-are tables-are (values e));
+        tables-ok = λ e. holds 3 (all tableOk (G .tables)) (ap (λ (b : Bool). test 4 (b && not (all tableOk (G .tables)))) (sym e) ∙ p .1 .1 .0);
+        levels-ok = λ e. levels-fine (G .levels) (ap (λ (b : Bool). cond b (levelsFault (G .levels)) 0) (sym e) ∙ p .1 .1 .1 .0);
+      }
+
+  pub of-lent : (levels : Bool) → Lent G ps ls levels → Passed (lendTests G ps ls levels)
+  of-lent levels h = (
+    test-of 13 (legal (G .sheet) ps) (h .is-legal),
+    (
+      test-of 8 (buffersLong G ls && (not levels || valuesLong G))
+          (and-i (buffersLong G ls) (not levels || valuesLong G) (h .long)
+          (or-i levels (valuesLong G) (λ e. and-i levels-are tables-are (eq→eqb (h .levels-long e)) (eq→eqb (h .tables-long e))))),
+      (tables levels (h .tables-ok), (values levels (h .levels-ok), tt)),
+    ),
+  )
+    where
+      tables : (b : Bool) → (b ≡ true → T (all tableOk (G .tables))) → test 4 (b && not (all tableOk (G .tables))) ≡ 0
+      tables true t = test-of 4 (all tableOk (G .tables)) (t refl)
+      tables false t = refl
+
+      values : (b : Bool) → (b ≡ true → T (all levelOk (G .levels))) → cond b (levelsFault (G .levels)) 0 ≡ 0
+      values true t = levels-faultless (G .levels) (t refl)
+      values false t = refl
 
 -- ---- a call's refusal: by what is lent, and then by turn
 
@@ -151,10 +225,10 @@ module _ (G : Given) (ps : List Place) (x : Call) (ls : List ℕ) where
       e
       ∙ sym
       (skip (lendTests G ps ls (lentLevels x)) (turnTests (G .sheet) ps x)
-      (passed-of (lendTests G ps ls (lentLevels x)) (lend-numbered G ps ls (lentLevels x)) z))
+      (passed-of (lendTests G ps ls (lentLevels x)) z))
 
   -- an accepted call has passed all its tests
-  pub passed-all : refusal G ps x ls ≡ 0 → Passed (lendTests G ps ls (lentLevels x)) × (first (turnTests (G .sheet) ps x) ≡ 0)
+  pub passed-all : refusal G ps x ls ≡ 0 → Lent G ps ls (lentLevels x) × (first (turnTests (G .sheet) ps x) ≡ 0)
   unfolding refusal
   passed-all z =
       go (ℕ-discrete (first lend) 0)
@@ -162,11 +236,6 @@ module _ (G : Given) (ps : List Place) (x : Call) (ls : List ℕ) where
       lend : Tests
       lend = lendTests G ps ls (lentLevels x)
 
-      go : Dec (first lend ≡ 0) → Passed lend × (first (turnTests (G .sheet) ps x) ≡ 0)
-      go (yes e) =
-          let h : Passed lend = passed-of lend (lend-numbered G ps ls (lentLevels x)) e in
-          (h, sym (skip lend (turnTests (G .sheet) ps x) h) ∙ z)
+      go : Dec (first lend ≡ 0) → Lent G ps ls (lentLevels x) × (first (turnTests (G .sheet) ps x) ≡ 0)
+      go (yes e) = (lent-of G ps ls (lentLevels x) e, sym (skip lend (turnTests (G .sheet) ps x) (passed-of lend e)) ∙ z)
       go (no n) = absurd (n (sym (stops lend (turnTests (G .sheet) ps x) n) ∙ z))
-
-pub lend-legal : (G : Given) (ps : List Place) (ls : List ℕ) (levels : Bool) → first (lendTests G ps ls levels) ≡ 0 → T (legal (G .sheet) ps)
-lend-legal G ps ls levels z = not-is (legal (G .sheet) ps) (passed-of (lendTests G ps ls levels) (lend-numbered G ps ls levels) z .0)

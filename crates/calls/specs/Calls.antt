@@ -25,28 +25,33 @@ pub record Outcome : Type 0 where
   pub answer : Answer
   pub after : State
 
--- ---- refusals: numbers of the table with their tests, in the order of the tests
+-- ---- refusals: what each test gives, a number of the table or 0 for none, in the order of the tests
 
 abbrev pub Tests : Type 0
-Tests = List (ℕ × Bool)
+Tests = List ℕ
 
--- the number of the first test that is true; 0 if none is
+-- the first that isn't 0 counts; 0 if all are
 abbrev pub first : Tests → ℕ
 first [] = 0
-first (t ∷ ts) = cond (t .1) (t .0) (first ts)
+first (zero ∷ ts) = first ts
+first (suc n ∷ ts) = suc n
+
+-- a number's test
+abbrev pub test : ℕ → Bool → ℕ
+test n b = cond b n 0
 
 -- 12, 10, 11, 9: by positions and marks alone; "blend names no channel"
 abbrev pub turnTests : Sheet → List Place → Call → Tests
 turnTests S ps (on j c) =
-    (12, not (ltb c (S .count)))
-    ∷ (10, place ps c .mark)
-    ∷ (11, eqb (place ps c .position) (5 * S .N))
-    ∷ (9, not (eqb (place ps c .position % 5) (turn j)))
+    test 12 (not (ltb c (S .count)))
+    ∷ test 10 (place ps c .mark)
+    ∷ test 11 (eqb (place ps c .position) (5 * S .N))
+    ∷ test 9 (not (eqb (place ps c .position % 5) (turn j)))
     ∷ []
 turnTests S ps blend =
-    (10, among (S .count) (λ c. place ps c .mark))
-    ∷ (11, among (S .count) (λ c. eqb (place ps c .position) (5 * S .N)))
-    ∷ (9, not (every (S .count) (λ c. eqb (place ps c .position % 5) blendTurn)))
+    test 10 (among (S .count) (λ c. place ps c .mark))
+    ∷ test 11 (among (S .count) (λ c. eqb (place ps c .position) (5 * S .N)))
+    ∷ test 9 (not (every (S .count) (λ c. eqb (place ps c .position % 5) blendTurn)))
     ∷ []
 
 -- "A call is lent whole the buffers that it reads or writes. Start, data and project are lent levels and tables."
@@ -76,12 +81,19 @@ module _ {A : Type 0} where
   all f [] = true
   all f (x ∷ xs) = f x && all f xs
 
--- "level beyond ±2,047" is 5, "quantiser not 1 to 255" is 4
+-- "quantiser not 1 to 255" is 4, "level beyond ±2,047" is 5
+abbrev pub tableOk : ℕ → Bool
+tableOk q = leb 1 q && leb q 255
+
 abbrev pub levelOk : ℤ → Bool
 levelOk d = leb (natAbs d) 2047
 
-abbrev pub tableOk : ℕ → Bool
-tableOk q = leb 1 q && leb q 255
+abbrev pub levelFault : ℤ → ℕ
+levelFault d = test 5 (not (levelOk d))
+
+-- level by level
+abbrev pub levelsFault : List ℤ → ℕ
+levelsFault ds = first (map levelFault ds)
 
 -- "Each lent buffer has (channels of the run) × W × H values", levels w × h and tables 64 a channel
 abbrev pub buffersLong : Given → List ℕ → Bool
@@ -93,10 +105,10 @@ valuesLong G = eqb (length (G .levels)) (levelsBefore (G .sheet) (count G)) && e
 -- 13, 8, 4, 5: by the record and what is lent, the buffers' lengths being ls; 4 and 5 "look at all of them"
 abbrev pub lendTests : Given → List Place → List ℕ → Bool → Tests
 lendTests G ps ls levels =
-    (13, not (legal (G .sheet) ps))
-    ∷ (8, not (buffersLong G ls && (not levels || valuesLong G)))
-    ∷ (4, levels && not (all tableOk (G .tables)))
-    ∷ (5, levels && not (all levelOk (G .levels)))
+    test 13 (not (legal (G .sheet) ps))
+    ∷ test 8 (not (buffersLong G ls && (not levels || valuesLong G)))
+    ∷ test 4 (levels && not (all tableOk (G .tables)))
+    ∷ cond levels (levelsFault (G .levels)) 0
     ∷ []
 
 -- "Calls check 13, 8, 4, 5, 12, 10, 11, 9, each where it applies": the refusal's number, 0 for none

@@ -4,3 +4,4 @@ pub mod Buffers
 pub mod Jobs
 pub mod Calls
 pub mod Demand
+pub mod Between

@@ -1,0 +1,42 @@
+-- What holds between the calls of a run that start has accepted. Functions inside the crates that make many calls ask and tell it.
+use Prim.Native.Nat.{ℕ, _*_, _%_, _≤_, _<_}
+use mathlib.Core.Path.{_≡_}
+use mathlib.Core.Bool.{true, false}
+use mathlib.Core.List.{List}
+use lib.ListN.{length}
+use lib.Dec.{T}
+use Rattle.calls.specs.Run.{Sheet, Place, Given, place, count, area, coefs, levelsBefore, blendsIn, sheetOk}
+use Rattle.scalar.specs.Buffers.{Buffers}
+use Rattle.calls.specs.Buffers.{channel, Sized}
+use Rattle.calls.specs.Jobs.{Jobs, fixed, isBlown}
+use Rattle.calls.specs.Calls.{State, all, levelOk, tableOk}
+use Rattle.calls.specs.Demand.{SavedIn}
+
+-- what start has seen of its input: a legal sheet, lengths, quantisers and levels
+pub record GivenOk (G : Given) : Type 0 where
+  pub sheet-ok : T (sheetOk (G .sheet))
+  pub levels-long : length (G .levels) ≡ levelsBefore (G .sheet) (count G)
+  pub tables-long : length (G .tables) ≡ count G * 64
+  pub tables-ok : T (all tableOk (G .tables))
+  pub levels-ok : T (all levelOk (G .levels))
+
+-- legal places, as facts
+pub record PlaceIs (S : Sheet) (p : Place) : Type 0 where
+  pub within : p .position ≤ 5 * S .N
+  pub marked : p .mark ≡ true → (0 < p .position) × (p .position % 5 ≡ 0)
+
+pub record PlacesAre (S : Sheet) (ps : List Place) : Type 0 where
+  pub long : length ps ≡ S .count
+  pub each : (c : ℕ) → c < S .count → PlaceIs S (place ps c)
+  pub equal : (c : ℕ) → c < S .count → blendsIn (place ps c .position) ≡ blendsIn (place ps 0 .position)
+
+-- every saved coefficient of channel c is in its interval
+abbrev pub AllIn : Given → ℕ → Buffers → Type 0
+AllIn G c b = (k : ℕ) → k < coefs (G .sheet) c → SavedIn G c k b
+
+pub record Inv (J : Jobs) (G : Given) (s : State) : Type 0 where
+  pub legal-places : PlacesAre (G .sheet) (s .places)
+  pub sized : Sized (count G * area G) (s .buffers)
+  pub as-fixed : (c : ℕ) → c < count G → channel (area G) c (s .buffers) ≡ fixed J G (place (s .places) c .position) c
+  pub inside : (c : ℕ) → c < count G → place (s .places) c .mark ≡ false → AllIn G c (channel (area G) c (s .buffers))
+  pub marked : (c : ℕ) → c < count G → place (s .places) c .mark ≡ true → isBlown G c (fixed J G (place (s .places) c .position) c) ≡ true
