@@ -6,3 +6,4 @@ pub mod Legal
 pub mod Facts
 pub mod Step
 pub mod Runs
+pub mod Unmarked

@@ -50,6 +50,22 @@ map-fresh : (ps : List Place) → map (λ p. fresh) ps ≡ replicate (length ps)
 map-fresh [] = refl
 map-fresh (p ∷ ps) = ap (λ (l : List Place). fresh ∷ l) (map-fresh ps)
 
+-- a fresh run's places
+module _ (G : Given) where
+  pub at-fresh : (c : ℕ) → c < count G → place (noneYet G) c ≡ fresh
+  at-fresh c h = getD-replicate (count G) c fresh fresh h
+
+  fresh-is : PlaceIs (G .sheet) fresh
+  fresh-is = record { within = omega arith; marked = λ m. never false refl m }
+
+  pub fresh-are : PlacesAre (G .sheet) (noneYet G)
+  fresh-are =
+      record {
+        long = length-replicate (count G) fresh;
+        each = λ c h. subst (PlaceIs (G .sheet)) (sym (at-fresh c h)) fresh-is;
+        equal = λ c h. ap (λ (p : Place). blendsIn (p .position)) (at-fresh c h ∙ sym (at-fresh 0 (omega arith)));
+      }
+
 -- an accepted start has passed its four tests
 module _ (J : Jobs) (G : Given) (s : State) where
   accepted : start J G s .answer ≡ done → first (lendTests G (s .places) (lengths allSix (s .buffers)) true) ≡ 0
@@ -90,20 +106,6 @@ module _ (J : Jobs) (G : Given) (s : State) where
         ap (λ (r : ℕ). settle r s (begin J G s) .after) (accepted e)
         ∙ ap (λ (ps : List Place). record { places = ps; buffers = joined (count G) (J .start G) }) fresh-places
 
-    at-fresh : (c : ℕ) → c < count G → place (noneYet G) c ≡ fresh
-    at-fresh c h = getD-replicate (count G) c fresh fresh h
-
-    fresh-is : PlaceIs (G .sheet) fresh
-    fresh-is = record { within = omega arith; marked = λ m. never false refl m }
-
-    fresh-are : PlacesAre (G .sheet) (noneYet G)
-    fresh-are =
-        record {
-          long = length-replicate (count G) fresh;
-          each = λ c h. subst (PlaceIs (G .sheet)) (sym (at-fresh c h)) fresh-is;
-          equal = λ c h. ap (λ (p : Place). blendsIn (p .position)) (at-fresh c h ∙ sym (at-fresh 0 (omega arith)));
-        }
-
     module _ (laws : Laws J) where
       start-good : Inv J G s₀
       unfolding s₀ fixed
@@ -111,11 +113,11 @@ module _ (J : Jobs) (G : Given) (s : State) where
           let sizes : (c : ℕ) → c < count G → Sized (area G) (J .start G c) = laws .start-sized G given-ok in
           let parts : (c : ℕ) → c < count G → channel (area G) c (joined (count G) (J .start G)) ≡ J .start G c = channel-joined (area G) (count G) (J .start G) sizes in
           record {
-            legal-places = fresh-are;
+            legal-places = fresh-are G;
             sized = joined-sized (area G) (count G) (J .start G) sizes;
-            as-fixed = λ c h. parts c h ∙ ap (λ (p : Place). fixed J G (p .position) c) (sym (at-fresh c h));
+            as-fixed = λ c h. parts c h ∙ ap (λ (p : Place). fixed J G (p .position) c) (sym (at-fresh G c h));
             inside = λ c h m. subst (AllIn G c) (sym (parts c h)) (laws .start-in G given-ok c h);
-            marked = λ c h m. never false refl (ap (λ (p : Place). p .mark) (sym (at-fresh c h)) ∙ m);
+            marked = λ c h m. never false refl (ap (λ (p : Place). p .mark) (sym (at-fresh G c h)) ∙ m);
           }
 
       from-start : (xs : List Call) → Demand3 J G xs s₀
