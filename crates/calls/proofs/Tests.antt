@@ -133,6 +133,10 @@ stops [] us n = absurd (n refl)
 stops (zero ∷ ts) us n = stops ts us n
 stops (suc t ∷ ts) us n = refl
 
+pub first-one : (t : ℕ) → first (t ∷ []) ≡ t
+first-one zero = refl
+first-one (suc t) = refl
+
 -- ---- a list looked at value by value, from place k on: one that has a fault, and one that has none
 
 module _ {A : Type 0} (f : A → ℕ) (d : A) (xs : List A) (k : ℕ) (h : k < length xs) where

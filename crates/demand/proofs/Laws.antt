@@ -23,7 +23,8 @@ use Rattle.calls.specs.Buffers.{Name, Plane, Prior, Gradient, Across, Down, Sav
 use Rattle.calls.specs.Jobs.{Job, push, fidelity, move, project}
 use Rattle.calls.specs.Calls.{all, levelOk, tableOk}
 use Rattle.calls.specs.Demand.{SavedIn}
-use Rattle.calls.proofs.Laws.{GivenOk, Laws, AllIn}
+use Rattle.calls.specs.Between.{GivenOk, AllIn}
+use Rattle.calls.proofs.Laws.{Laws}
 use Rattle.calls.proofs.Facts.{SheetIs, sheet-is}
 use Rattle.calls.proofs.Tests.{all-part, all-anywhere}
 use Rattle.demand.specs.Solver.{coefOf, constantsOf, work, jobs}

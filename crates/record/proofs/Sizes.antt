@@ -10,7 +10,8 @@ use lib.ListN.{length, getD}
 use Rattle.fold.proofs.Grid.{row-end}
 use Rattle.calls.specs.Run.{Sheet, own, place, coefs, levelsBefore, sheetOk, placesOk}
 use Rattle.calls.proofs.Facts.{OwnIs, SheetIs, sheet-is, own-fits}
-use Rattle.calls.proofs.Legal.{PlaceIs, PlacesAre, places-are}
+use Rattle.calls.specs.Between.{PlaceIs, PlacesAre}
+use Rattle.calls.proofs.Legal.{places-are}
 use Rattle.record.specs.Model.{Legal, sheetOf, placesOf, noChannel}
 use Rattle.record.specs.declared.Run.{Run}
 use Rattle.record.proofs.Channels.{at-own, at-position}

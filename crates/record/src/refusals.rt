@@ -4,7 +4,7 @@ use crate::legal::both;
 use crate::legal::either;
 use crate::legal::legal;
 use crate::scans::all_equal;
-use crate::scans::levels_ok;
+use crate::scans::levels_fault;
 use crate::scans::tables_ok;
 ghost use mathlib.Core.Path.{_≡_};
 ghost use mathlib.Core.List.{List};
@@ -86,10 +86,7 @@ pub fn start_refusal(run: Run, lengths: &[usize], levels: &[i16], tables: &[u16]
     if !tables_ok(tables) {
         return 4;
     }
-    if !levels_ok(levels) {
-        return 5;
-    }
-    0
+    levels_fault(levels)
 }
 
 // 12, 10, 11 and 9 of a job of one channel; `job` is its place in the five.

@@ -2,7 +2,7 @@
 use crate::legal::both;
 ghost use mathlib.Core.Path.{_≡_};
 ghost use lib.Dec.{eqb};
-ghost use Rattle.calls.specs.Calls.{all, tableOk, levelOk};
+ghost use Rattle.calls.specs.Calls.{all, tableOk, levelOk, levelFault, levelsFault};
 
 pub fn all_equal(n: usize, lengths: &[usize]) -> bool
     ensures { λ r. ⌜ r ≡ all (λ m. eqb m n) (now (lengths .entry)) ⌝ }
@@ -37,13 +37,25 @@ fn level_ok(d: i16) -> bool
     both(-2047 <= d, d <= 2047)
 }
 
-// Every level is within ±2,047.
-pub fn levels_ok(levels: &[i16]) -> bool
-    ensures { λ r. ⌜ r ≡ all levelOk (now (levels .entry)) ⌝ }
+// 5 for a level beyond ±2,047; 0 for none.
+fn level_fault(d: i16) -> u8
+    ensures { λ r. ⌜ r ≡ levelFault d ⌝ }
 {
-    let mut ok = true;
-    for k in 0..levels.len() {
-        ok = both(ok, level_ok(levels[k]));
+    if level_ok(d) {
+        return 0;
     }
-    ok
+    5
+}
+
+// The first fault of a level.
+pub fn levels_fault(levels: &[i16]) -> u8
+    ensures { λ r. ⌜ r ≡ levelsFault (now (levels .entry)) ⌝ }
+{
+    for k in 0..levels.len() {
+        let fault = level_fault(levels[k]);
+        if fault != 0 {
+            return fault;
+        }
+    }
+    0
 }

@@ -1,7 +1,7 @@
 -- How a call ends, for the proofs of the public calls: refused, with all as it was, or accepted.
 use mathlib.Core.Path.{_≡_, refl, sym, ap, _∙_, subst}
 use mathlib.Core.Logic.{_≢_}
-use mathlib.Core.Bool.{Bool, true, false, not, _&&_, _||_}
+use mathlib.Core.Bool.{Bool, true}
 use mathlib.Core.List.{List, [], _∷_}
 use Prim.Native.Nat.{ℕ, zero, suc, _+_, _*_, _≤_, _<_}
 use native.Mathlib.Omega.{arith}
@@ -10,12 +10,12 @@ use lib.Ieee.Fits.{and-l, and-r}
 use lib.IntN.{ℤ}
 use lib.ListN.{length, set}
 use Rattle.scalar.specs.Buffers.{Buffers}
-use Rattle.calls.specs.Run.{Given, place, legal, count, area, levelsBefore}
+use Rattle.calls.specs.Run.{place}
 use Rattle.calls.specs.Buffers.{putChannel}
 use Rattle.calls.specs.Jobs.{Job, project, Call, on, blend, turn, Seen}
 use Rattle.calls.specs.Calls as Calls
-use Rattle.calls.specs.Calls.{all, buffersLong, valuesLong, lengths, lent, lentLevels, lendTests, refusal, call, settle, accept, worked, told, reply, advance, marked}
-use Rattle.calls.proofs.Tests.{passed-all, not-is, or-r}
+use Rattle.calls.specs.Calls.{all, lengths, lent, lentLevels, refusal, call, settle, accept, worked, told, reply, advance, marked}
+use Rattle.calls.proofs.Tests.{passed-all}
 use Rattle.calls.proofs.Legal.{Ready, ready-of}
 use Rattle.demand.specs.Solver.{jobs}
 use Rattle.record.specs.declared.Run.{Run}
@@ -64,33 +64,16 @@ pub record Accepted (r : Run) (j : Job) (c : ℕ) (ls : List ℕ) : Type 0 where
 pub accepted : (r : Run) (levels : List ℤ) (tables : List ℕ) (j : Job) (c : ℕ) (ls : List ℕ)
     → refusal (givenOf r levels tables) (placesOf r) (on j c) ls ≡ 0 → Accepted r j c ls
 accepted r levels tables j c ls e =
-    let G = givenOf r levels tables in
-    let p = passed-all G (placesOf r) (on j c) ls e in
+    let p = passed-all (givenOf r levels tables) (placesOf r) (on j c) ls e in
     let t = ready-of (sheetOf r) (placesOf r) j c (p .1) in
-    record {
-      is-legal = not-is (legal (sheetOf r) (placesOf r)) (p .0 .0);
-      below = t .0;
-      ready = t .1;
-      long = all-are (r .count * (r .w * r .h)) ls (and-l (buffersLong G ls) (not (lentLevels (on j c)) || valuesLong G) (not-is (buffersLong G ls && (not (lentLevels (on j c)) || valuesLong G)) (p .0 .1 .0)));
-    }
+    record { is-legal = p .0 .is-legal; below = t .0; ready = t .1; long = all-are (r .count * (r .w * r .h)) ls (p .0 .long) }
 
 -- and where it is lent levels and tables
 pub fed : (r : Run) (levels : List ℤ) (tables : List ℕ) (j : Job) (c : ℕ) (ls : List ℕ) → lentLevels (on j c) ≡ true
     → refusal (givenOf r levels tables) (placesOf r) (on j c) ls ≡ 0 → Fed r c levels tables
 fed r levels tables j c ls l e =
-    let G = givenOf r levels tables in
-    let a = accepted r levels tables j c ls e in
-    let long : T (valuesLong G) =
-    or-r (lentLevels (on j c)) (valuesLong G)
-    (and-r (buffersLong G ls) (not (lentLevels (on j c)) || valuesLong G)
-    (not-is (buffersLong G ls && (not (lentLevels (on j c)) || valuesLong G)) (passed-all G (placesOf r) (on j c) ls e .0 .1 .0)))
-    l in
-    record {
-      is-legal = a .is-legal;
-      below = a .below;
-      levels-long = eqb→eq _ _ (and-l (eqb (length levels) (levelsBefore (sheetOf r) (r .count))) (eqb (length tables) (r .count * 64)) long);
-      tables-long = eqb→eq _ _ (and-r (eqb (length levels) (levelsBefore (sheetOf r) (r .count))) (eqb (length tables) (r .count * 64)) long);
-    }
+    let p = passed-all (givenOf r levels tables) (placesOf r) (on j c) ls e .0 in
+    record { is-legal = p .is-legal; below = accepted r levels tables j c ls e .below; levels-long = p .levels-long l; tables-long = p .tables-long l }
 
 -- what an accepted blend has passed
 pub record Blendable (r : Run) (ls : List ℕ) : Type 0 where
@@ -99,12 +82,8 @@ pub record Blendable (r : Run) (ls : List ℕ) : Type 0 where
 
 pub blendable : (r : Run) (levels : List ℤ) (tables : List ℕ) (ls : List ℕ) → refusal (givenOf r levels tables) (placesOf r) blend ls ≡ 0 → Blendable r ls
 blendable r levels tables ls e =
-    let G = givenOf r levels tables in
-    let p = passed-all G (placesOf r) blend ls e .0 in
-    record {
-      is-legal = not-is (legal (sheetOf r) (placesOf r)) (p .0);
-      long = all-are (r .count * (r .w * r .h)) ls (and-l (buffersLong G ls) true (not-is (buffersLong G ls && true) (p .1 .0)));
-    }
+    let p = passed-all (givenOf r levels tables) (placesOf r) blend ls e .0 in
+    record { is-legal = p .is-legal; long = all-are (r .count * (r .w * r .h)) ls (p .long) }
 
 -- an accepted job of channel c: with the record r′ and the buffers B′ afterwards
 module _ (r : Run) (levels : List ℤ) (tables : List ℕ) (j : Job) (c : ℕ) (B : Buffers) where

@@ -1,13 +1,11 @@
 -- Start: refused, or every channel's part of the six put in its place, which is the channels' starts one after the other.
 use mathlib.Core.Path.{_≡_, refl, sym, ap, _∙_}
 use mathlib.Core.Logic.{_≢_, _⊎_, inl, inr}
-use mathlib.Core.Bool.{_&&_, true}
+use mathlib.Core.Bool.{true}
 use mathlib.Core.List.{List, map}
 use Prim.Native.Nat.{ℕ, zero, suc, _+_, _*_, _<_, _≤_}
 use native.Mathlib.Nat.{eq-or-lt-of-le}
 use native.Mathlib.Omega.{arith}
-use lib.Dec.{T, eqb, eqb→eq}
-use lib.Ieee.Fits.{and-l, and-r}
 use lib.IntN.{ℤ}
 use lib.ListN.{length}
 use Rattle.fold.specs.Fold.{upto}
@@ -17,11 +15,11 @@ use Rattle.scalar.specs.declared.coef.Own as Sides
 use Rattle.scalar.specs.Coef.{coef}
 use Rattle.scalar.specs.Auxiliary.{auxInit}
 use Rattle.solver.proofs.Laws.{starting-sized}
-use Rattle.calls.specs.Run.{Given, legal, fresh, count, area, coefs, levelsBefore}
+use Rattle.calls.specs.Run.{Given, fresh, count, area, coefs, levelsBefore}
 use Rattle.calls.specs.Buffers.{Plane, Prior, Gradient, Across, Down, Saved, get, channel, putChannel, joined, Sized}
 use Rattle.calls.specs.Calls as Calls
-use Rattle.calls.specs.Calls.{buffersLong, valuesLong, lengths, allSix, lendTests, startRefusal, start, begin}
-use Rattle.calls.proofs.Tests.{passed-of, lend-numbered, not-is}
+use Rattle.calls.specs.Calls.{lengths, allSix, startRefusal, start, begin}
+use Rattle.calls.proofs.Tests.{lent-of}
 use Rattle.calls.proofs.Parts.{put-sized, put-same, put-other, joined-channels}
 use Rattle.demand.specs.Solver.{coefOf, jobs}
 use Rattle.record.specs.declared.Run.{Run}
@@ -136,22 +134,11 @@ pub startable : (r : Run) (levels : List ℤ) (tables : List ℕ) (ls : List ℕ
     → Startable r levels tables ls
 unfolding startRefusal
 startable r levels tables ls e =
-    let G = givenOf r levels tables in
-    let p = passed-of (lendTests G (placesOf r) ls true) (lend-numbered G (placesOf r) ls true) e in
-    let ok : Legal r = not-is (legal (sheetOf r) (placesOf r)) (p .0) in
-    let both : T (buffersLong G ls && valuesLong G) = not-is (buffersLong G ls && valuesLong G) (p .1 .0) in
-    let values : T (valuesLong G) = and-r (buffersLong G ls) (valuesLong G) both in
+    let p = lent-of (givenOf r levels tables) (placesOf r) ls true e in
     record {
-      is-legal = ok;
-      fed-all =
-          λ c h.
-          record {
-            is-legal = ok;
-            below = h;
-            levels-long = eqb→eq _ _ (and-l (eqb (length levels) (levelsBefore (sheetOf r) (r .count))) (eqb (length tables) (r .count * 64)) values);
-            tables-long = eqb→eq _ _ (and-r (eqb (length levels) (levelsBefore (sheetOf r) (r .count))) (eqb (length tables) (r .count * 64)) values);
-          };
-      long = all-are (r .count * (r .w * r .h)) ls (and-l (buffersLong G ls) (valuesLong G) both);
+      is-legal = p .is-legal;
+      fed-all = λ c h. record { is-legal = p .is-legal; below = h; levels-long = p .levels-long refl; tables-long = p .tables-long refl };
+      long = all-are (r .count * (r .w * r .h)) ls (p .long);
     }
 
 -- each of the six, of the lengths that the refusal was asked of

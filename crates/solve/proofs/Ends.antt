@@ -18,12 +18,11 @@ use Rattle.calls.specs.Run.{Given, Sheet, Place, fresh, place, count, area, amo
 use Rattle.calls.specs.Buffers.{Plane, Prior, Gradient, Across, Down, Saved, joined, Sized}
 use Rattle.calls.specs.Jobs.{fixed}
 use Rattle.calls.specs.Calls.{State, refused, done, first, all, allSix, lengths, buffersLong, valuesLong, lendTests, startRefusal, settle, begin, start, final}
-use Rattle.calls.proofs.Laws.{GivenOk}
+use Rattle.calls.specs.Between.{GivenOk, Inv}
 use Rattle.calls.proofs.Legal.{places-are}
 use Rattle.calls.proofs.Facts.{sheet-is}
 use Rattle.calls.proofs.Parts.{joined-channels}
 use Rattle.calls.proofs.Tests.{not-is, Passed, passed-of, lend-numbered}
-use Rattle.calls.proofs.Step.{Inv}
 use Rattle.calls.proofs.Runs.{between, given-ok}
 use Rattle.demand.specs.Solver.{jobs}
 use Rattle.demand.proofs.Laws.{laws}

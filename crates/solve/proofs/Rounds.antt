@@ -12,9 +12,10 @@ use borrow.Author.Tests.{lt-ltb, eq-eqb, ne-eqb}
 use Rattle.calls.specs.Run.{Given, Sheet, Place, place, count, among, every}
 use Rattle.calls.specs.Jobs.{Job, on, blend, turn, blendTurn, Jobs, fixed, isBlown}
 use Rattle.calls.specs.Calls.{State, Plain, done, first, turnTests, advance, blended, reply, call, plain, plainAccept, plainSettle}
-use Rattle.calls.proofs.Laws.{GivenOk, Laws}
+use Rattle.calls.specs.Between.{GivenOk, Inv}
+use Rattle.calls.proofs.Laws.{Laws}
 use Rattle.calls.proofs.Tests.{skip}
-use Rattle.calls.proofs.Step.{Inv, call-good}
+use Rattle.calls.proofs.Step.{call-good}
 use Rattle.solve.specs.Rounds.{unmarkedAt}
 
 -- a test of every channel below k is true where each is, and of any is false where none is

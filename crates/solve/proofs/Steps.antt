@@ -19,10 +19,10 @@ use Rattle.calls.specs.Buffers.{Plane, Prior, Gradient, Across, Down, Saved, Si
 use Rattle.calls.specs.Jobs.{Job, push, fidelity, move, project, Call, on, blend, turn, fixed, isBlown}
 use Rattle.calls.specs.Calls as Calls
 use Rattle.calls.specs.Calls.{Outcome, refused, done, blown, settle, advance, blended, reply, call}
-use Rattle.calls.proofs.Laws.{GivenOk}
+use Rattle.calls.specs.Between.{GivenOk, Inv}
 use Rattle.calls.proofs.Legal.{place-here, place-elsewhere}
 use Rattle.calls.proofs.Tests.{getD-map-lt}
-use Rattle.calls.proofs.Step.{Inv, call-good}
+use Rattle.calls.proofs.Step.{call-good}
 use Rattle.demand.specs.Solver.{jobs}
 use Rattle.demand.proofs.Laws.{laws}
 use Rattle.record.specs.declared.Run.{Run}

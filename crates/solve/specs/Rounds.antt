@@ -10,8 +10,7 @@ use Rattle.scalar.specs.Buffers.{Buffers}
 use Rattle.calls.specs.Run.{Given, Place, place, count, area, levelsBefore, among}
 use Rattle.calls.specs.Buffers.{Sized, join, channel, putChannel}
 use Rattle.calls.specs.Calls.{lengths, allSix}
-use Rattle.calls.proofs.Laws.{GivenOk}
-use Rattle.calls.proofs.Step.{Inv}
+use Rattle.calls.specs.Between.{GivenOk, Inv}
 use Rattle.demand.specs.Solver.{jobs}
 use Rattle.record.specs.declared.Run.{Run}
 use Rattle.record.specs.declared.Answer.{Answer}

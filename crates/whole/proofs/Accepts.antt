@@ -23,7 +23,8 @@ use Rattle.calls.specs.Run.{coefs, count, levelsBefore, Own, fresh, own, place,
 use Rattle.calls.specs.Run as Model
 use Rattle.calls.specs.Calls.{all, tableOk, levelOk, buffersLong, valuesLong, lendTests, startRefusal}
 use Rattle.calls.proofs.Tests.{every-of, never, not-of, skip}
-use Rattle.calls.proofs.Legal.{PlaceIs, places-ok}
+use Rattle.calls.specs.Between.{PlaceIs}
+use Rattle.calls.proofs.Legal.{places-ok}
 use Rattle.record.specs.declared.Run.{Run}
 use Rattle.record.specs.declared.Channel.{Channel}
 use Rattle.record.specs.Model.{sheetOf, placesOf, ownOf, placeOf, noChannel}

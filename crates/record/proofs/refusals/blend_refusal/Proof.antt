@@ -3,7 +3,7 @@ use mathlib.Core.Path.{_≡_, sym, _∙_}
 use mathlib.Core.Bool.{false}
 use mathlib.Core.List.{[]}
 use Rattle.calls.specs.Jobs.{blend}
-use Rattle.calls.proofs.Tests.{by-lent, by-turn, lend-legal}
+use Rattle.calls.proofs.Tests.{by-lent, by-turn, lent-of}
 use Rattle.record.specs.Model.{givenOf, placesOf}
 use borrow.Author.Needs.{needs}
 use Rattle.record.proofs.refusals.blend_refusal.Statement.{statement}
@@ -16,7 +16,7 @@ returns c =
 
 blend-turn-refusal-requires : tie.Need-blend-turn-refusal-requires
 blend-turn-refusal-requires c κs =
-    lend-legal (givenOf (c .before .before .before .args .run) [] []) (placesOf (c .before .before .before .args .run)) (c .before .before .before .args .lengths .now) false (sym (c .before .lend-refusal .ensures [] []) ∙ c .if1 .left)
+    lent-of (givenOf (c .before .before .before .args .run) [] []) (placesOf (c .before .before .before .args .run)) (c .before .before .before .args .lengths .now) false (sym (c .before .lend-refusal .ensures [] []) ∙ c .if1 .left) .is-legal
 
 returns-2 : tie.Need-returns-2
 returns-2 c =

@@ -3,7 +3,7 @@ use mathlib.Core.Path.{_≡_, sym, _∙_}
 use mathlib.Core.Bool.{true}
 use Rattle.calls.specs.Jobs.{on}
 use Rattle.calls.specs.Calls.{startRefusal}
-use Rattle.calls.proofs.Tests.{by-lent, by-turn, lend-legal}
+use Rattle.calls.proofs.Tests.{by-lent, by-turn, lent-of}
 use Rattle.record.specs.Model.{givenOf, placesOf}
 use borrow.Author.Needs.{needs}
 use Rattle.record.proofs.refusals.fed_refusal.Statement.{statement}
@@ -19,7 +19,7 @@ returns c =
 turn-refusal-requires : tie.Need-turn-refusal-requires
 unfolding startRefusal
 turn-refusal-requires c κs =
-    lend-legal (givenOf (c .before .before .before .before .args .run) (c .before .before .before .before .args .levels .now) (c .before .before .before .before .args .tables .now)) (placesOf (c .before .before .before .before .args .run)) (c .before .before .before .before .args .lengths .now) true (sym (c .before .start-refusal .ensures) ∙ c .if1 .left)
+    lent-of (givenOf (c .before .before .before .before .args .run) (c .before .before .before .before .args .levels .now) (c .before .before .before .before .args .tables .now)) (placesOf (c .before .before .before .before .args .run)) (c .before .before .before .before .args .lengths .now) true (sym (c .before .start-refusal .ensures) ∙ c .if1 .left) .is-legal
 
 returns-2 : tie.Need-returns-2
 unfolding startRefusal

@@ -3,7 +3,7 @@ use mathlib.Core.Path.{_≡_, sym, _∙_}
 use mathlib.Core.Bool.{false}
 use mathlib.Core.List.{[]}
 use Rattle.calls.specs.Jobs.{on}
-use Rattle.calls.proofs.Tests.{by-lent, by-turn, lend-legal}
+use Rattle.calls.proofs.Tests.{by-lent, by-turn, lent-of}
 use Rattle.record.specs.Model.{givenOf, placesOf}
 use borrow.Author.Needs.{needs}
 use Rattle.record.proofs.refusals.job_refusal.Statement.{statement}
@@ -17,7 +17,7 @@ returns c =
 
 turn-refusal-requires : tie.Need-turn-refusal-requires
 turn-refusal-requires c κs =
-    lend-legal (givenOf (c .before .before .before .args .run) [] []) (placesOf (c .before .before .before .args .run)) (c .before .before .before .args .lengths .now) false (sym (c .before .lend-refusal .ensures [] []) ∙ c .if1 .left)
+    lent-of (givenOf (c .before .before .before .args .run) [] []) (placesOf (c .before .before .before .args .run)) (c .before .before .before .args .lengths .now) false (sym (c .before .lend-refusal .ensures [] []) ∙ c .if1 .left) .is-legal
 
 returns-2 : tie.Need-returns-2
 returns-2 c =

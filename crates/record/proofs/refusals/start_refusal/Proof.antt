@@ -4,7 +4,8 @@ use mathlib.Core.Path.{_≡_, refl, sym, _∙_, subst}
 use mathlib.Core.Bool.{true, false}
 use lib.Dec.{T}
 use Rattle.calls.specs.Run.{legal}
-use Rattle.calls.specs.Calls.{startRefusal}
+use Rattle.calls.specs.Calls.{levelsFault, startRefusal}
+use Rattle.calls.proofs.Tests.{first-one}
 use Rattle.record.specs.Model.{sheetOf, placesOf}
 use Rattle.record.proofs.Tested.{is-legal}
 use borrow.Author.Needs.{needs}
@@ -36,17 +37,12 @@ returns-3 c =
 returns-4 : tie.Need-returns-4
 unfolding startRefusal
 returns-4 c =
-    let long = rw (c .before .before .before .before .before .before .before .all-equal .ensures, c .before .before .before .before .before .before .before .before .total .ensures, c .before .before .before .before .before .before .values-long .ensures (c .before .before .before .before .before .before .before .before .before .before .before .before .before .args .levels .now) (c .before .before .before .before .before .before .before .before .before .before .before .before .before .args .tables .now) refl refl) at (c .before .before .before .before .before .both .ensures) in
-    rw (sym (c .before .before .before .before .before .before .before .before .before .before .legal .ensures) ∙ not-false (c .before .before .before .before .before .before .before .before .before .before .legal .result) (c .before .before .before .before .before .before .before .before .before .if1 .left), ← long, not-false (c .before .before .before .before .before .both .result) (c .before .before .before .before .if2 .left), ← c .before .before .before .tables-ok .ensures, not-false (c .before .before .before .tables-ok .result) (c .before .before .if3 .left), ← c .before .levels-ok .ensures, not-true (c .before .levels-ok .result) (c .if4 .taken))
-
-returns-5 : tie.Need-returns-5
-unfolding startRefusal
-returns-5 c =
-    let long = rw (c .before .before .before .before .before .before .before .all-equal .ensures, c .before .before .before .before .before .before .before .before .total .ensures, c .before .before .before .before .before .before .values-long .ensures (c .before .before .before .before .before .before .before .before .before .before .before .before .before .args .levels .now) (c .before .before .before .before .before .before .before .before .before .before .before .before .before .args .tables .now) refl refl) at (c .before .before .before .before .before .both .ensures) in
-    rw (sym (c .before .before .before .before .before .before .before .before .before .before .legal .ensures) ∙ not-false (c .before .before .before .before .before .before .before .before .before .before .legal .result) (c .before .before .before .before .before .before .before .before .before .if1 .left), ← long, not-false (c .before .before .before .before .before .both .result) (c .before .before .before .before .if2 .left), ← c .before .before .before .tables-ok .ensures, not-false (c .before .before .before .tables-ok .result) (c .before .before .if3 .left), ← c .before .levels-ok .ensures, not-false (c .before .levels-ok .result) (c .if4 .left))
+    let long = rw (c .before .before .before .before .before .before .all-equal .ensures, c .before .before .before .before .before .before .before .total .ensures, c .before .before .before .before .before .values-long .ensures (c .before .before .before .before .before .before .before .before .before .before .before .before .args .levels .now) (c .before .before .before .before .before .before .before .before .before .before .before .before .args .tables .now) refl refl) at (c .before .before .before .before .both .ensures) in
+    rw (sym (c .before .before .before .before .before .before .before .before .before .legal .ensures) ∙ not-false (c .before .before .before .before .before .before .before .before .before .legal .result) (c .before .before .before .before .before .before .before .before .if1 .left), ← long, not-false (c .before .before .before .before .both .result) (c .before .before .before .if2 .left), ← c .before .before .tables-ok .ensures, not-false (c .before .before .tables-ok .result) (c .before .if3 .left))
+    (c .levels-fault .ensures ∙ sym (first-one (levelsFault (c .before .before .before .before .before .before .before .before .before .before .before .before .args .levels .now))))
 
 pub start-refusal-spec : {M : Type 1} → statement M
 start-refusal-spec =
     tie.close
     (tie.spec (λ c κs. search needs) returns total-requires (λ c κs. search needs) values-long-requires
-    (λ c κs. search needs) returns-2 (λ c κs. search needs) returns-3 (λ c κs. search needs) returns-4 returns-5)
+    (λ c κs. search needs) returns-2 (λ c κs. search needs) returns-3 (λ c κs. search needs) returns-4)
