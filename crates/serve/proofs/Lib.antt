@@ -1,5 +1,4 @@
 -- Laws of a list of calls.
-pub mod Numbered
 pub mod Listed
 pub mod Served
 pub mod Example

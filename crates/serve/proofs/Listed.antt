@@ -3,16 +3,16 @@ use mathlib.Core.Path.{_≡_, refl, sym, ap, _∙_, subst}
 use Prim.Native.Nat.{ℕ, zero, suc, _+_, _≤_, _<_}
 use native.Mathlib.Omega.{arith}
 use native.Mathlib.Numerals.{add-one}
-use mathlib.Core.Bool.{Bool, true, false}
+use mathlib.Core.Bool.{true}
 use mathlib.Core.List.{List, [], _∷_, _++_, map, append-nil}
 use lib.IntN.{ℤ}
-use lib.Dec.{T, ltb}
+use lib.Dec.{T, ltb, ltb→lt}
 use lib.ListN.{length, getD, set, take, drop, length-map, length-set, drop-of-length-le}
 use lib.Seq.{take-all, drop-cons, take-suc-set, append-snoc}
 use Rattle.scalar.specs.Buffers.{Buffers}
 use Rattle.calls.specs.Run.{Given, Place, Sheet}
 use Rattle.calls.specs.Jobs.{Call, on, blend}
-use Rattle.calls.specs.Calls.{State, Outcome, settle, accept, refusal, lengths, lent, call, answers, final, blended}
+use Rattle.calls.specs.Calls.{State, Outcome, settle, accept, refusal, lengths, lent, call, answers, final, onward}
 use Rattle.demand.specs.Solver.{jobs}
 use Rattle.record.specs.declared.Run.{Run}
 use Rattle.record.specs.declared.Answer.{Answer}
@@ -20,15 +20,14 @@ use Rattle.record.specs.Model.{placesOf, givenOf, placed, answerOf}
 use Rattle.record.proofs.Placed.{placed-same, sheet-stays, places-placed, placed-twice}
 use Rattle.run.specs.Public.{Result, gave, stateOf, callOf}
 use Rattle.calls.proofs.Tests.{all-anywhere}
-use Rattle.serve.specs.Serve.{numbered, numberedOf, callList, allJobs, byteOf, Listed, ran, listOf}
-use Rattle.serve.proofs.Numbered.{is-job}
+use Rattle.serve.specs.Serve.{numbered, callList, allJobs, byteOf, Listed, ran, listOf}
 
 -- ---- places keep their number
 
 module _ (G : Given) where
   accept-long : (x : Call) (s : State) → length (accept jobs G x s .after .places) ≡ length (s .places)
   accept-long (on j c) s = simp length-set
-  accept-long blend s = length-map (s .places) blended
+  accept-long blend s = length-map (s .places) onward
 
   pub settle-long : (t : ℕ) (s : State) (o : Outcome) → length (o .after .places) ≡ length (s .places) → length (settle t s o .after .places) ≡ length (s .places)
   settle-long zero s o e = e
@@ -97,25 +96,20 @@ module _ (levels : List ℤ) (tables : List ℕ) (js cs : List ℕ) where
       → callList (drop i js) (drop i cs) ≡ numbered (getD js i 0) (getD cs i 0) ∷ callList (drop (suc i) js) (drop (suc i) cs)
   calls-left i h l = λ k. callList (drop-cons js i 0 h k) (drop-cons cs i 0 l k)
 
-  is-number : (i : ℕ) → allJobs js ≡ true → ltb (getD js i 0) 5 ≡ true
-  is-number i e = truth (ltb (getD js i 0) 5) (all-anywhere (λ j. ltb j 5) js 0 (subst T (sym e) tt) tt i)
-    where
-      truth : (b : Bool) → T b → b ≡ true
-      truth true t = refl
-      truth false t = absurd t
+  pub is-job : (i : ℕ) → allJobs js ≡ true → getD js i 0 < 5
+  is-job i e = ltb→lt (getD js i 0) 5 (all-anywhere (λ j. ltb j 5) js 0 (subst T (sym e) tt) tt i)
 
   -- one call more, its answer written
-  pub one-turn : (r : Run) (B : Buffers) (bytes : List ℕ) (i : ℕ) → i < length js → length cs ≡ length js → length bytes ≡ length js → allJobs js ≡ true
-      → (a : Answer) {r′ : Run} {B′ : Buffers} → numberedOf r (getD js i 0) (getD cs i 0) levels tables B ≡ gave a r′ B′
+  pub one-turn : (r : Run) (B : Buffers) (bytes : List ℕ) (i : ℕ) → i < length js → length cs ≡ length js → length bytes ≡ length js
+      → (a : Answer) {r′ : Run} {B′ : Buffers} → callOf r (numbered (getD js i 0) (getD cs i 0)) levels tables B ≡ gave a r′ B′
       → {b : ℕ} → b ≡ byteOf (answerOf a)
       → sofar r′ B′ (set bytes i b) (i + 1) ≡ sofar r B bytes i
-  one-turn r B bytes i h long-cs long-bytes numbers a {r′} {B′} e {b} w =
+  one-turn r B bytes i h long-cs long-bytes a {r′} {B′} e {b} w =
       let xs : List Call = callList (drop (suc i) js) (drop (suc i) cs) in
       let l = listOf r′ levels tables xs B′ in
       let whole : listOf r levels tables (callList (drop i js) (drop i cs)) B ≡ record { bytes = byteOf (answerOf a) ∷ l .bytes; run = l .run; buffers = l .buffers } =
       ap (λ (ys : List Call). listOf r levels tables ys B) (calls-left i h (omega arith))
-      ∙ call-first levels tables r (numbered (getD js i 0) (getD cs i 0)) xs B a
-      (sym (is-job r (getD js i 0) (getD cs i 0) levels tables B (is-number i numbers)) ∙ e) in
+      ∙ call-first levels tables r (numbered (getD js i 0) (getD cs i 0)) xs B a e in
       let written : take (suc i) (set bytes i b) ++ l .bytes ≡ take i bytes ++ (byteOf (answerOf a) ∷ l .bytes) =
       ap (λ (ys : List ℕ). ys ++ l .bytes) (take-suc-set bytes i b (omega arith))
       ∙ append-snoc (take i bytes) b (l .bytes)

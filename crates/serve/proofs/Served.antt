@@ -1,12 +1,12 @@
 -- Demand 3 of the code: start, and then the list of calls.
 use mathlib.Core.Path.{_≡_, refl, sym, ap, _∙_, subst}
 use mathlib.Core.Logic.{_≢_}
-use mathlib.Core.Bool.{Bool, true, false, not, _&&_, cond}
-use mathlib.Core.List.{List, map}
+use mathlib.Core.Bool.{true, not, _&&_}
+use mathlib.Core.List.{List, [], _∷_, map}
 use Prim.Native.Nat.{ℕ}
-use native.Mathlib.Omega.{arith}
 use lib.Dec.{T, eqb, eqb→eq}
-use lib.Ieee.Fits.{and-l, and-r, eq→eqb}
+use lib.Ieee.Fits.{and-l, and-r}
+use borrow.Author.Tests.{not-false}
 use lib.IntN.{ℤ}
 use lib.ListN.{length, length-map}
 use Rattle.scalar.specs.Buffers.{Buffers}
@@ -14,8 +14,9 @@ use Rattle.calls.specs.Run.{Given, fresh, area}
 use Rattle.calls.specs.Buffers.{channel}
 use Rattle.calls.specs.Jobs.{Call}
 use Rattle.calls.specs.Calls as Calls
-use Rattle.calls.specs.Calls.{begin, start, startRefusal, allSix, lengths, noneYet, plainPlaces}
+use Rattle.calls.specs.Calls.{test, begin, start, startRefusal, allSix, lengths, noneYet, plainPlaces}
 use Rattle.calls.specs.Demand.{SavedIn}
+use Rattle.calls.proofs.Tests.{silent, holds, passed-of}
 use Rattle.demand.specs.Solver.{jobs}
 use Rattle.demand.proofs.Demand3.{demand3}
 use Rattle.record.specs.declared.Run.{Run}
@@ -36,57 +37,41 @@ pub record Passed (r : ℕ) (js : List ℕ) (channels bytes : ℕ) : Type 0 wher
 
 pub passed : (r : ℕ) (js : List ℕ) (channels bytes : ℕ) → serveRefusal r js channels bytes ≡ 0 → Passed r js channels bytes
 unfolding serveRefusal
-passed r js channels bytes e = go (eqb r 13) (eqb channels n && eqb bytes n) (eqb r 0) (allJobs js) refl refl refl e
-  where
-    n : ℕ
-    n = length js
-
-    go : (a l z j : Bool) → (eqb channels n && eqb bytes n) ≡ l → eqb r 0 ≡ z → allJobs js ≡ j
-        → cond a 13 (cond (not l) 8 (cond (not z) r (cond (not j) 9 0))) ≡ 0 → Passed r js channels bytes
-    go true l z j lists zero numbers e = absurd (omega arith)
-    go false false z j lists zero numbers e = absurd (omega arith)
-    go false true false j lists zero numbers e = let w : T (eqb r 0) = eq→eqb e in absurd (subst T zero w)
-    go false true true false lists zero numbers e = absurd (omega arith)
-    go false true true true lists zero numbers e =
-        let long : T (eqb channels n && eqb bytes n) = subst T (sym lists) tt in
-        record {
-          startable = eqb→eq r 0 (subst T (sym zero) tt);
-          channels-long = eqb→eq channels n (and-l (eqb channels n) (eqb bytes n) long);
-          bytes-long = eqb→eq bytes n (and-r (eqb channels n) (eqb bytes n) long);
-          all-jobs = numbers;
-        }
+passed r js channels bytes e =
+    let n : ℕ = length js in
+    let p = passed-of (test 13 (eqb r 13) ∷ test 8 (not (eqb channels n && eqb bytes n)) ∷ r ∷ test 9 (not (allJobs js)) ∷ []) e in
+    let long : T (eqb channels n && eqb bytes n) = holds 7 (eqb channels n && eqb bytes n) (p .1 .0) in
+    record {
+      startable = p .1 .1 .0;
+      channels-long = eqb→eq channels n (and-l (eqb channels n) (eqb bytes n) long);
+      bytes-long = eqb→eq bytes n (and-r (eqb channels n) (eqb bytes n) long);
+      all-jobs = not-false (allJobs js) (silent 8 (not (allJobs js)) (p .1 .1 .1 .0));
+    }
 
 -- ---- the two ends of the call
 
-module _ (r : Run) (js cs bytes : List ℕ) (levels : List ℤ) (tables : List ℕ) (B : Buffers) where
-  pub refused-whole : (t : ℕ) → t ≡ serveRefusalOf r js cs bytes levels tables B → t ≢ 0 → ServeIs r js cs bytes levels tables B (Refused t) r bytes B
-  refused-whole t e n = record { if-refused = λ m. (ap (λ (k : ℕ). Refused k) e, refl, refl, refl); if-done = λ z. absurd (n (e ∙ z)) }
-
+module _ (r : Run) (levels : List ℤ) (tables : List ℕ) (B : Buffers) where
   abbrev G : Given
   G = givenOf r levels tables
-
-  abbrev xs : List Call
-  xs = callList js cs
 
   start-long : length (start jobs G (stateOf r B) .after .places) ≡ length (placesOf r)
   unfolding start
   start-long = settle-long G (startRefusal G (placesOf r) (lengths allSix B)) (stateOf r B) (begin jobs G (stateOf r B)) (length-map (placesOf r) (λ p. fresh))
 
-  start-done : startRefusal G (placesOf r) (lengths allSix B) ≡ 0 → start jobs G (stateOf r B) .answer ≡ Calls.done
+  pub start-done : startRefusal G (placesOf r) (lengths allSix B) ≡ 0 → start jobs G (stateOf r B) .answer ≡ Calls.done
   unfolding start
   start-done e = rw e
 
-  -- what start and the calls left, as the model has it
-  whole : (a : Answer) {r₁ : Run} {B₁ : Buffers} → startOf r levels tables B ≡ gave a r₁ B₁
-      → listOf r₁ levels tables xs B₁ ≡ ran r G xs (start jobs G (stateOf r B) .after)
-  whole a e = ap (λ (o : Result). listOf (o .run) levels tables xs (o .buffers)) (sym e) ∙ from-placed levels tables r (start jobs G (stateOf r B) .after) start-long xs
-
-  served : startRefusal G (placesOf r) (lengths allSix B) ≡ 0 → {bytes′ : List ℕ} {r′ : Run} {B′ : Buffers}
-      → ran r G xs (start jobs G (stateOf r B) .after) ≡ record { bytes = bytes′; run = r′; buffers = B′ }
+  -- a start that is accepted, and the calls xs after it: what they leave is as the model has it, so demand 3 holds of it
+  pub served : start jobs G (stateOf r B) .answer ≡ Calls.done → (xs : List Call) (a : Answer) {r₁ : Run} {B₁ : Buffers} → startOf r levels tables B ≡ gave a r₁ B₁
+      → {bytes′ : List ℕ} {r′ : Run} {B′ : Buffers} → listOf r₁ levels tables xs B₁ ≡ record { bytes = bytes′; run = r′; buffers = B′ }
       → Served G xs r (plainPlaces jobs G xs (noneYet G)) bytes′ r′ B′
   unfolding ran
-  served z q =
-      let claim = demand3 G (stateOf r B) (start-done z) xs in
+  served z xs a e {bytes′} {r′} {B′} l =
+      let claim = demand3 G (stateOf r B) z xs in
+      let q : ran r G xs (start jobs G (stateOf r B) .after) ≡ record { bytes = bytes′; run = r′; buffers = B′ } =
+      sym (ap (λ (o : Result). listOf (o .run) levels tables xs (o .buffers)) (sym e) ∙ from-placed levels tables r (start jobs G (stateOf r B) .after) start-long xs)
+      ∙ l in
       record {
         same-answers = sym (ap (λ (l : Listed). l .bytes) q) ∙ ap (map byteOf) (claim .same-answers);
         same-places = sym (ap (λ (l : Listed). l .run) q) ∙ ap (placed r) (claim .same-places);
@@ -94,11 +79,13 @@ module _ (r : Run) (js cs bytes : List ℕ) (levels : List ℤ) (tables : List �
         in-interval = λ c h m k l. subst (λ (D : Buffers). SavedIn G c k (channel (area G) c D)) (ap (λ (l : Listed). l .buffers) q) (claim .in-interval c h m k l);
       }
 
+module _ (r : Run) (js cs bytes : List ℕ) (levels : List ℤ) (tables : List ℕ) (B : Buffers) where
+  pub refused-whole : (t : ℕ) → t ≡ serveRefusalOf r js cs bytes levels tables B → t ≢ 0 → ServeIs r js cs bytes levels tables B (Refused t) r bytes B
+  refused-whole t e n = record { if-refused = λ m. (ap Calls.refused e, refl, refl, refl); if-done = λ z. absurd (n (e ∙ z)) }
+
   pub done-whole : serveRefusalOf r js cs bytes levels tables B ≡ 0 → (a : Answer) {r₁ : Run} {B₁ : Buffers} → startOf r levels tables B ≡ gave a r₁ B₁
-      → {bytes′ : List ℕ} {r′ : Run} {B′ : Buffers} → listOf r₁ levels tables xs B₁ ≡ record { bytes = bytes′; run = r′; buffers = B′ }
+      → {bytes′ : List ℕ} {r′ : Run} {B′ : Buffers} → listOf r₁ levels tables (callList js cs) B₁ ≡ record { bytes = bytes′; run = r′; buffers = B′ }
       → ServeIs r js cs bytes levels tables B Done r′ bytes′ B′
   done-whole z a e l =
-      record {
-        if-refused = λ n. absurd (n z);
-        if-done = λ y. (refl, served (passed (startRefusal G (placesOf r) (lengths allSix B)) js (length cs) (length bytes) z .startable) (sym (whole a e) ∙ l));
-      }
+      let p = passed (startRefusal (givenOf r levels tables) (placesOf r) (lengths allSix B)) js (length cs) (length bytes) z in
+      record { if-refused = λ n. absurd (n z); if-done = λ y. (refl, served r levels tables B (start-done r levels tables B (p .startable)) (callList js cs) a e l) }

@@ -2,7 +2,7 @@
 use Prim.Native.Nat.{ℕ, zero, suc, _<_}
 use mathlib.Core.Path.{_≡_}
 use mathlib.Core.Logic.{_≢_}
-use mathlib.Core.Bool.{Bool, false, not, _&&_, cond}
+use mathlib.Core.Bool.{Bool, false, not, _&&_}
 use mathlib.Core.List.{List, [], _∷_, map}
 use lib.Dec.{ltb, eqb}
 use lib.IntN.{ℤ}
@@ -12,14 +12,13 @@ use Rattle.calls.specs.Run.{Given, Place, place, count, area, coefs}
 use Rattle.calls.specs.Buffers.{channel, joined}
 use Rattle.calls.specs.Jobs.{push, fidelity, move, project, Call, on, blend, fixed}
 use Rattle.calls.specs.Calls as Calls
-use Rattle.calls.specs.Calls.{State, settle, call, first, all, allSix, lengths, startRefusal, answers, final, noneYet, plainAnswers, plainPlaces}
+use Rattle.calls.specs.Calls.{State, first, test, all, allSix, lengths, startRefusal, answers, final, noneYet, plainAnswers, plainPlaces}
 use Rattle.calls.specs.Demand.{SavedIn}
 use Rattle.demand.specs.Solver.{jobs}
 use Rattle.record.specs.declared.Run.{Run}
 use Rattle.record.specs.declared.Answer.{Answer}
-use Rattle.record.specs.declared.Answer.the-variants.{Refused, Done}
-use Rattle.record.specs.Model.{placesOf, givenOf, placed}
-use Rattle.run.specs.Public.{Result, result, gave, stateOf}
+use Rattle.record.specs.Model.{placesOf, givenOf, placed, answerOf}
+use Rattle.run.specs.Public.{gave, stateOf, callOf}
 
 -- A call by two numbers. The job's number is the remainder modulo 5 at which it is the next: "0 push to 4 project".
 abbrev pub numbered : ℕ → ℕ → Call
@@ -29,17 +28,9 @@ numbered (suc (suc zero)) c = blend
 numbered (suc (suc (suc zero))) c = on move c
 numbered (suc (suc (suc (suc k)))) c = on project c
 
--- 9 for a number that is no job: it is no channel's next; 0 for none
-abbrev pub noJob : ℕ → ℕ
-noJob job = cond (ltb job 5) 0 9
-
 -- what the call of these two numbers gives
-abbrev pub numberedOf : Run → ℕ → ℕ → List ℤ → List ℕ → Buffers → Result
-numberedOf r job c levels tables B =
-    result r (settle (noJob job) (stateOf r B) (call jobs (givenOf r levels tables) (numbered job c) (stateOf r B)))
-
 abbrev pub NumberedIs : Run → ℕ → ℕ → List ℤ → List ℕ → Buffers → Answer → Run → Buffers → Type 0
-NumberedIs r job c levels tables B a r′ B′ = numberedOf r job c levels tables B ≡ gave a r′ B′
+NumberedIs r job c levels tables B a r′ B′ = callOf r (numbered job c) levels tables B ≡ gave a r′ B′
 
 -- ---- a list of calls
 
@@ -86,7 +77,7 @@ ListIs r js cs levels tables B bytes′ r′ B′ = listOf r levels tables (call
 unfoldable pub serveRefusal : ℕ → List ℕ → ℕ → ℕ → ℕ
 serveRefusal r js channels bytes =
     first
-    ((13, eqb r 13) ∷ (8, not (eqb channels (length js) && eqb bytes (length js))) ∷ (r, not (eqb r 0)) ∷ (9, not (allJobs js)) ∷ [])
+    (test 13 (eqb r 13) ∷ test 8 (not (eqb channels (length js) && eqb bytes (length js))) ∷ r ∷ test 9 (not (allJobs js)) ∷ [])
 
 abbrev pub serveRefusalOf : Run → List ℕ → List ℕ → List ℕ → List ℤ → List ℕ → Buffers → ℕ
 serveRefusalOf r js cs bytes levels tables B =
@@ -107,7 +98,7 @@ pub record Served (G : Given) (xs : List Call) (r : Run) (ps : List Place) (byte
 -- Either refused, and "lent buffers and any record unchanged"; or done, and demand 3.
 pub record ServeIs (r : Run) (js cs bytes : List ℕ) (levels : List ℤ) (tables : List ℕ) (B : Buffers) (a : Answer) (r′ : Run) (bytes′ : List ℕ) (B′ : Buffers) : Type 0 where
   pub if-refused : serveRefusalOf r js cs bytes levels tables B ≢ 0
-      → (a ≡ Refused (serveRefusalOf r js cs bytes levels tables B)) × (r′ ≡ r) × (bytes′ ≡ bytes) × (B′ ≡ B)
+      → (answerOf a ≡ Calls.refused (serveRefusalOf r js cs bytes levels tables B)) × (r′ ≡ r) × (bytes′ ≡ bytes) × (B′ ≡ B)
   pub if-done : serveRefusalOf r js cs bytes levels tables B ≡ 0
-      → (a ≡ Done)
+      → (answerOf a ≡ Calls.done)
       × Served (givenOf r levels tables) (callList js cs) r (plainPlaces jobs (givenOf r levels tables) (callList js cs) (noneYet (givenOf r levels tables))) bytes′ r′ B′

@@ -1,11 +1,11 @@
 // One call of any job, by the job's number and the channel's.
-use record::Answer;
 use record::Run;
 use record::Told;
+ghost use Prim.Native.Nat.{_<_};
 ghost use Rattle.serve.specs.Serve.{NumberedIs};
 
-// The call of job 0 push, 1 data, 2 blend, 3 move or 4 project, lent all that any of them is lent; 9 for any other number.
-// Rules out: the job of another number made, and a number that is no job taken for one.
+// The call of job 0 push, 1 data, 2 blend, 3 move or 4 project, lent all that any of them is lent. For the functions that make many calls; it is
+// asked for a job's number only. Rules out: the job of another number made.
 pub fn job_value(
     run: Run,
     job: u8,
@@ -19,6 +19,7 @@ pub fn job_value(
     down: &mut [f32],
     saved: &mut [f32],
 ) -> Told
+    requires { ⌜ job < 5 ⌝ }
     ensures { λ r. ⌜ NumberedIs run job c (now (levels .entry)) (now (tables .entry))
         (record { plane = now (plane .entry); prior = now (prior .entry); gradient = now (gradient .entry); across = now (across .entry); down = now (down .entry); saved = now (saved .entry) })
         (r .answer) (r .run)
@@ -36,11 +37,5 @@ pub fn job_value(
     if job == 3 {
         return run::values::move_value(run, c, plane, &gradient[..]);
     }
-    if job == 4 {
-        return run::values::project_value(run, c, levels, tables, plane, across, down, saved);
-    }
-    Told {
-        answer: Answer::Refused(9),
-        run,
-    }
+    run::values::project_value(run, c, levels, tables, plane, across, down, saved)
 }

@@ -1,8 +1,7 @@
 -- `job_value`: the call of the job that the number names.
-use mathlib.Core.Path.{refl}
+use mathlib.Core.Path.{_≡_}
 use native.Mathlib.Omega.{arith}
 use Rattle.scalar.specs.Buffers.{Buffers}
-use Rattle.serve.proofs.Numbered.{by-number, is-no-job}
 use borrow.Author.Needs.{needs}
 use Rattle.serve.proofs.jobs.job_value.Statement.{statement}
 use Rattle.serve.proofs.jobs.job_value.Tie as tie
@@ -11,36 +10,32 @@ returns : tie.Need-returns
 returns c =
     let a = c .before .before .before .before .before .before .before .before .before .before .before .before .before .before .before .args in
     let B : Buffers = record { plane = a .plane .now; prior = a .prior .now; gradient = a .gradient .now; across = a .across .now; down = a .down .now; saved = a .saved .now } in
-    by-number (a .run) (a .job) (a .c) (a .levels .now) (a .tables .now) B 0 (c .before .before .before .before .before .before .before .if1 .taken) refl (c .before .before .before .before .push-value .ensures (a .levels .now) (a .tables .now) B)
+    rw (c .before .before .before .before .before .before .before .if1 .taken) (c .before .before .before .before .push-value .ensures (a .levels .now) (a .tables .now) B)
 
 returns-2 : tie.Need-returns-2
 returns-2 c =
     let a = c .before .before .before .before .before .before .before .before .before .before .before .before .before .before .args in
     let B : Buffers = record { plane = a .plane .now; prior = a .prior .now; gradient = a .gradient .now; across = a .across .now; down = a .down .now; saved = a .saved .now } in
-    by-number (a .run) (a .job) (a .c) (a .levels .now) (a .tables .now) B 1 (c .before .before .before .before .before .if2 .taken) refl (c .before .before .data-value .ensures B)
+    rw (c .before .before .before .before .before .if2 .taken) (c .before .before .data-value .ensures B)
 
 returns-3 : tie.Need-returns-3
 returns-3 c =
     let a = c .before .before .before .before .before .before .before .before .before .before .before .before .before .before .before .before .before .before .before .before .before .args in
     let B : Buffers = record { plane = a .plane .now; prior = a .prior .now; gradient = a .gradient .now; across = a .across .now; down = a .down .now; saved = a .saved .now } in
-    by-number (a .run) (a .job) (a .c) (a .levels .now) (a .tables .now) B 2 (c .before .before .before .before .before .before .before .before .before .before .before .if3 .taken) refl (c .before .before .before .before .before .before .blend-value .ensures (a .levels .now) (a .tables .now) B)
+    rw (c .before .before .before .before .before .before .before .before .before .before .before .if3 .taken) (c .before .before .before .before .before .before .blend-value .ensures (a .levels .now) (a .tables .now) B)
 
 returns-4 : tie.Need-returns-4
 returns-4 c =
     let a = c .before .before .before .before .before .before .before .before .before .before .before .before .before .before .before .before .args in
     let B : Buffers = record { plane = a .plane .now; prior = a .prior .now; gradient = a .gradient .now; across = a .across .now; down = a .down .now; saved = a .saved .now } in
-    by-number (a .run) (a .job) (a .c) (a .levels .now) (a .tables .now) B 3 (c .before .before .before .before .before .if4 .taken) refl (c .before .before .move-value .ensures (a .levels .now) (a .tables .now) B)
+    rw (c .before .before .before .before .before .if4 .taken) (c .before .before .move-value .ensures (a .levels .now) (a .tables .now) B)
 
 returns-5 : tie.Need-returns-5
 returns-5 c =
-    let a = c .before .before .before .before .before .before .before .before .before .before .before .before .before .before .before .before .before .before .before .before .before .before .before .before .before .args in
+    let a = c .before .before .before .before .before .before .before .before .before .before .before .before .before .before .before .before .before .before .before .before .before .before .before .before .args in
     let B : Buffers = record { plane = a .plane .now; prior = a .prior .now; gradient = a .gradient .now; across = a .across .now; down = a .down .now; saved = a .saved .now } in
-    by-number (a .run) (a .job) (a .c) (a .levels .now) (a .tables .now) B 4 (c .before .before .before .before .before .before .before .before .before .before .before .before .before .if5 .taken) refl (c .before .before .before .before .before .before .before .before .project-value .ensures B)
-
-returns-6 : tie.Need-returns-6
-returns-6 c =
-    let a = c .before .before .before .before .before .before .before .before .before .before .before .before .args in
-    is-no-job (a .run) (a .job) (a .c) (a .levels .now) (a .tables .now) (record { plane = a .plane .now; prior = a .prior .now; gradient = a .gradient .now; across = a .across .now; down = a .down .now; saved = a .saved .now }) (omega arith)
+    let last : a .job ≡ 4 = omega (arith, c .before .before .before .before .before .before .before .before .before .before .before .before .before .before .before .before .before .before .before .before .before .before .before .before .pre) in
+    rw last (c .before .before .before .before .before .before .before .before .project-value .ensures B)
 
 pub job-value-spec : {M : Type 1} → statement M
 job-value-spec =
@@ -49,4 +44,4 @@ job-value-spec =
     (λ c. search needs) (λ c. search needs) returns-2 (λ c κs. search needs) (λ c. search needs)
     (λ c. search needs) (λ c. search needs) (λ c. search needs) returns-3 (λ c κs. search needs)
     (λ c. search needs) (λ c. search needs) returns-4 (λ c κs. search needs) (λ c. search needs)
-    (λ c. search needs) (λ c. search needs) (λ c. search needs) returns-5 returns-6)
+    (λ c. search needs) (λ c. search needs) (λ c. search needs) returns-5)

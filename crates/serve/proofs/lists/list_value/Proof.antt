@@ -4,7 +4,7 @@ use Prim.Native.Nat.{_-_, _≤_}
 use native.Mathlib.Omega.{arith}
 use lib.ListN.{length, length-set}
 use Rattle.serve.specs.Serve.{callList, listOf}
-use Rattle.serve.proofs.Listed.{sofar, one-turn, last-turn}
+use Rattle.serve.proofs.Listed.{sofar, is-job, one-turn, last-turn}
 use borrow.Author.Needs.{needs}
 use Rattle.serve.proofs.lists.list_value.Statement.{statement}
 use Rattle.serve.proofs.lists.list_value.Tie as tie
@@ -24,6 +24,11 @@ abbrev μ-loop : tie.MeasureT-loop
 
 loop-holds : tie.Need-loop-holds Inv-loop μ-loop
 loop-holds c = (search needs, refl, refl, refl, refl, refl, refl, refl, refl)
+
+job-value-requires : tie.Need-job-value-requires Inv-loop μ-loop
+job-value-requires c κs =
+    let s = c .before .before .before .before .before .before .before .before .before .before .before .before .before .before .before .before .before .before .before .before in
+    is-job (s .args .levels .now) (s .args .tables .now) (s .args .jobs .now) (s .args .channels .now) (c .before .before .before .before .before .before .before .before .before .loop .i) (s .pre .2)
 
 slice-write-answers : tie.Need-slice-write-answers Inv-loop μ-loop
 slice-write-answers c = omega (arith, c .before .before .before .before .before .before .before .before .before .before .before .before .before .before .before .before .before .before .before .before .before .before .loop-test .taken, c .before .before .before .before .before .before .before .before .before .before .before .before .before .before .before .before .before .before .before .before .before .before .before .loop .inv .1, c .before .before .before .before .before .before .before .before .before .before .before .before .before .before .before .before .before .before .before .before .before .before .before .before .before .before .before .before .before .before .before .before .before .before .pre .1)
@@ -48,7 +53,7 @@ loop-again c =
       search needs,
       search needs,
       one-turn (a .levels .now) (a .tables .now) (a .jobs .now) (a .channels .now) (l .last) (record { plane = l .plane; prior = l .prior; gradient = l .gradient; across = l .across; down = l .down; saved = l .saved }) (l .answers) (l .i) (c .before .before .before .before .before .before .before .before .before .before .before .before .before .before .before .before .before .before .before .before .before .before .before .loop-test .taken)
-          (c .before .before .before .before .before .before .before .before .before .before .before .before .before .before .before .before .before .before .before .before .before .before .before .before .before .before .before .before .before .before .before .before .before .before .before .pre .0) (l .inv .1 ∙ c .before .before .before .before .before .before .before .before .before .before .before .before .before .before .before .before .before .before .before .before .before .before .before .before .before .before .before .before .before .before .before .before .before .before .before .pre .1) (c .before .before .before .before .before .before .before .before .before .before .before .before .before .before .before .before .before .before .before .before .before .before .before .before .before .before .before .before .before .before .before .before .before .before .before .pre .2) (told .result .answer) (told .ensures) (c .before .answer-byte .ensures)
+          (c .before .before .before .before .before .before .before .before .before .before .before .before .before .before .before .before .before .before .before .before .before .before .before .before .before .before .before .before .before .before .before .before .before .before .before .pre .0) (l .inv .1 ∙ c .before .before .before .before .before .before .before .before .before .before .before .before .before .before .before .before .before .before .before .before .before .before .before .before .before .before .before .before .before .before .before .before .before .before .before .pre .1) (told .result .answer) (told .ensures) (c .before .answer-byte .ensures)
           ∙ l .inv .8,
     )
 
@@ -62,6 +67,6 @@ pub list-value-spec : {M : Type 1} → statement M
 list-value-spec =
     tie.close
     (tie.spec Inv-loop μ-loop loop-holds (λ c. search needs) (λ c. search needs) (λ c. search needs)
-    (λ c κs. search needs) (λ c κs. search needs) slice-write-answers add-i loop-less loop-again
+    job-value-requires (λ c κs. search needs) slice-write-answers add-i loop-less loop-again
     (λ c. search needs) (λ c. search needs) (λ c. search needs) (λ c. search needs) (λ c. search needs)
     (λ c. search needs) (λ c. search needs) returns)
