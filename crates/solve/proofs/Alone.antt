@@ -20,22 +20,22 @@ use Rattle.fold.proofs.Parts.{part-length}
 use Rattle.scalar.specs.Buffers.{Buffers}
 use Rattle.sheet.specs.declared.Sheet.{Sheet}
 use Rattle.calls.specs.Run.{Own, Given, own, count, coefs, levelsBefore, every, among}
-use Rattle.calls.specs.Buffers.{Name, Plane, Prior, Gradient, Across, Down, Saved, get, partOf, putPart, join, channel, putChannel, Sized}
-use Rattle.calls.specs.Calls.{first, all, allSix, lengths, buffersLong, valuesLong, tableOk, levelOk, lendTests, startRefusal}
-use Rattle.calls.proofs.Parts.{part-put-same, part-put-other, join-ext, join-parts, put-written, channel-sized, put-sized}
-use Rattle.calls.proofs.Tests.{not-is, not-of, every-at, all-part, Passed, passed-of, lend-numbered, skip}
+use Rattle.calls.specs.Buffers.{Name, Plane, Prior, Gradient, Across, Down, Saved, get, joined, channel, putChannel, Sized}
+use Rattle.calls.specs.Calls.{done, blown, all, allSix, lengths, tableOk, levelOk, lendTests, startRefusal}
+use Rattle.calls.proofs.Parts.{channel-sized, put-sized, put-same, put-other, joined-channels}
+use Rattle.calls.proofs.Tests.{every-at, all-part, skip, Lent, lent-of, of-lent}
 use Rattle.record.specs.declared.Run.{Run}
 use Rattle.record.specs.declared.Answer.{Answer}
 use Rattle.record.specs.declared.Answer.the-variants.{Refused, Done, Blown}
 use Rattle.record.proofs.Answer.{the-type}
-use Rattle.record.specs.Model.{Legal, ownOf, noChannel, sheetOf, placesOf}
+use Rattle.record.specs.Model.{Legal, ownOf, noChannel, sheetOf, placesOf, answerOf}
 use Rattle.record.proofs.Channels.{at-own}
 use Rattle.record.proofs.Sizes.{count-3, levels-rise, levels-small}
-use Rattle.solve.specs.Solve.{six, joint, alone, jointGiven, aloneGiven, levelsFor, tablesFor, planeOf, planesOf, runBlows, planes, blows, isLegal, allLegal, solveRefusal, Ends, RunIs, SolveIs}
+use Rattle.solve.specs.Solve.{six, joint, alone, jointGiven, aloneGiven, levelsFor, tablesFor, runBlows, Whole, last, runOf, separately, wholeOf, isLegal, allLegal, solveRefusal, Ended, Ends, RunIs, SolveIs}
 use Rattle.solve.specs.Rounds.{PartsAre, AloneAsks, AloneIs, SeparateAsks, SeparateIs}
 use Rattle.solve.proofs.Rounds.{among-true}
 use Rattle.solve.proofs.Steps.{Kept, kept-of}
-use Rattle.solve.proofs.Ends.{same-lengths, sized-of}
+use Rattle.solve.proofs.Ends.{same-lengths, sized-of, is-done, not-done}
 
 -- ---- what a sheet that is not refused has passed
 
@@ -70,39 +70,27 @@ module _ (S : Sheet) (levels : List ℤ) (tables : List ℕ) (B : Buffers) (z : 
       every-at (S .header .channels) (λ c. isLegal (alone S c))
       (and-r (isLegal (joint S)) (every (S .header .channels) (λ c. isLegal (alone S c))) (passed-both .0)) c h
 
-  passes : first (lendTests G (placesOf (joint S)) ls true) ≡ 0
+  passed : Lent G (placesOf (joint S)) ls true
   unfolding startRefusal
-  passes = starts
-
-  tests : Passed (lendTests G (placesOf (joint S)) ls true)
-  tests = passed-of (lendTests G (placesOf (joint S)) ls true) (lend-numbered G (placesOf (joint S)) ls true) passes
-
-  both-long : T (buffersLong G ls && valuesLong G)
-  both-long = not-is (buffersLong G ls && valuesLong G) (tests .1 .0)
+  passed = lent-of G (placesOf (joint S)) ls true starts
 
   pub sized : Sized (S .header .channels * areaOf S) B
   unfolding joint
-  sized = sized-of (S .header .channels * areaOf S) B (and-l (buffersLong G ls) (valuesLong G) both-long)
+  sized = sized-of (S .header .channels * areaOf S) B (passed .long)
 
   pub levels-long : length levels ≡ levelsBefore (sheetOf (joint S)) (S .header .channels)
   unfolding joint
-  levels-long =
-      eqb→eq _ _
-      (and-l (eqb (length levels) (levelsBefore (sheetOf (joint S)) (count G))) (eqb (length tables) (count G * 64))
-      (and-r (buffersLong G ls) (valuesLong G) both-long))
+  levels-long = passed .levels-long refl
 
   pub tables-long : length tables ≡ S .header .channels * 64
   unfolding joint
-  tables-long =
-      eqb→eq _ _
-      (and-r (eqb (length levels) (levelsBefore (sheetOf (joint S)) (count G))) (eqb (length tables) (count G * 64))
-      (and-r (buffersLong G ls) (valuesLong G) both-long))
+  tables-long = passed .tables-long refl
 
   pub tables-ok : T (all tableOk tables)
-  tables-ok = not-is (all tableOk tables) (tests .1 .1 .0)
+  tables-ok = passed .tables-ok refl
 
   pub levels-ok : T (all levelOk levels)
-  levels-ok = not-is (all levelOk levels) (tests .1 .1 .1 .0)
+  levels-ok = passed .levels-ok refl
 
 -- ---- the joint record's numbers
 
@@ -214,35 +202,33 @@ module _ (S : Sheet) (levels : List ℤ) (tables : List ℕ) (B₀ : Buffers) (z
     own-tables : length (tablesFor tables c) ≡ 64
     own-tables = part-length tables (c * 64) (c * 64 + 64) (omega arith) (omega (arith, tables-long S levels tables B₀ z)) ∙ omega arith
 
-    passed-alone : Passed (lendTests (aloneGiven S levels tables c) (placesOf (alone S c)) (lengths allSix (channel (areaOf S) c B)) true)
+    passed-alone : Lent (aloneGiven S levels tables c) (placesOf (alone S c)) (lengths allSix (channel (areaOf S) c B)) true
     unfolding alone
     passed-alone =
-        let ls : List ℕ = lengths allSix (channel (areaOf S) c B) in
-        let one : areaOf S ≡ 1 * areaOf S = omega arith in (
-          not-of (isLegal (alone S c)) (alone-legal S levels tables B₀ z c below),
-          (
-            not-of (buffersLong H ls && valuesLong H)
-                (and-i (buffersLong H ls) (valuesLong H)
-                (all-sized (1 * areaOf S) (channel (areaOf S) c B) (λ b. part-sized b ∙ one) allSix)
-                (and-i (eqb (length (levelsFor S levels c)) (levelsBefore (sheetOf (alone S c)) 1)) (eqb (length (tablesFor tables c)) 64) (eq→eqb own-levels) (eq→eqb own-tables))),
-            (
-              not-of (all tableOk (tablesFor tables c)) (all-part tableOk tables (c * 64) (c * 64 + 64) (tables-ok S levels tables B₀ z)),
-              (
-                not-of (all levelOk (levelsFor S levels c))
-                    (all-part levelOk levels (levelsBefore (sheetOf (joint S)) c) (levelsBefore (sheetOf (joint S)) (suc c)) (levels-ok S levels tables B₀ z)),
-                tt,
-              ),
-            ),
-          ),
-        )
+        let one : areaOf S ≡ 1 * areaOf S = omega arith in
+        record {
+          is-legal = alone-legal S levels tables B₀ z c below;
+          long = all-sized (1 * areaOf S) (channel (areaOf S) c B) (λ b. part-sized b ∙ one) allSix;
+          levels-long = λ e. own-levels;
+          tables-long = λ e. own-tables;
+          tables-ok = λ e. all-part tableOk tables (c * 64) (c * 64 + 64) (tables-ok S levels tables B₀ z);
+          levels-ok = λ e. all-part levelOk levels (levelsBefore (sheetOf (joint S)) c) (levelsBefore (sheetOf (joint S)) (suc c)) (levels-ok S levels tables B₀ z);
+        }
 
     accepted : startRefusal (aloneGiven S levels tables c) (placesOf (alone S c)) (lengths allSix (channel (areaOf S) c B)) ≡ 0
     unfolding startRefusal
-    accepted = skip (lendTests (aloneGiven S levels tables c) (placesOf (alone S c)) (lengths allSix (channel (areaOf S) c B)) true) [] passed-alone
+    accepted =
+        let ls : List ℕ = lengths allSix (channel (areaOf S) c B) in
+        skip (lendTests (aloneGiven S levels tables c) (placesOf (alone S c)) ls true) [] (of-lent (aloneGiven S levels tables c) (placesOf (alone S c)) ls true passed-alone)
 
-    one-plane : planesOf (aloneGiven S levels tables c) ≡ planeOf (aloneGiven S levels tables c) 0
-    unfolding planesOf alone
-    one-plane = refl
+    -- a run of one channel
+    one-run : runOf (aloneGiven S levels tables c) .buffers ≡ last (aloneGiven S levels tables c) 0
+    unfolding runOf joined alone
+    one-run = refl
+
+    same-blows : runOf (aloneGiven S levels tables c) .blown ≡ runBlows (aloneGiven S levels tables c)
+    unfolding runOf
+    same-blows = refl
 
     pub asks-of : AloneAsks S c levels tables B
     asks-of =
@@ -261,65 +247,52 @@ module _ (S : Sheet) (levels : List ℤ) (tables : List ℕ) (B₀ : Buffers) (z
 
     -- how the channel's run ended
     module _ (a : Answer) (B′ : Buffers) (said : AloneIs S c levels tables B a B′) where
-      ended : Ends 0 (runBlows (aloneGiven S levels tables c)) (planesOf (aloneGiven S levels tables c)) (channel (areaOf S) c B) a (said .own)
+      abbrev run : Whole
+      run = runOf (aloneGiven S levels tables c)
+
+      ended : Ends 0 (runOf (aloneGiven S levels tables c)) (channel (areaOf S) c B) (answerOf a) (said .own)
       ended = rw accepted at (said .run)
 
       own-sized : Sized (areaOf S) (said .own)
-      own-sized b = go (runBlows (aloneGiven S levels tables c)) ended ∙ part-sized b
+      own-sized b = go (run .blown) ended ∙ part-sized b
         where
-          go : (b′ : Bool) → Ends 0 b′ (planesOf (aloneGiven S levels tables c)) (channel (areaOf S) c B) a (said .own)
-              → length (get b (said .own)) ≡ length (get b (channel (areaOf S) c B))
+          go : (b′ : Bool) → Ended b′ run (channel (areaOf S) c B) (answerOf a) (said .own) → length (get b (said .own)) ≡ length (get b (channel (areaOf S) c B))
           go true e = e .1 b
           go false e = e .2 b
 
       now-sized : Sized (S .header .channels * areaOf S) B′
       now-sized = subst (Sized (S .header .channels * areaOf S)) (sym (said .put)) (put-sized (areaOf S) c (S .header .channels) B long below (said .own) own-sized)
 
-      plane-is : B′ .plane ≡ putPart (areaOf S) c (B .plane) (said .own .plane)
-      plane-is = ap (λ (X : Buffers). X .plane) (said .put) ∙ put-written (areaOf S) c B (said .own) Plane
-
-      -- done: not blown, and its plane is there; the other channels' are as they were
-      pub done-run : a ≡ Done → (runBlows (aloneGiven S levels tables c) ≡ false) × (said .own .plane ≡ planeOf (aloneGiven S levels tables c) 0)
-      done-run d = go (runBlows (aloneGiven S levels tables c)) refl ended
+      -- done: not blown, and its buffers are there; the other channels' are as they were
+      pub done-run : answerOf a ≡ done → (runBlows (aloneGiven S levels tables c) ≡ false) × (said .own ≡ last (aloneGiven S levels tables c) 0)
+      done-run d = go (run .blown) refl ended
         where
-          go : (b : Bool) → runBlows (aloneGiven S levels tables c) ≡ b → Ends 0 b (planesOf (aloneGiven S levels tables c)) (channel (areaOf S) c B) a (said .own)
-              → (runBlows (aloneGiven S levels tables c) ≡ false) × (said .own .plane ≡ planeOf (aloneGiven S levels tables c) 0)
+          go : (b : Bool) → run .blown ≡ b → Ended b run (channel (areaOf S) c B) (answerOf a) (said .own)
+              → (runBlows (aloneGiven S levels tables c) ≡ false) × (said .own ≡ last (aloneGiven S levels tables c) 0)
           go true q e = let w : _≡_ {A = ℕ} 0 1 = cc (d, e .0) in absurd (omega arith)
-          go false q e = (q, e .1 ∙ one-plane)
+          go false q e = (sym same-blows ∙ q, e .1 ∙ one-run)
 
-      pub blown-run : (a ≡ Done → ⊥) → (runBlows (aloneGiven S levels tables c) ≡ true) × (a ≡ Refused 10)
-      blown-run d = go (runBlows (aloneGiven S levels tables c)) refl ended
+      pub blown-run : (done ≡ answerOf a → ⊥) → (runBlows (aloneGiven S levels tables c) ≡ true) × (answerOf a ≡ blown)
+      blown-run d = go (run .blown) refl ended
         where
-          go : (b : Bool) → runBlows (aloneGiven S levels tables c) ≡ b → Ends 0 b (planesOf (aloneGiven S levels tables c)) (channel (areaOf S) c B) a (said .own)
-              → (runBlows (aloneGiven S levels tables c) ≡ true) × (a ≡ Refused 10)
-          go true q e = (q, e .0)
-          go false q e = absurd (d (e .0))
+          go : (b : Bool) → run .blown ≡ b → Ended b run (channel (areaOf S) c B) (answerOf a) (said .own)
+              → (runBlows (aloneGiven S levels tables c) ≡ true) × (answerOf a ≡ blown)
+          go true q e = (sym same-blows ∙ q, e .0)
+          go false q e = absurd (d (sym (e .0)))
 
-      here : partOf (areaOf S) c (B′ .plane) ≡ said .own .plane
-      here = ap (partOf (areaOf S) c) plane-is ∙ part-put-same (areaOf S) c (S .header .channels) (B .plane) (long Plane) below (said .own .plane) (own-sized Plane)
+      here : channel (areaOf S) c B′ ≡ said .own
+      here = ap (channel (areaOf S) c) (said .put) ∙ put-same (areaOf S) c (S .header .channels) B long below (said .own) own-sized
 
-      elsewhere : (d : ℕ) → d < S .header .channels → c ≢ d → partOf (areaOf S) d (B′ .plane) ≡ partOf (areaOf S) d (B .plane)
-      elsewhere d h f =
-          ap (partOf (areaOf S) d) plane-is
-          ∙ part-put-other (areaOf S) c (S .header .channels) (B .plane) (long Plane) below (said .own .plane) (own-sized Plane) d h f
+      elsewhere : (d : ℕ) → d < S .header .channels → c ≢ d → channel (areaOf S) d B′ ≡ channel (areaOf S) d B
+      elsewhere d h f = ap (channel (areaOf S) d) (said .put) ∙ put-other (areaOf S) c (S .header .channels) B long below (said .own) own-sized d h f
 
 -- ---- the loop over the channels
 
 pub record Parting (S : Sheet) (levels : List ℤ) (tables : List ℕ) (n i : ℕ) (B₀ B : Buffers) : Type 0 where
   pub most : i ≤ n
-  pub each : (c : ℕ) → c < i → partOf (areaOf S) c (B .plane) ≡ planeOf (aloneGiven S levels tables c) 0
+  pub each : (c : ℕ) → c < i → channel (areaOf S) c B ≡ last (aloneGiven S levels tables c) 0
   pub none : among i (λ c. runBlows (aloneGiven S levels tables c)) ≡ false
   pub kept : Kept B₀ B
-
-is-done : (a : Answer) → OneOf (1 ∷ []) (tagOf the-type a) → a ≡ Done
-is-done (Refused m) one = let y : ⊥ = omega arith in absurd y
-is-done Done one = refl
-is-done Blown one = let y : ⊥ = omega arith in absurd y
-
-not-done : (a : Answer) → OneOf (0 ∷ 2 ∷ []) (tagOf the-type a) → a ≡ Done → ⊥
-not-done (Refused m) one e = let w : _≡_ {A = ℕ} 0 1 = cc in omega arith
-not-done Done one e = ⊎-elim (λ e. omega arith) (λ e. omega arith) one
-not-done Blown one e = let w : _≡_ {A = ℕ} 0 1 = cc in omega arith
 
 module _ (S : Sheet) (levels : List ℤ) (tables : List ℕ) (B₀ : Buffers) (asks : SeparateAsks S levels tables B₀) where
   abbrev z : solveRefusal S levels tables (lengths allSix B₀) ≡ 0
@@ -363,38 +336,33 @@ module _ (S : Sheet) (levels : List ℤ) (tables : List ℕ) (B₀ : Buffers) (a
               kept = kept-now;
             }
           where
-            go : (c : ℕ) → (suc c ≡ suc i) ⊎ (suc c < suc i) → said .own .plane ≡ planeOf (aloneGiven S levels tables i) 0
-                → partOf (areaOf S) c (B′ .plane) ≡ planeOf (aloneGiven S levels tables c) 0
+            go : (c : ℕ) → (suc c ≡ suc i) ⊎ (suc c < suc i) → said .own ≡ last (aloneGiven S levels tables i) 0
+                → channel (areaOf S) c B′ ≡ last (aloneGiven S levels tables c) 0
             go c (inl e) p =
                 let same : i ≡ c = omega arith in
-                subst (λ (k : ℕ). partOf (areaOf S) k (B′ .plane) ≡ planeOf (aloneGiven S levels tables k) 0) same
+                subst (λ (k : ℕ). channel (areaOf S) k B′ ≡ last (aloneGiven S levels tables k) 0) same
                 (here S levels tables B₀ z i left B long a B′ said ∙ p)
             go c (inr l) p =
                 elsewhere S levels tables B₀ z i left B long a B′ said c (omega arith) (λ e. omega arith) ∙ h .each c (omega arith)
 
         pub stops : OneOf (0 ∷ 2 ∷ []) (tagOf the-type a) → SeparateIs S levels tables B₀ a B′
+        unfolding separately
         stops one =
             let d = blown-run S levels tables B₀ z i left B long a B′ said (not-done a one) in
             rw (among-true (S .header .channels) (λ c. runBlows (aloneGiven S levels tables c)) i left (d .0)) (d .1, same-lengths B₀ B′ kept-now)
 
     pub ends : S .header .channels ≤ i → SeparateIs S levels tables B₀ Done B
+    unfolding separately
     ends l =
-        let last : i ≡ S .header .channels = omega (arith, h .most) in
-        let none : among (S .header .channels) (λ c. runBlows (aloneGiven S levels tables c)) ≡ false = rw last at (h .none) in
+        let end : i ≡ S .header .channels = omega (arith, h .most) in
+        let none : among (S .header .channels) (λ c. runBlows (aloneGiven S levels tables c)) ≡ false = rw end at (h .none) in
         rw none (
           refl,
-          sym (take-all (S .header .channels * areaOf S) (B .plane) (le-of-eq (long Plane)))
-              ∙ sym (join-parts (areaOf S) (S .header .channels) (B .plane))
-              ∙ join-ext (S .header .channels) (λ c. partOf (areaOf S) c (B .plane)) (λ c. planeOf (aloneGiven S levels tables c) 0) (λ c q. h .each c (omega arith)),
+          sym (joined-channels (areaOf S) (S .header .channels) (λ c. last (aloneGiven S levels tables c) 0) B long (λ c q. h .each c (omega arith))),
           same-lengths B₀ B (h .kept),
         )
 
 -- ---- solve
-
-module _ (B : Buffers) (a : Answer) (B′ : Buffers) where
-  ends-same : (n : ℕ) (b b′ : Bool) (xs xs′ : List Float) → n ≡ 0 → b ≡ b′ → xs ≡ xs′ → Ends 0 b′ xs′ B a B′ → Ends n b xs B a B′
-  ends-same n b b′ xs xs′ p q r h =
-      subst (λ (m : ℕ). Ends m b xs B a B′) (sym p) (subst (λ (d : Bool). Ends 0 d xs B a B′) (sym q) (subst (λ (l : List Float). Ends 0 b′ l B a B′) (sym r) h))
 
 module _ (S : Sheet) (levels : List ℤ) (tables : List ℕ) (B : Buffers) where
   pub solve-refused : (n : ℕ) → n ≡ solveRefusal S levels tables (lengths allSix B) → n ≢ 0 → SolveIs S levels tables B (Refused n) B
@@ -402,20 +370,18 @@ module _ (S : Sheet) (levels : List ℤ) (tables : List ℕ) (B : Buffers) where
   solve-refused (suc n) e f = rw (← e) (refl, refl)
 
   module _ (z : solveRefusal S levels tables (lengths allSix B) ≡ 0) (a : Answer) (B′ : Buffers) where
+    -- by the mode
+    ends-in : (b : Bool) → S .header .joint ≡ b → Ends 0 (cond b (runOf (jointGiven S levels tables)) (separately S levels tables)) B (answerOf a) B′ → SolveIs S levels tables B a B′
+    unfolding wholeOf
+    ends-in b j h =
+        subst (λ (n : ℕ). Ends n (wholeOf S levels tables) B (answerOf a) B′) (sym z)
+        (subst (λ (d : Bool). Ends 0 (cond d (runOf (jointGiven S levels tables)) (separately S levels tables)) B (answerOf a) B′) (sym j) h)
+
     pub solve-joint : S .header .joint ≡ true → RunIs (joint S) levels tables B a B′ → SolveIs S levels tables B a B′
-    unfolding blows planes
-    solve-joint j h =
-        let G = jointGiven S levels tables in
-        ends-same B a B′ (solveRefusal S levels tables (lengths allSix B)) (blows S levels tables) _ (planes S levels tables) _ z (ap (λ (b : Bool). cond b (runBlows G) (among (S .header .channels) (λ c. runBlows (aloneGiven S levels tables c)))) j)
-        (ap (λ (b : Bool). cond b (planesOf G) (join (S .header .channels) (λ c. planeOf (aloneGiven S levels tables c) 0))) j)
-        (subst (λ (n : ℕ). Ends n (runBlows G) (planesOf G) B a B′) (starts S levels tables B z) h)
+    solve-joint j h = ends-in true j (subst (λ (n : ℕ). Ends n (runOf (jointGiven S levels tables)) B (answerOf a) B′) (starts S levels tables B z) h)
 
     pub solve-separate : S .header .joint ≡ false → SeparateIs S levels tables B a B′ → SolveIs S levels tables B a B′
-    unfolding blows planes
-    solve-separate j h =
-        let G = jointGiven S levels tables in
-        ends-same B a B′ (solveRefusal S levels tables (lengths allSix B)) (blows S levels tables) _ (planes S levels tables) _ z (ap (λ (b : Bool). cond b (runBlows G) (among (S .header .channels) (λ c. runBlows (aloneGiven S levels tables c)))) j)
-        (ap (λ (b : Bool). cond b (planesOf G) (join (S .header .channels) (λ c. planeOf (aloneGiven S levels tables c) 0))) j) h
+    solve-separate j h = ends-in false j h
 
 -- ---- the tests of both modes' records
 

@@ -3,7 +3,7 @@ use mathlib.Core.Path.{_≡_, refl, sym, ap, _∙_, subst}
 use mathlib.Core.Logic.{⊎-elim}
 use denote.Enum.Declared.{tagOf}
 use types.Run.{OneOf}
-use mathlib.Core.Bool.{Bool, true, false, _&&_}
+use mathlib.Core.Bool.{Bool, true, false}
 use mathlib.Core.List.{List, [], _∷_, map}
 use Prim.Native.Nat.{ℕ, zero, suc, _+_, _*_, _≤_, _<_}
 use native.Mathlib.Omega.{arith}
@@ -11,18 +11,18 @@ use native.Mathlib.Numerals.{add-one}
 use lib.ListN.{length}
 use lib.Dec.{T, eqb, eqb→eq}
 use lib.IntN.{ℤ}
-use lib.Ieee.{Float}
 use lib.Ieee.Fits.{and-l, and-r}
 use Rattle.scalar.specs.Buffers.{Buffers}
-use Rattle.calls.specs.Run.{Given, Sheet, Place, fresh, place, count, area, among, legal, sheetOk, placesOk}
-use Rattle.calls.specs.Buffers.{Plane, Prior, Gradient, Across, Down, Saved, joined, Sized}
+use Rattle.calls.specs.Run.{Given, Sheet, Place, fresh, place, count, area, among, sheetOk, placesOk}
+use Rattle.calls.specs.Buffers.{Plane, Prior, Gradient, Across, Down, Saved, Sized}
 use Rattle.calls.specs.Jobs.{fixed}
-use Rattle.calls.specs.Calls.{State, refused, done, first, all, allSix, lengths, buffersLong, valuesLong, lendTests, startRefusal, settle, begin, start, final}
+use Rattle.calls.specs.Calls as Calls
+use Rattle.calls.specs.Calls.{State, done, all, allSix, lengths, startRefusal, settle, begin, start, final}
 use Rattle.calls.specs.Between.{GivenOk, Inv}
 use Rattle.calls.proofs.Legal.{places-are}
 use Rattle.calls.proofs.Facts.{sheet-is}
 use Rattle.calls.proofs.Parts.{joined-channels}
-use Rattle.calls.proofs.Tests.{not-is, Passed, passed-of, lend-numbered}
+use Rattle.calls.proofs.Tests.{Lent, lent-of}
 use Rattle.calls.proofs.Runs.{between, given-ok}
 use Rattle.demand.specs.Solver.{jobs}
 use Rattle.demand.proofs.Laws.{laws}
@@ -33,10 +33,10 @@ use Rattle.record.proofs.Answer.{the-type}
 use Rattle.record.specs.Model.{sheetOf, placesOf, givenOf, answerOf}
 use Rattle.record.proofs.Placed.{sheet-stays, places-placed}
 use Rattle.run.specs.Public.{Result, stateOf, StartIs}
-use Rattle.solve.specs.Solve.{jobCount, planeOf, planesOf, runBlows, SameLengths, Ends, RunIs}
+use Rattle.solve.specs.Solve.{jobCount, runBlows, Whole, last, runOf, SameLengths, Ended, Ends, RunIs}
 use Rattle.solve.specs.Rounds.{AllAt, roundBlows, RoundAsks, RoundIs, RunAsks}
 use Rattle.solve.proofs.Rounds.{among-true}
-use Rattle.solve.proofs.Steps.{counted, Kept, kept-of}
+use Rattle.solve.proofs.Steps.{Kept, kept-of}
 
 -- ---- lengths
 
@@ -58,14 +58,13 @@ sized-of m B t Saved = eqb→eq (length (B .saved)) m (search (and-l, and-r) dep
 
 -- ---- the rounds
 
--- after all jobs the planes are those of the channels, joined
-planes-are : (G : Given) (r : Run) (B : Buffers) → AllAt G (jobCount G) r B → B .plane ≡ planesOf G
-unfolding joined planesOf planeOf
-planes-are G r B h =
-    ap (λ (A : Buffers). A .plane)
-    (sym
+-- after all jobs the buffers are those fixed for them, joined
+buffers-are : (G : Given) (r : Run) (B : Buffers) → AllAt G (jobCount G) r B → B ≡ runOf G .buffers
+unfolding runOf last
+buffers-are G r B h =
+    sym
     (joined-channels (area G) (count G) (fixed jobs G (jobCount G)) B (h .inv .sized)
-    (λ c l. h .inv .as-fixed c l ∙ ap (λ (q : Place). fixed jobs G (q .position) c) (h .each c l))))
+    (λ c l. h .inv .as-fixed c l ∙ ap (λ (k : ℕ). fixed jobs G k c) (h .at-place c l)))
 
 -- the loop: p of n rounds
 pub record Rounding (G : Given) (n p : ℕ) (r : Run) (B₀ B : Buffers) : Type 0 where
@@ -122,23 +121,23 @@ module _ (r₀ : Run) (levels : List ℤ) (tables : List ℕ) (B₀ : Buffers) (
                   kept = kept-of (count G * area G) B₀ B′ (asks .all .inv .sized) (s .0 .inv .sized);
                 }
 
-        pub stops : OneOf (0 ∷ 2 ∷ []) (tagOf the-type a) → Ends 0 (runBlows G) (planesOf G) B₀ (Refused 10) B′
-        unfolding runBlows
+        pub stops : OneOf (0 ∷ 2 ∷ []) (tagOf the-type a) → Ends 0 (runOf G) B₀ Calls.blown B′
+        unfolding runOf runBlows
         stops one = go a one said-of
           where
-            go : (a : Answer) → OneOf (0 ∷ 2 ∷ []) (tagOf the-type a) → RoundIs G p a r′ B′ → Ends 0 (runBlows G) (planesOf G) B₀ (Refused 10) B′
+            go : (a : Answer) → OneOf (0 ∷ 2 ∷ []) (tagOf the-type a) → RoundIs G p a r′ B′ → Ends 0 (runOf G) B₀ Calls.blown B′
             go (Refused m) one s = absurd s
             go Done one s = let y : ⊥ = ⊎-elim (λ e. omega arith) (λ e. omega arith) one in absurd y
             go Blown one s =
                 rw (among-true (jobCount G) (roundBlows G) p left (s .0))
                 (refl, same-lengths B₀ B′ (kept-of (count G * area G) B₀ B′ (asks .all .inv .sized) (s .1)))
 
-    pub ends : 5 * r₀ .n ≤ p → Ends 0 (runBlows G) (planesOf G) B₀ Done B
-    unfolding runBlows
+    pub ends : 5 * r₀ .n ≤ p → Ends 0 (runOf G) B₀ Calls.done B
+    unfolding runOf runBlows
     ends l =
         let last : p ≡ jobCount G = omega (arith, h .most) in
         let none : among (jobCount G) (roundBlows G) ≡ false = rw last at (h .none) in
-        rw none (refl, planes-are G r B (rw last at (h .all)), same-lengths B₀ B (h .kept))
+        rw none (refl, buffers-are G r B (rw last at (h .all)), same-lengths B₀ B (h .kept))
 
 -- ---- start
 
@@ -147,6 +146,17 @@ fresh-at [] c = refl
 fresh-at (p ∷ ps) zero = refl
 fresh-at (p ∷ ps) (suc c) = fresh-at ps c
 
+-- an answer by its case
+pub is-done : (a : Answer) → OneOf (1 ∷ []) (tagOf the-type a) → answerOf a ≡ done
+is-done (Refused m) one = let y : ⊥ = omega arith in absurd y
+is-done Done one = refl
+is-done Blown one = let y : ⊥ = omega arith in absurd y
+
+pub not-done : (a : Answer) → OneOf (0 ∷ 2 ∷ []) (tagOf the-type a) → done ≡ answerOf a → ⊥
+not-done (Refused m) one e = let z : _≡_ {A = ℕ} 0 1 = cc in omega arith
+not-done Done one e = ⊎-elim (λ e. omega arith) (λ e. omega arith) one
+not-done Blown one e = let z : _≡_ {A = ℕ} 0 1 = cc in omega arith
+
 module _ (r : Run) (levels : List ℤ) (tables : List ℕ) (B : Buffers) (a : Answer) (r′ : Run) (B′ : Buffers) (h : StartIs r levels tables B a r′ B′) where
   abbrev H : Given
   H = givenOf r levels tables
@@ -154,38 +164,19 @@ module _ (r : Run) (levels : List ℤ) (tables : List ℕ) (B : Buffers) (a : An
   abbrev s : State
   s = stateOf r B
 
-  -- the number of start's refusal
-  number : ℕ
-  number = startRefusal H (placesOf r) (lengths allSix B)
-
   -- refused: as it was
   pub refuses : OneOf (0 ∷ 2 ∷ []) (tagOf the-type a) → RunIs r levels tables B a B′
   unfolding start
   refuses one = go (startRefusal H (placesOf r) (lengths allSix B)) (ap (λ (y : Result). y .answer) h) (ap (λ (y : Result). y .buffers) h)
     where
-      not-done : (a : Answer) → OneOf (0 ∷ 2 ∷ []) (tagOf the-type a) → done ≡ answerOf a → ⊥
-      not-done (Refused m) one e = let z : _≡_ {A = ℕ} 0 1 = cc in omega arith
-      not-done Done one e = ⊎-elim (λ e. omega arith) (λ e. omega arith) one
-      not-done Blown one e = let z : _≡_ {A = ℕ} 0 1 = cc in omega arith
-
-      is-refused : (n : ℕ) (a : Answer) → refused n ≡ answerOf a → a ≡ Refused n
-      is-refused n (Refused m) e = let same : m ≡ n = cc in ap Refused same
-      is-refused n Done e = let z : _≡_ {A = ℕ} 0 1 = cc in absurd (omega arith)
-      is-refused n Blown e = let z : _≡_ {A = ℕ} 0 1 = cc in absurd (omega arith)
-
       go : (n : ℕ) → settle n s (begin jobs H s) .answer ≡ answerOf a → settle n s (begin jobs H s) .after .buffers ≡ B′
-          → Ends n (runBlows H) (planesOf H) B a B′
+          → Ends n (runOf H) B (answerOf a) B′
       go zero e f = absurd (not-done a one e)
-      go (suc n) e f = (is-refused (suc n) a e, sym f)
+      go (suc n) e f = (sym e, sym f)
 
   module _ (one : OneOf (1 ∷ []) (tagOf the-type a)) where
     said-done : start jobs H s .answer ≡ done
     said-done = ap (λ (y : Result). y .answer) h ∙ is-done a one
-      where
-        is-done : (a : Answer) → OneOf (1 ∷ []) (tagOf the-type a) → answerOf a ≡ done
-        is-done (Refused m) one = let y : ⊥ = omega arith in absurd y
-        is-done Done one = refl
-        is-done Blown one = let y : ⊥ = omega arith in absurd y
 
     pub accepted : startRefusal H (placesOf r) (lengths allSix B) ≡ 0
     unfolding start
@@ -203,26 +194,18 @@ module _ (r : Run) (levels : List ℤ) (tables : List ℕ) (B : Buffers) (a : An
     unfolding start
     places-fresh = ap (λ (n : ℕ). settle n s (begin jobs H s) .after .places) accepted
 
-    passes : first (lendTests H (placesOf r) (lengths allSix B) true) ≡ 0
+    passed : Lent H (placesOf r) (lengths allSix B) true
     unfolding startRefusal
-    passes = accepted
-
-    tests : Passed (lendTests H (placesOf r) (lengths allSix B) true)
-    tests = passed-of (lendTests H (placesOf r) (lengths allSix B) true) (lend-numbered H (placesOf r) (lengths allSix B) true) passes
+    passed = lent-of H (placesOf r) (lengths allSix B) true accepted
 
     sized : Sized (count H * area H) B
-    sized =
-        let long : Bool = buffersLong H (lengths allSix B) in
-        sized-of (count H * area H) B (and-l long (valuesLong H) (not-is (long && valuesLong H) (tests .1 .0)))
+    sized = sized-of (count H * area H) B (passed .long)
 
-    channels-long : r .count ≤ length (r .channels)
-    channels-long =
-        counted r (r .count)
-        (places-are (sheetOf r) (placesOf r) (and-r (sheetOk (sheetOf r)) (placesOk (sheetOf r) (placesOf r)) (not-is (legal (sheetOf r) (placesOf r)) (tests .0))) .long)
-        refl
+    places-long : length (placesOf r) ≡ r .count
+    places-long = places-are (sheetOf r) (placesOf r) (and-r (sheetOk (sheetOf r)) (placesOk (sheetOf r) (placesOf r)) (passed .is-legal)) .long
 
     places-now : placesOf r′ ≡ start jobs H s .after .places
-    places-now = ap (λ (y : Result). placesOf (y .run)) (sym h) ∙ places-placed r (start jobs H s .after .places) (inv .legal-places .long) channels-long
+    places-now = ap (λ (y : Result). placesOf (y .run)) (sym h) ∙ places-placed r (start jobs H s .after .places) (inv .legal-places .long ∙ sym places-long)
 
     sheet-now : sheetOf r′ ≡ sheetOf r
     sheet-now = ap (λ (y : Result). sheetOf (y .run)) (sym h) ∙ sheet-stays r (start jobs H s .after .places)
@@ -238,7 +221,8 @@ module _ (r : Run) (levels : List ℤ) (tables : List ℕ) (B : Buffers) (a : An
         record {
           sheet = sheet-now;
           inv = subst (Inv jobs H) state-now inv;
-          each = λ c l. ap (λ (ps : List Place). place ps c) (places-now ∙ places-fresh) ∙ fresh-at (placesOf r) c;
+          at-place = λ c l. ap (λ (ps : List Place). place ps c .position) (places-now ∙ places-fresh) ∙ ap (λ (p : Place). p .position) (fresh-at (placesOf r) c);
+          unmarked = λ c l. ap (λ (ps : List Place). place ps c .mark) (places-now ∙ places-fresh) ∙ ap (λ (p : Place). p .mark) (fresh-at (placesOf r) c);
         }
 
     -- accepted: the run stands at its start
@@ -249,18 +233,16 @@ module _ (r : Run) (levels : List ℤ) (tables : List ℕ) (B : Buffers) (a : An
           all = subst (λ (K : Given). AllAt K 0 r′ B′) (sym given-now) at-start;
         }
 
-    from-start : (b : Bool) (xs : List Float) (d : Answer) (D : Buffers) → Ends 0 b xs B′ d D → Ends 0 b xs B d D
-    from-start true xs d D e = (e .0, λ b. e .1 b ∙ longs b)
-      where
-        longs : SameLengths B B′
-        longs = same-lengths B B′ (kept-of (count H * area H) B B′ sized (at-start .inv .sized))
-    from-start false xs d D e = (e .0, e .1, λ b. e .2 b ∙ longs b)
+    from-start : (b : Bool) (w : Whole) (d : Calls.Answer) (D : Buffers) → Ended b w B′ d D → Ended b w B d D
+    from-start b w d D = go b
       where
         longs : SameLengths B B′
         longs = same-lengths B B′ (kept-of (count H * area H) B B′ sized (at-start .inv .sized))
 
+        go : (b : Bool) → Ended b w B′ d D → Ended b w B d D
+        go true e = (e .0, λ n. e .1 n ∙ longs n)
+        go false e = (e .0, e .1, λ n. e .2 n ∙ longs n)
+
     -- and ends as its rounds do
-    pub runs-on : (d : Answer) (D : Buffers) → Ends 0 (runBlows (givenOf r′ levels tables)) (planesOf (givenOf r′ levels tables)) B′ d D → RunIs r levels tables B d D
-    runs-on d D e =
-        rw accepted
-        (from-start (runBlows H) (planesOf H) d D (subst (λ (K : Given). Ends 0 (runBlows K) (planesOf K) B′ d D) given-now e))
+    pub runs-on : (d : Answer) (D : Buffers) → Ends 0 (runOf (givenOf r′ levels tables)) B′ (answerOf d) D → RunIs r levels tables B d D
+    runs-on d D e = rw accepted (from-start (runOf H .blown) (runOf H) (answerOf d) D (subst (λ (K : Given). Ends 0 (runOf K) B′ (answerOf d) D) given-now e))

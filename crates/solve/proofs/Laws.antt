@@ -11,24 +11,24 @@ use Rattle.scalar.specs.Buffers.{Buffers}
 use Rattle.sheet.specs.declared.Sheet.{Sheet}
 use Rattle.text.specs.Weights.{valueOf}
 use Rattle.calls.specs.Run.{Given, levelsBefore, among}
-use Rattle.calls.specs.Buffers.{join}
+use Rattle.calls.specs.Buffers.{joined}
 use Rattle.calls.specs.Jobs.{fixed}
 use Rattle.calls.specs.Calls.{lengths, allSix}
 use Rattle.demand.specs.Solver.{jobs}
 use Rattle.record.specs.Model.{ownOf, sheetOf}
-use Rattle.solve.specs.Solve.{joint, alone, jointGiven, aloneGiven, levelsFor, tablesFor, planeOf, planesOf, runBlows, solveRefusal}
+use Rattle.solve.specs.Solve.{joint, alone, jointGiven, aloneGiven, levelsFor, tablesFor, runBlows, Whole, last, runOf, separately, solveRefusal}
 use Rattle.solve.proofs.Alone.{levels-long, tables-long}
 
 -- "N = 0 gives the unprojected start", and nothing is blown.
-pub no-steps : (G : Given) → G .sheet .N ≡ 0 → (c : ℕ) → planeOf G c ≡ jobs .start G c .plane
-unfolding planeOf fixed
-no-steps G e c = ap (λ (n : ℕ). fixed jobs G (5 * n) c .plane) e
+pub no-steps : (G : Given) → G .sheet .N ≡ 0 → (c : ℕ) → last G c ≡ jobs .start G c
+unfolding last fixed
+no-steps G e c = ap (λ (n : ℕ). fixed jobs G (5 * n) c) e
 
 pub no-steps-fine : (G : Given) → G .sheet .N ≡ 0 → runBlows G ≡ false
 unfolding runBlows
 no-steps-fine G e = rw e
 
--- "With one channel the letters act alike": the runs of both modes are given the same, so planes and blows are the same.
+-- "With one channel the letters act alike": the runs of both modes are given the same, so what they leave is the same.
 module _ (S : Sheet) (levels : List ℤ) (tables : List ℕ) (B : Buffers) (accepted : solveRefusal S levels tables (lengths allSix B) ≡ 0) (one : S .header .channels ≡ 1) where
   same-sheet : sheetOf (joint S) ≡ sheetOf (alone S 0)
   unfolding joint alone
@@ -56,9 +56,10 @@ module _ (S : Sheet) (levels : List ℤ) (tables : List ℕ) (B : Buffers) (acce
   pub same-given : jointGiven S levels tables ≡ aloneGiven S levels tables 0
   same-given = λ i. record { sheet = same-sheet i; levels = sym all-levels i; tables = sym all-tables i }
 
-  pub same-planes : planesOf (jointGiven S levels tables) ≡ join (S .header .channels) (λ c. planeOf (aloneGiven S levels tables c) 0)
-  unfolding planesOf alone
-  same-planes = ap planesOf same-given ∙ ap (λ (n : ℕ). join n (λ c. planeOf (aloneGiven S levels tables c) 0)) (sym one)
-
-  pub same-blows : runBlows (jointGiven S levels tables) ≡ among (S .header .channels) (λ c. runBlows (aloneGiven S levels tables c))
-  same-blows = ap runBlows same-given ∙ ap (λ (n : ℕ). among n (λ c. runBlows (aloneGiven S levels tables c))) (sym one)
+  pub same-run : runOf (jointGiven S levels tables) ≡ separately S levels tables
+  unfolding runOf separately joined alone
+  same-run =
+      ap runOf same-given
+      ∙ ap
+      (λ (n : ℕ). record { buffers = joined n (λ c. last (aloneGiven S levels tables c) 0); blown = among n (λ c. runBlows (aloneGiven S levels tables c)) })
+      (sym one)

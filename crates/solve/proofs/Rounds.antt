@@ -10,13 +10,12 @@ use lib.ListN.{set}
 use lib.Dec.{eqb}
 use borrow.Author.Tests.{lt-ltb, eq-eqb, ne-eqb}
 use Rattle.calls.specs.Run.{Given, Sheet, Place, place, count, among, every}
-use Rattle.calls.specs.Jobs.{Job, on, blend, turn, blendTurn, Jobs, fixed, isBlown}
-use Rattle.calls.specs.Calls.{State, Plain, done, first, turnTests, advance, blended, reply, call, plain, plainAccept, plainSettle}
+use Rattle.calls.specs.Jobs.{Job, on, blend, turn, blendTurn, Jobs, Seen, seenAt}
+use Rattle.calls.specs.Calls.{State, Plain, done, first, test, turnTests, advance, onward, reply, call, plain, plainAccept, plainSettle}
 use Rattle.calls.specs.Between.{GivenOk, Inv}
 use Rattle.calls.proofs.Laws.{Laws}
 use Rattle.calls.proofs.Tests.{skip}
 use Rattle.calls.proofs.Step.{call-good}
-use Rattle.solve.specs.Rounds.{unmarkedAt}
 
 -- a test of every channel below k is true where each is, and of any is false where none is
 pub every-true : (k : ℕ) (f : ℕ → Bool) → ((c : ℕ) → c < k → f c ≡ true) → every k f ≡ true
@@ -41,33 +40,28 @@ among-true (suc k) f c h e = go (eq-or-lt-of-le h) (λ l. among-true k f c l e)
 
 module _ (S : Sheet) (ps : List Place) (p : ℕ) (left : p < 5 * S .N) where
   -- in its turn, none of the tests is true
-  pub on-turn : (j : Job) (c : ℕ) → c < S .count → place ps c ≡ unmarkedAt p → p % 5 ≡ turn j → first (turnTests S ps (on j c)) ≡ 0
-  on-turn j c below here t =
-      skip (turnTests S ps (on j c)) [] (
-        ap not (lt-ltb c (S .count) below),
-        (
-          ap (λ (q : Place). q .mark) here,
-          (
-            ap (λ (q : Place). eqb (q .position) (5 * S .N)) here ∙ ne-eqb p (5 * S .N) (λ e. omega arith),
-            (
-              ap (λ (q : Place). not (eqb (q .position % 5) (turn j))) here ∙ ap not (eq-eqb (p % 5) (turn j) t),
-              tt,
-            ),
-          ),
-        ),
-      )
+  not-ended : (k : ℕ) → k ≡ p → eqb k (5 * S .N) ≡ false
+  not-ended k e = ne-eqb k (5 * S .N) (λ f. omega arith)
 
-  pub blend-turn : ((c : ℕ) → c < S .count → place ps c ≡ unmarkedAt p) → p % 5 ≡ 2 → first (turnTests S ps blend) ≡ 0
-  blend-turn here t =
+  in-turn : (k n : ℕ) → k ≡ p → p % 5 ≡ n → eqb (k % 5) n ≡ true
+  in-turn k n e t = ap (λ (i : ℕ). eqb (i % 5) n) e ∙ eq-eqb (p % 5) n t
+
+  pub on-turn : (j : Job) (c : ℕ) → c < S .count → place ps c .position ≡ p → place ps c .mark ≡ false → p % 5 ≡ turn j → first (turnTests S ps (on j c)) ≡ 0
+  on-turn j c below here free t =
+      let q : ℕ = place ps c .position in
+      skip (turnTests S ps (on j c)) []
+      (ap (λ (b : Bool). test 12 (not b)) (lt-ltb c (S .count) below), (ap (test 10) free, (ap (test 11) (not-ended q here), (ap (λ (b : Bool). test 9 (not b)) (in-turn q (turn j) here t), tt))))
+
+  pub blend-turn : ((c : ℕ) → c < S .count → place ps c .position ≡ p) → ((c : ℕ) → c < S .count → place ps c .mark ≡ false) → p % 5 ≡ 2
+      → first (turnTests S ps blend) ≡ 0
+  blend-turn here free t =
       skip (turnTests S ps blend) [] (
-        among-false (S .count) (λ c. place ps c .mark) (λ c h. ap (λ (q : Place). q .mark) (here c h)),
+        ap (test 10) (among-false (S .count) (λ c. place ps c .mark) free),
         (
-          among-false (S .count) (λ c. eqb (place ps c .position) (5 * S .N))
-              (λ c h. ap (λ (q : Place). eqb (q .position) (5 * S .N)) (here c h) ∙ ne-eqb p (5 * S .N) (λ e. omega arith)),
+          ap (test 11) (among-false (S .count) (λ c. eqb (place ps c .position) (5 * S .N)) (λ c h. not-ended (place ps c .position) (here c h))),
           (
-            ap not
-                (every-true (S .count) (λ c. eqb (place ps c .position % 5) blendTurn)
-                (λ c h. ap (λ (q : Place). eqb (q .position % 5) blendTurn) (here c h) ∙ eq-eqb (p % 5) blendTurn t)),
+            ap (λ (b : Bool). test 9 (not b))
+                (every-true (S .count) (λ c. eqb (place ps c .position % 5) blendTurn) (λ c h. in-turn (place ps c .position) blendTurn (here c h) t)),
             tt,
           ),
         ),
@@ -75,33 +69,29 @@ module _ (S : Sheet) (ps : List Place) (p : ℕ) (left : p < 5 * S .N) where
 
 -- what a call in its turn gives
 module _ (J : Jobs) (laws : Laws J) (G : Given) (ok : GivenOk G) (s : State) (inv : Inv J G s) (p : ℕ) (left : p < 5 * G .sheet .N) where
-  module _ (j : Job) (c : ℕ) (below : c < count G) (here : place (s .places) c ≡ unmarkedAt p) (t : p % 5 ≡ turn j) where
-    abbrev bad : Bool
-    bad = isBlown G c (fixed J G (suc p) c)
+  module _ (j : Job) (c : ℕ) (below : c < count G) (here : place (s .places) c .position ≡ p) (free : place (s .places) c .mark ≡ false) (t : p % 5 ≡ turn j) where
+    abbrev told : Seen → Plain
+    told x = record { answer = reply j x; places = set (s .places) c (advance j x (place (s .places) c)) }
 
-    accepted : plain J G (on j c) (s .places) ≡ record { answer = reply j bad; places = set (s .places) c (advance j bad (unmarkedAt p)) }
+    accepted : plain J G (on j c) (s .places) ≡ told (seenAt J G p c)
     unfolding plain
     accepted =
-        ap (λ (r : ℕ). plainSettle r (s .places) (plainAccept J G (on j c) (s .places))) (on-turn (G .sheet) (s .places) p left j c below here t)
-        ∙ ap
-        (λ (q : Place).
-        let b = isBlown G c (fixed J G (suc (q .position)) c) in
-        record { answer = reply j b; places = set (s .places) c (advance j b q) })
-        here
+        ap (λ (r : ℕ). plainSettle r (s .places) (plainAccept J G (on j c) (s .places))) (on-turn (G .sheet) (s .places) p left j c below here free t)
+        ∙ ap (λ (k : ℕ). told (seenAt J G k c)) here
 
-    pub on-answer : call J G (on j c) s .answer ≡ reply j bad
+    pub on-answer : call J G (on j c) s .answer ≡ reply j (seenAt J G p c)
     on-answer = call-good J laws G ok s inv (on j c) .same-answer ∙ ap (λ (o : Plain). o .answer) accepted
 
-    pub on-places : call J G (on j c) s .after .places ≡ set (s .places) c (advance j bad (unmarkedAt p))
+    pub on-places : call J G (on j c) s .after .places ≡ set (s .places) c (advance j (seenAt J G p c) (place (s .places) c))
     on-places = call-good J laws G ok s inv (on j c) .same-places ∙ ap (λ (o : Plain). o .places) accepted
 
-  module _ (here : (c : ℕ) → c < count G → place (s .places) c ≡ unmarkedAt p) (t : p % 5 ≡ 2) where
-    all-accepted : plain J G blend (s .places) ≡ record { answer = done; places = map blended (s .places) }
+  module _ (here : (c : ℕ) → c < count G → place (s .places) c .position ≡ p) (free : (c : ℕ) → c < count G → place (s .places) c .mark ≡ false) (t : p % 5 ≡ 2) where
+    all-accepted : plain J G blend (s .places) ≡ record { answer = done; places = map onward (s .places) }
     unfolding plain
-    all-accepted = ap (λ (r : ℕ). plainSettle r (s .places) (plainAccept J G blend (s .places))) (blend-turn (G .sheet) (s .places) p left here t)
+    all-accepted = ap (λ (r : ℕ). plainSettle r (s .places) (plainAccept J G blend (s .places))) (blend-turn (G .sheet) (s .places) p left here free t)
 
     pub blend-answer : call J G blend s .answer ≡ done
     blend-answer = call-good J laws G ok s inv blend .same-answer ∙ ap (λ (o : Plain). o .answer) all-accepted
 
-    pub blend-places : call J G blend s .after .places ≡ map blended (s .places)
+    pub blend-places : call J G blend s .after .places ≡ map onward (s .places)
     blend-places = call-good J laws G ok s inv blend .same-places ∙ ap (λ (o : Plain). o .places) all-accepted

@@ -9,18 +9,18 @@ use Prim.Native.Nat.{ℕ, zero, suc, _+_, _*_, _%_, _≤_, _<_}
 use native.Mathlib.Omega.{arith}
 use native.Mathlib.Numerals.{add-one}
 use native.Mathlib.Decide.{ℕ-discrete, decLt}
-use lib.ListN.{length, set, take, length-map, length-take}
+use lib.ListN.{length, set}
 use lib.Dec.{eqb, ltb}
 use lib.IntN.{ℤ}
 use borrow.Author.Tests.{lt-ltb, le-ltb}
 use Rattle.scalar.specs.Buffers.{Buffers}
 use Rattle.calls.specs.Run.{Given, Sheet, Place, fresh, place, count, area, among}
 use Rattle.calls.specs.Buffers.{Plane, Prior, Gradient, Across, Down, Saved, Sized}
-use Rattle.calls.specs.Jobs.{Job, push, fidelity, move, project, Call, on, blend, turn, fixed, isBlown}
+use Rattle.calls.specs.Jobs.{Job, push, fidelity, move, project, Call, on, blend, turn, fixed, isBlown, Seen, seenAt}
 use Rattle.calls.specs.Calls as Calls
-use Rattle.calls.specs.Calls.{Outcome, refused, done, blown, settle, advance, blended, reply, call}
+use Rattle.calls.specs.Calls.{Outcome, refused, done, blown, advance, onward, reply, call}
 use Rattle.calls.specs.Between.{GivenOk, Inv}
-use Rattle.calls.proofs.Legal.{place-here, place-elsewhere}
+use Rattle.calls.proofs.Legal.{advance-position, place-here, place-elsewhere}
 use Rattle.calls.proofs.Tests.{getD-map-lt}
 use Rattle.calls.proofs.Step.{call-good}
 use Rattle.demand.specs.Solver.{jobs}
@@ -29,17 +29,13 @@ use Rattle.record.specs.declared.Run.{Run}
 use Rattle.record.specs.declared.Answer.{Answer}
 use Rattle.record.proofs.Answer.{the-type}
 use Rattle.record.specs.declared.Answer.the-variants.{Refused, Done, Blown}
-use Rattle.record.specs.Model.{placeOf, sheetOf, placesOf, givenOf, answerOf}
+use Rattle.record.specs.Model.{sheetOf, placesOf, givenOf, answerOf}
 use Rattle.record.proofs.Placed.{sheet-stays, places-placed}
-use Rattle.run.specs.Public.{Result, result, gave, stateOf}
-use Rattle.serve.specs.Serve.{numbered, numberedOf}
+use Rattle.run.specs.Public.{Result, result, gave, stateOf, callOf}
+use Rattle.serve.specs.Serve.{numbered}
 use Rattle.solve.specs.Solve.{blowsAt}
-use Rattle.solve.specs.Rounds.{unmarkedAt, AllAt, passed, Within, turns, roundBlows, RoundAsks, RoundIs}
+use Rattle.solve.specs.Rounds.{AllAt, passed, Within, turns, roundBlows, RoundAsks, RoundIs}
 use Rattle.solve.proofs.Rounds.{among-false, among-true, on-answer, on-places, blend-answer, blend-places}
-
--- the record has as many channels as its count says, where each has a place
-pub counted : (r : Run) (n : ℕ) → length (placesOf r) ≡ n → r .count ≡ n → r .count ≤ length (r .channels)
-counted r n e f = omega (arith, length-map (take (r .count) (r .channels)) placeOf, length-take (r .count) (r .channels))
 
 -- ---- what a call by its number leaves, where it is the model's call x
 
@@ -54,13 +50,10 @@ module _ (G : Given) (ok : GivenOk G) (r : Run) (B : Buffers) (same : sheetOf r 
   pub same-answer : call jobs G x (stateOf r B) .answer ≡ answerOf a
   same-answer = ap (λ (y : Result). y .answer) gives
 
-  channels-long : r .count ≤ length (r .channels)
-  channels-long = counted r (count G) (inv .legal-places .long) (ap (λ (S : Sheet). S .count) same)
-
   pub same-places : placesOf r′ ≡ call jobs G x (stateOf r B) .after .places
   same-places =
       ap (λ (y : Result). placesOf (y .run)) (sym gives)
-      ∙ places-placed r (call jobs G x (stateOf r B) .after .places) (good .legal-places .long ∙ sym (ap (λ (S : Sheet). S .count) same)) channels-long
+      ∙ places-placed r (call jobs G x (stateOf r B) .after .places) (good .legal-places .long ∙ sym (inv .legal-places .long))
 
   pub same-sheet : sheetOf r′ ≡ G .sheet
   same-sheet = ap (λ (y : Result). sheetOf (y .run)) (sym gives) ∙ sheet-stays r (call jobs G x (stateOf r B) .after .places) ∙ same
@@ -74,35 +67,47 @@ module _ (G : Given) (ok : GivenOk G) (r : Run) (B : Buffers) (same : sheetOf r 
 -- ---- a job of one channel: by its answer
 
 module _ (j : Job) (p : ℕ) (t : p % 5 ≡ turn j) where
-  not-refused : (b : Bool) (n : ℕ) → reply j b ≡ refused n → ⊥
-  not-refused b n = go j b
+  not-refused : (x : Seen) (n : ℕ) → reply j x ≡ refused n → ⊥
+  not-refused x n = go j
     where
-      go : (j : Job) (b : Bool) → reply j b ≡ refused n → ⊥
-      go push b e = let z : _≡_ {A = ℕ} 0 1 = cc in omega arith
-      go fidelity b e = let z : _≡_ {A = ℕ} 0 1 = cc in omega arith
-      go move b e = let z : _≡_ {A = ℕ} 0 1 = cc in omega arith
-      go project true e = let z : _≡_ {A = ℕ} 0 1 = cc in omega arith
-      go project false e = let z : _≡_ {A = ℕ} 0 1 = cc in omega arith
+      either : (b : Bool) → cond b blown done ≡ refused n → ⊥
+      either true e = let z : _≡_ {A = ℕ} 0 1 = cc in omega arith
+      either false e = let z : _≡_ {A = ℕ} 0 1 = cc in omega arith
 
-  done-on : (b : Bool) → reply j b ≡ done → (advance j b (unmarkedAt p) ≡ unmarkedAt (suc p)) × ((eqb (p % 5) 4 && b) ≡ false)
-  done-on b = rw t (go j b)
-    where
-      go : (j : Job) (b : Bool) → reply j b ≡ done → (advance j b (unmarkedAt p) ≡ unmarkedAt (suc p)) × ((eqb (turn j) 4 && b) ≡ false)
-      go push b e = (refl, refl)
-      go fidelity b e = (refl, refl)
-      go move b e = (refl, refl)
-      go project true e = let z : _≡_ {A = ℕ} 0 1 = cc in absurd (omega arith)
-      go project false e = (refl, refl)
+      go : (j : Job) → reply j x ≡ refused n → ⊥
+      go push e = either false e
+      go fidelity e = either false e
+      go move e = either false e
+      go project e = either (x .blown) e
 
-  blown-on : (b : Bool) → reply j b ≡ blown → (eqb (p % 5) 4 && b) ≡ true
-  blown-on b = rw t (go j b)
+  done-on : (x : Seen) (q : Place) → q .mark ≡ false → reply j x ≡ done → (advance j x q .mark ≡ false) × ((eqb (p % 5) 4 && x .blown) ≡ false)
+  done-on x q m = rw t (go j)
     where
-      go : (j : Job) (b : Bool) → reply j b ≡ blown → (eqb (turn j) 4 && b) ≡ true
-      go push b e = let z : _≡_ {A = ℕ} 0 1 = cc in absurd (omega arith)
-      go fidelity b e = let z : _≡_ {A = ℕ} 0 1 = cc in absurd (omega arith)
-      go move b e = let z : _≡_ {A = ℕ} 0 1 = cc in absurd (omega arith)
-      go project true e = refl
-      go project false e = let z : _≡_ {A = ℕ} 0 1 = cc in absurd (omega arith)
+      fine : (b : Bool) → cond b blown done ≡ done → b ≡ false
+      fine true e = let z : _≡_ {A = ℕ} 0 1 = cc in absurd (omega arith)
+      fine false e = refl
+
+      go : (j : Job) → reply j x ≡ done → (advance j x q .mark ≡ false) × ((eqb (turn j) 4 && x .blown) ≡ false)
+      go push e = (m, refl)
+      go fidelity e = (m, refl)
+      go move e = (m, refl)
+      go project e = (fine (x .blown) e, fine (x .blown) e)
+
+  blown-on : (x : Seen) → reply j x ≡ blown → (eqb (p % 5) 4 && x .blown) ≡ true
+  blown-on x = rw t (go j)
+    where
+      bad : (b : Bool) → cond b blown done ≡ blown → b ≡ true
+      bad true e = refl
+      bad false e = let z : _≡_ {A = ℕ} 0 1 = cc in absurd (omega arith)
+
+      never : {X : Type 0} → done ≡ blown → X
+      never e = let z : _≡_ {A = ℕ} 0 1 = cc in absurd (omega arith)
+
+      go : (j : Job) → reply j x ≡ blown → (eqb (turn j) 4 && x .blown) ≡ true
+      go push e = never e
+      go fidelity e = never e
+      go move e = never e
+      go project e = bad (x .blown) e
 
   -- no blend: the channels below i are passed
   passed-is : (i c : ℕ) → passed (p % 5) i c ≡ ltb c i
@@ -148,43 +153,51 @@ StepIs G p i Blown r B = (i < count G) × (blowsAt G i p ≡ true) × Sized (cou
 
 module _ (G : Given) (ok : GivenOk G) (p : ℕ) (left : p < 5 * G .sheet .N) (i : ℕ) (r : Run) (B : Buffers) (w : Within G p i r B) (r′ : Run) (B′ : Buffers) where
   module _ (j : Job) (t : p % 5 ≡ turn j) (below : i < count G) where
-    here : place (placesOf r) i ≡ unmarkedAt p
-    here = w .each i below ∙ ap (λ (b : Bool). unmarkedAt (cond b (suc p) p)) (passed-is j p t i i ∙ le-ltb i i (omega arith))
+    here : place (placesOf r) i .position ≡ p
+    here = w .at-place i below ∙ ap (λ (b : Bool). cond b (suc p) p) (passed-is j p t i i ∙ le-ltb i i (omega arith))
 
-    bad : Bool
-    bad = isBlown G i (fixed jobs G (suc p) i)
+    x : Seen
+    x = seenAt jobs G p i
+
+    q : Place
+    q = advance j (seenAt jobs G p i) (place (placesOf r) i)
+
+    long : i < length (placesOf r)
+    long = omega (arith, w .inv .legal-places .long)
 
     module _ (a : Answer) (gives : result r (call jobs G (on j i) (stateOf r B)) ≡ gave a r′ B′) where
-      replied : reply j bad ≡ answerOf a
-      unfolding bad
+      replied : reply j x ≡ answerOf a
+      unfolding x
       replied =
-          sym (on-answer jobs laws G ok (stateOf r B) (w .inv) p left j i below here t)
+          sym (on-answer jobs laws G ok (stateOf r B) (w .inv) p left j i below here (w .unmarked i below) t)
           ∙ same-answer G ok r B (w .sheet) (w .inv) (on j i) a r′ B′ gives
 
-      places-now : placesOf r′ ≡ set (placesOf r) i (advance j bad (unmarkedAt p))
-      unfolding bad
+      places-now : placesOf r′ ≡ set (placesOf r) i q
+      unfolding q
       places-now =
           same-places G ok r B (w .sheet) (w .inv) (on j i) a r′ B′ gives
-          ∙ on-places jobs laws G ok (stateOf r B) (w .inv) p left j i below here t
+          ∙ on-places jobs laws G ok (stateOf r B) (w .inv) p left j i below here (w .unmarked i below) t
 
       inv-now : Inv jobs G (stateOf r′ B′)
       inv-now = inv-after G ok r B (w .sheet) (w .inv) (on j i) a r′ B′ gives
 
-      each-now : advance j bad (unmarkedAt p) ≡ unmarkedAt (suc p)
-          → (c : ℕ) → c < count G → place (placesOf r′) c ≡ unmarkedAt (cond (passed (p % 5) (suc i) c) (suc p) p)
-      each-now e c h =
-          ap (λ (ps : List Place). place ps c) (places-now ∙ ap (set (placesOf r) i) e)
+      now-at : (c : ℕ) → c < count G → place (placesOf r′) c .position ≡ cond (passed (p % 5) (suc i) c) (suc p) p
+      unfolding q
+      now-at c h =
+          ap (λ (ps : List Place). place ps c .position) places-now
           ∙ elim (ℕ-discrete i c) [
-            | yes q ↦
-                subst (λ (d : ℕ). place (set (placesOf r) i (unmarkedAt (suc p))) d ≡ unmarkedAt (cond (ltb d (suc i)) (suc p) p)) q
-                (place-here (placesOf r) i (unmarkedAt (suc p)) (omega (arith, w .inv .legal-places .long))
-                ∙ ap (λ (b : Bool). unmarkedAt (cond b (suc p) p)) (sym (lt-ltb i (suc i) (omega arith))))
+            | yes e ↦
+                subst (λ (d : ℕ). place (set (placesOf r) i q) d .position ≡ cond (ltb d (suc i)) (suc p) p) e
+                (ap (λ (k : Place). k .position) (place-here (placesOf r) i q long)
+                ∙ advance-position j (seenAt jobs G p i) (place (placesOf r) i)
+                ∙ ap suc here
+                ∙ ap (λ (b : Bool). cond b (suc p) p) (sym (lt-ltb i (suc i) (omega arith))))
             | no f ↦
-                place-elsewhere (placesOf r) i (unmarkedAt (suc p)) c f
-                ∙ w .each c h
-                ∙ ap (λ (b : Bool). unmarkedAt (cond b (suc p) p)) (passed-is j p t i c ∙ one-more c f)
+                ap (λ (k : Place). k .position) (place-elsewhere (placesOf r) i q c f)
+                ∙ w .at-place c h
+                ∙ ap (λ (b : Bool). cond b (suc p) p) (passed-is j p t i c ∙ one-more c f)
           ]
-          ∙ ap (λ (b : Bool). unmarkedAt (cond b (suc p) p)) (sym (passed-is j p t (suc i) c))
+          ∙ ap (λ (b : Bool). cond b (suc p) p) (sym (passed-is j p t (suc i) c))
         where
           one-more : (c : ℕ) → i ≢ c → ltb c i ≡ ltb c (suc i)
           one-more c f =
@@ -193,53 +206,66 @@ module _ (G : Given) (ok : GivenOk G) (p : ℕ) (left : p < 5 * G .sheet .N) (i 
                 | no q ↦ le-ltb c i (omega arith) ∙ sym (le-ltb c (suc i) (omega arith))
               ]
 
+      now-unmarked : q .mark ≡ false → (c : ℕ) → c < count G → place (placesOf r′) c .mark ≡ false
+      now-unmarked m c h =
+          ap (λ (ps : List Place). place ps c .mark) places-now
+          ∙ elim (ℕ-discrete i c) [
+            | yes e ↦
+                subst (λ (d : ℕ). place (set (placesOf r) i q) d .mark ≡ false) e (ap (λ (k : Place). k .mark) (place-here (placesOf r) i q long) ∙ m)
+            | no f ↦ ap (λ (k : Place). k .mark) (place-elsewhere (placesOf r) i q c f) ∙ w .unmarked c h
+          ]
+
     on-step : (a : Answer) → result r (call jobs G (on j i) (stateOf r B)) ≡ gave a r′ B′ → StepIs G p i a r′ B′
-    unfolding bad blowsAt
-    on-step (Refused n) g = not-refused j p t bad n (replied (Refused n) g)
+    unfolding x q blowsAt
+    on-step (Refused n) g = not-refused j p t x n (replied (Refused n) g)
     on-step Done g =
-        let d = done-on j p t bad (replied Done g) in (
-          record { sheet = same-sheet G ok r B (w .sheet) (w .inv) (on j i) Done r′ B′ g; inv = inv-now Done g; each = each-now Done g (d .0) },
+        let d = done-on j p t x (place (placesOf r) i) (w .unmarked i below) (replied Done g) in (
+          record {
+            sheet = same-sheet G ok r B (w .sheet) (w .inv) (on j i) Done r′ B′ g;
+            inv = inv-now Done g;
+            at-place = now-at Done g;
+            unmarked = now-unmarked Done g (d .0);
+          },
           d .1,
         )
-    on-step Blown g = (below, blown-on j p t bad (replied Blown g), inv-now Blown g .sized)
+    on-step Blown g = (below, blown-on j p t x (replied Blown g), inv-now Blown g .sized)
 
   -- blend: one call for all channels
   module _ (t : p % 5 ≡ 2) (first : i ≡ 0) where
-    all-here : (c : ℕ) → c < count G → place (placesOf r) c ≡ unmarkedAt p
-    all-here c h = w .each c h ∙ ap (λ (b : Bool). unmarkedAt (cond b (suc p) p)) (ap (λ (k : ℕ). passed k i c) t ∙ ap (λ (k : ℕ). ltb 0 k) first)
-
-    not-project : (b : Bool) → (eqb (p % 5) 4 && b) ≡ false
-    not-project b = ap (λ (k : ℕ). eqb k 4 && b) t
+    all-here : (c : ℕ) → c < count G → place (placesOf r) c .position ≡ p
+    all-here c h = w .at-place c h ∙ ap (λ (b : Bool). cond b (suc p) p) (ap (λ (k : ℕ). passed k i c) t ∙ ap (λ (k : ℕ). ltb 0 k) first)
 
     blend-step : (a : Answer) → result r (call jobs G blend (stateOf r B)) ≡ gave a r′ B′ → StepIs G p i a r′ B′
     unfolding blowsAt
     blend-step a g =
         let says : done ≡ answerOf a =
-        sym (blend-answer jobs laws G ok (stateOf r B) (w .inv) p left all-here t) ∙ same-answer G ok r B (w .sheet) (w .inv) blend a r′ B′ g in
-        let places : placesOf r′ ≡ map blended (placesOf r) =
-        same-places G ok r B (w .sheet) (w .inv) blend a r′ B′ g ∙ blend-places jobs laws G ok (stateOf r B) (w .inv) p left all-here t in
+        sym (blend-answer jobs laws G ok (stateOf r B) (w .inv) p left all-here (w .unmarked) t) ∙ same-answer G ok r B (w .sheet) (w .inv) blend a r′ B′ g in
+        let places : placesOf r′ ≡ map onward (placesOf r) =
+        same-places G ok r B (w .sheet) (w .inv) blend a r′ B′ g ∙ blend-places jobs laws G ok (stateOf r B) (w .inv) p left all-here (w .unmarked) t in
         let now : Inv jobs G (stateOf r′ B′) = inv-after G ok r B (w .sheet) (w .inv) blend a r′ B′ g in
         go a says places now (same-sheet G ok r B (w .sheet) (w .inv) blend a r′ B′ g)
       where
-        go : (a : Answer) → done ≡ answerOf a → placesOf r′ ≡ map blended (placesOf r) → Inv jobs G (stateOf r′ B′) → sheetOf r′ ≡ G .sheet → StepIs G p i a r′ B′
-        go (Refused n) e q v s = let z : _≡_ {A = ℕ} 0 1 = cc in omega arith
-        go Blown e q v s = let z : _≡_ {A = ℕ} 0 1 = cc in absurd (omega arith)
-        go Done e q v s = (
-          record {
-            sheet = s;
-            inv = v;
-            each =
-                λ c h.
-                ap (λ (ps : List Place). place ps c) q
-                ∙ getD-map-lt blended (placesOf r) fresh fresh c (omega (arith, w .inv .legal-places .long))
-                ∙ ap blended (all-here c h)
-                ∙ ap (λ (b : Bool). unmarkedAt (cond b (suc p) p)) (sym (ap (λ (k : ℕ). passed k (suc i) c) t ∙ lt-ltb 0 (suc i) (omega arith)));
-          },
-          not-project (isBlown G i (fixed jobs G (suc p) i)),
-        )
+        go : (a : Answer) → done ≡ answerOf a → placesOf r′ ≡ map onward (placesOf r) → Inv jobs G (stateOf r′ B′) → sheetOf r′ ≡ G .sheet → StepIs G p i a r′ B′
+        go (Refused n) e o v s = let z : _≡_ {A = ℕ} 0 1 = cc in omega arith
+        go Blown e o v s = let z : _≡_ {A = ℕ} 0 1 = cc in absurd (omega arith)
+        go Done e o v s =
+            let each : (c : ℕ) → c < count G → place (placesOf r′) c ≡ onward (place (placesOf r) c) =
+            λ c h. ap (λ (ps : List Place). place ps c) o ∙ getD-map-lt onward (placesOf r) fresh fresh c (omega (arith, w .inv .legal-places .long)) in (
+              record {
+                sheet = s;
+                inv = v;
+                at-place =
+                    λ c h.
+                    ap (λ (k : Place). k .position) (each c h)
+                    ∙ ap suc (all-here c h)
+                    ∙ ap (λ (b : Bool). cond b (suc p) p) (sym (ap (λ (k : ℕ). passed k (suc i) c) t ∙ lt-ltb 0 (suc i) (omega arith)));
+                unmarked = λ c h. ap (λ (k : Place). k .mark) (each c h) ∙ w .unmarked c h;
+              },
+              ap (λ (k : ℕ). eqb k 4 && isBlown G i (fixed jobs G (suc p) i)) t,
+            )
 
   -- the round's next call, by the job's number
-  pub next-call : i < turns (p % 5) (count G) → (a : Answer) → numberedOf r (p % 5) i (G .levels) (G .tables) B ≡ gave a r′ B′ → StepIs G p i a r′ B′
+  pub next-call : i < turns (p % 5) (count G) → (a : Answer) → callOf r (numbered (p % 5) i) (G .levels) (G .tables) B ≡ gave a r′ B′ → StepIs G p i a r′ B′
   next-call more a g = go (job-of (p % 5) (omega arith))
     where
       given-is : givenOf r (G .levels) (G .tables) ≡ G
@@ -247,10 +273,7 @@ module _ (G : Given) (ok : GivenOk G) (p : ℕ) (left : p < 5 * G .sheet .N) (i 
 
       plainly : result r (call jobs G (numbered (p % 5) i) (stateOf r B)) ≡ gave a r′ B′
       plainly =
-          ap (λ (H : Given). result r (call jobs H (numbered (p % 5) i) (stateOf r B))) (sym given-is)
-          ∙ ap (λ (n : ℕ). result r (settle n (stateOf r B) (call jobs (givenOf r (G .levels) (G .tables)) (numbered (p % 5) i) (stateOf r B))))
-          (sym (ap (λ (b : Bool). cond b 0 9) (lt-ltb (p % 5) 5 (omega arith))))
-          ∙ g
+          ap (λ (H : Given). result r (call jobs H (numbered (p % 5) i) (stateOf r B))) (sym given-is) ∙ g
 
       go : ((j : Job) × (p % 5 ≡ turn j)) ⊎ (p % 5 ≡ 2) → StepIs G p i a r′ B′
       go (inl q) =
@@ -265,7 +288,8 @@ module _ (G : Given) (ok : GivenOk G) (p : ℕ) (left : p < 5 * G .sheet .N) (i 
 
 module _ (G : Given) (p : ℕ) (r : Run) (B : Buffers) where
   pub none-passed : AllAt G p r B → Within G p 0 r B
-  none-passed h = record { sheet = h .sheet; inv = h .inv; each = λ c l. h .each c l ∙ ap (λ (b : Bool). unmarkedAt (cond b (suc p) p)) (sym (none c)) }
+  none-passed h =
+      record { sheet = h .sheet; inv = h .inv; at-place = λ c l. h .at-place c l ∙ ap (λ (b : Bool). cond b (suc p) p) (sym (none c)); unmarked = h .unmarked }
     where
       none : (c : ℕ) → passed (p % 5) 0 c ≡ false
       none c = same (eqb (p % 5) 2) (le-ltb c 0 (omega arith))
@@ -276,7 +300,7 @@ module _ (G : Given) (p : ℕ) (r : Run) (B : Buffers) where
 
   pub all-passed : Within G p (turns (p % 5) (count G)) r B → AllAt G (suc p) r B
   all-passed h =
-      record { sheet = h .sheet; inv = h .inv; each = λ c l. h .each c l ∙ ap (λ (b : Bool). unmarkedAt (cond b (suc p) p)) (all c l) }
+      record { sheet = h .sheet; inv = h .inv; at-place = λ c l. h .at-place c l ∙ ap (λ (b : Bool). cond b (suc p) p) (all c l); unmarked = h .unmarked }
     where
       all : (c : ℕ) → c < count G → passed (p % 5) (turns (p % 5) (count G)) c ≡ true
       all c l = same (eqb (p % 5) 2) (lt-ltb c (count G) l)
@@ -336,7 +360,7 @@ module _ (r₀ : Run) (p : ℕ) (levels : List ℤ) (tables : List ℕ) (B₀ : 
 
   module _ (n i : ℕ) (is : n ≡ turns (p % 5) (count G)) (r : Run) (B : Buffers) (h : Passing G p n i r B₀ B) where
     -- a call that was answered `done`, and one that was not
-    pub goes-on : i < n → (a : Answer) (r′ : Run) (B′ : Buffers) → numberedOf r (p % 5) i levels tables B ≡ gave a r′ B′ → OneOf (1 ∷ []) (tagOf the-type a)
+    pub goes-on : i < n → (a : Answer) (r′ : Run) (B′ : Buffers) → callOf r (numbered (p % 5) i) levels tables B ≡ gave a r′ B′ → OneOf (1 ∷ []) (tagOf the-type a)
         → Passing G p n (i + 1) r′ B₀ B′
     goes-on more a r′ B′ g one = go a one (next-call G (asks .ok) p (asks .left) i r B (h .within) r′ B′ (omega arith) a g)
       where
@@ -352,7 +376,7 @@ module _ (r₀ : Run) (p : ℕ) (levels : List ℤ) (tables : List ℕ) (B₀ : 
               kept = kept-of (count G * area G) B₀ B′ (asks .all .inv .sized) (s .0 .inv .sized);
             }
 
-    pub stops : i < n → (a : Answer) (r′ : Run) (B′ : Buffers) → numberedOf r (p % 5) i levels tables B ≡ gave a r′ B′ → OneOf (0 ∷ 2 ∷ []) (tagOf the-type a)
+    pub stops : i < n → (a : Answer) (r′ : Run) (B′ : Buffers) → callOf r (numbered (p % 5) i) levels tables B ≡ gave a r′ B′ → OneOf (0 ∷ 2 ∷ []) (tagOf the-type a)
         → RoundIs G p a r′ B′
     stops more a r′ B′ g one = go a one (next-call G (asks .ok) p (asks .left) i r B (h .within) r′ B′ (omega arith) a g)
       where

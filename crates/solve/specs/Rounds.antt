@@ -7,27 +7,25 @@ use lib.IntN.{ℤ}
 use lib.Dec.{eqb, ltb}
 use lib.ListN.{length}
 use Rattle.scalar.specs.Buffers.{Buffers}
-use Rattle.calls.specs.Run.{Given, Place, place, count, area, levelsBefore, among}
-use Rattle.calls.specs.Buffers.{Sized, join, channel, putChannel}
+use Rattle.calls.specs.Run.{Given, place, count, area, levelsBefore, among}
+use Rattle.calls.specs.Buffers.{Sized, channel, putChannel}
 use Rattle.calls.specs.Calls.{lengths, allSix}
 use Rattle.calls.specs.Between.{GivenOk, Inv}
 use Rattle.demand.specs.Solver.{jobs}
 use Rattle.record.specs.declared.Run.{Run}
 use Rattle.record.specs.declared.Answer.{Answer}
 use Rattle.record.specs.declared.Answer.the-variants.{Refused, Done, Blown}
-use Rattle.record.specs.Model.{Legal, sheetOf, placesOf, givenOf}
+use Rattle.record.specs.Model.{Legal, sheetOf, placesOf, givenOf, answerOf}
 use Rattle.run.specs.Public.{stateOf}
 use Rattle.sheet.specs.declared.Sheet.{Sheet}
-use Rattle.solve.specs.Solve.{blowsAt, jobCount, planeOf, runBlows, Ends, RunIs, joint, alone, aloneGiven, levelsFor, tablesFor, solveRefusal}
-
-abbrev pub unmarkedAt : ℕ → Place
-unmarkedAt p = record { position = p; mark = false }
+use Rattle.solve.specs.Solve.{blowsAt, jobCount, Ends, RunIs, joint, alone, levelsFor, tablesFor, separately, solveRefusal}
 
 -- the run's sheet is G's, demand 3's invariant holds, and channel c stands at `at c`, not marked
 pub record Stand (G : Given) (at : ℕ → ℕ) (r : Run) (B : Buffers) : Type 0 where
   pub sheet : sheetOf r ≡ G .sheet
   pub inv : Inv jobs G (stateOf r B)
-  pub each : (c : ℕ) → c < count G → place (placesOf r) c ≡ unmarkedAt (at c)
+  pub at-place : (c : ℕ) → c < count G → place (placesOf r) c .position ≡ at c
+  pub unmarked : (c : ℕ) → c < count G → place (placesOf r) c .mark ≡ false
 
 -- between the rounds all channels stand at p
 abbrev pub AllAt : Given → ℕ → Run → Buffers → Type 0
@@ -107,5 +105,4 @@ pub record SeparateAsks (S : Sheet) (levels : List ℤ) (tables : List ℕ) (B :
 
 abbrev pub SeparateIs : Sheet → List ℤ → List ℕ → Buffers → Answer → Buffers → Type 0
 SeparateIs S levels tables B a B′ =
-    Ends 0 (among (S .header .channels) (λ c. runBlows (aloneGiven S levels tables c)))
-    (join (S .header .channels) (λ c. planeOf (aloneGiven S levels tables c) 0)) B a B′
+    Ends 0 (separately S levels tables) B (answerOf a) B′

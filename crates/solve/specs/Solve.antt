@@ -15,15 +15,15 @@ use Rattle.sheet.specs.declared.Channel as Line
 use Rattle.sheet.specs.Legal.{channelAt}
 use Rattle.scalar.specs.Buffers.{Buffers}
 use Rattle.calls.specs.Run.{Given, count, levelsBefore, every, among, legal}
-use Rattle.calls.specs.Buffers.{Name, get, join}
+use Rattle.calls.specs.Buffers.{Name, get, joined}
 use Rattle.calls.specs.Jobs.{fixed, isBlown}
+use Rattle.calls.specs.Calls as Calls
 use Rattle.calls.specs.Calls.{lengths, allSix, startRefusal}
 use Rattle.demand.specs.Solver.{jobs}
 use Rattle.record.specs.declared.Run.{Run}
 use Rattle.record.specs.declared.Channel.{Channel}
 use Rattle.record.specs.declared.Answer.{Answer}
-use Rattle.record.specs.declared.Answer.the-variants.{Refused, Done}
-use Rattle.record.specs.Model.{sheetOf, placesOf, givenOf}
+use Rattle.record.specs.Model.{sheetOf, placesOf, givenOf, answerOf}
 
 -- ---- the runs of a sheet
 
@@ -86,13 +86,6 @@ aloneGiven S levels tables c = givenOf (alone S c) (levelsFor S levels c) (table
 abbrev pub jobCount : Given → ℕ
 jobCount G = 5 * G .sheet .N
 
--- "`solve` is the plane after 5N jobs; N = 0 gives the unprojected start."
-unfoldable pub planeOf : Given → ℕ → List Float
-planeOf G c = fixed jobs G (jobCount G) c .plane
-
-unfoldable pub planesOf : Given → List Float
-planesOf G = join (count G) (planeOf G)
-
 -- Job k of channel c, counted from 0, leaves it blown: it is a project, after which the condition of job 5 holds.
 unfoldable pub blowsAt : Given → ℕ → ℕ → Bool
 blowsAt G c k = eqb (k % 5) 4 && isBlown G c (fixed jobs G (suc k) c)
@@ -101,17 +94,41 @@ blowsAt G c k = eqb (k % 5) 4 && isBlown G c (fixed jobs G (suc k) c)
 unfoldable pub runBlows : Given → Bool
 runBlows G = among (jobCount G) (λ k. among (count G) (λ c. blowsAt G c k))
 
--- ---- both modes
+-- ---- what the runs leave, by what they are given
+
+pub record Whole : Type 0 where
+  -- channel after channel, the six buffers as they are fixed for 5N jobs
+  pub buffers : Buffers
+  -- a channel is blown
+  pub blown : Bool
+
+-- "`solve` is the plane after 5N jobs; N = 0 gives the unprojected start."
+unfoldable pub last : Given → ℕ → Buffers
+last G c = fixed jobs G (jobCount G) c
+
+-- a run of all its jobs
+unfoldable pub runOf : Given → Whole
+runOf G = record { buffers = joined (count G) (last G); blown = runBlows G }
+
+-- in separate mode the runs of all channels
+unfoldable pub separately : Sheet → List ℤ → List ℕ → Whole
+separately S levels tables =
+    record {
+      buffers = joined (S .header .channels) (λ c. last (aloneGiven S levels tables c) 0);
+      blown = among (S .header .channels) (λ c. runBlows (aloneGiven S levels tables c));
+    }
+
+-- both modes
+unfoldable pub wholeOf : Sheet → List ℤ → List ℕ → Whole
+wholeOf S levels tables = cond (S .header .joint) (runOf (jointGiven S levels tables)) (separately S levels tables)
 
 -- the planes of all channels, one after the other
-unfoldable pub planes : Sheet → List ℤ → List ℕ → List Float
-planes S levels tables =
-    cond (S .header .joint) (planesOf (jointGiven S levels tables)) (join (S .header .channels) (λ c. planeOf (aloneGiven S levels tables c) 0))
+abbrev pub planes : Sheet → List ℤ → List ℕ → List Float
+planes S levels tables = wholeOf S levels tables .buffers .plane
 
 -- "A blown channel ends the program with 10."
-unfoldable pub blows : Sheet → List ℤ → List ℕ → Bool
-blows S levels tables =
-    cond (S .header .joint) (runBlows (jointGiven S levels tables)) (among (S .header .channels) (λ c. runBlows (aloneGiven S levels tables c)))
+abbrev pub blows : Sheet → List ℤ → List ℕ → Bool
+blows S levels tables = wholeOf S levels tables .blown
 
 -- ---- what solve promises
 
@@ -135,18 +152,21 @@ solveRefusal S levels tables ls = cond (allLegal S) (startRefusal (jointGiven S 
 abbrev pub SameLengths : Buffers → Buffers → Type 0
 SameLengths B B′ = (b : Name) → length (get b B′) ≡ length (get b B)
 
--- How a whole run ends, by its refusal, 0 for none, and whether it blows: refused with the six as they were; 10, the six being free but for their
--- lengths; or done, the planes being these, and the other five free but for their lengths.
-abbrev pub Ends : ℕ → Bool → List Float → Buffers → Answer → Buffers → Type 0
-Ends (suc n) b xs B a B′ = (a ≡ Refused (suc n)) × (B′ ≡ B)
-Ends zero true xs B a B′ = (a ≡ Refused 10) × SameLengths B B′
-Ends zero false xs B a B′ = (a ≡ Done) × (B′ .plane ≡ xs) × SameLengths B B′
+-- How a whole run that is not refused ends, by whether it blows: blown, the six being free but for their lengths; or done, with the six.
+abbrev pub Ended : Bool → Whole → Buffers → Calls.Answer → Buffers → Type 0
+Ended true w B a B′ = (a ≡ Calls.blown) × SameLengths B B′
+Ended false w B a B′ = (a ≡ Calls.done) × (B′ ≡ w .buffers) × SameLengths B B′
+
+-- By its refusal, 0 for none: a refusal leaves the six as they were.
+abbrev pub Ends : ℕ → Whole → Buffers → Calls.Answer → Buffers → Type 0
+Ends (suc n) w B a B′ = (a ≡ Calls.refused (suc n)) × (B′ ≡ B)
+Ends zero w B a B′ = Ended (w .blown) w B a B′
 
 -- the run of one record, from its start to its last job
 abbrev pub RunIs : Run → List ℤ → List ℕ → Buffers → Answer → Buffers → Type 0
 RunIs r levels tables B a B′ =
     let G = givenOf r levels tables in
-    Ends (startRefusal G (placesOf r) (lengths allSix B)) (runBlows G) (planesOf G) B a B′
+    Ends (startRefusal G (placesOf r) (lengths allSix B)) (runOf G) B (answerOf a) B′
 
 abbrev pub SolveIs : Sheet → List ℤ → List ℕ → Buffers → Answer → Buffers → Type 0
-SolveIs S levels tables B a B′ = Ends (solveRefusal S levels tables (lengths allSix B)) (blows S levels tables) (planes S levels tables) B a B′
+SolveIs S levels tables B a B′ = Ends (solveRefusal S levels tables (lengths allSix B)) (wholeOf S levels tables) B (answerOf a) B′

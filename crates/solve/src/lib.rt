@@ -7,7 +7,7 @@ use record::Answer;
 use sheet::Sheet;
 ghost use Rattle.solve.specs.Solve.{six, SolveIs};
 
-// The planes of a sheet after 5N jobs, in its mode. It looks at everything first, and answers 10 where a channel is blown.
+// The six buffers of a sheet after 5N jobs, in its mode. It looks at everything first, and answers `Blown` where a channel is blown.
 // Rules out: the channel's own data weight in separate mode; the starting planes, or planes one step short, for those after the last job.
 pub fn solve(
     s: Sheet,

@@ -5,8 +5,8 @@ use record::Told;
 use run::values::start_value;
 use serve::jobs::job_value;
 ghost use mathlib.Core.Path.{_≡_};
-ghost use Rattle.record.specs.Model.{givenOf};
-ghost use Rattle.solve.specs.Solve.{six, runBlows, planesOf, Ends, RunIs};
+ghost use Rattle.record.specs.Model.{givenOf, answerOf};
+ghost use Rattle.solve.specs.Solve.{six, runOf, Ends, RunIs};
 ghost use Rattle.solve.specs.Rounds.{turns, RoundAsks, RoundIs, RunAsks};
 
 // How many calls a round makes: one for each channel, but one for all if the job is blend.
@@ -74,8 +74,8 @@ fn rounds(
     saved: &mut [f32],
 ) -> Answer
     requires { ⌜ RunAsks run (now levels) (now tables) (six (now plane) (now prior) (now gradient) (now across) (now down) (now saved)) ⌝ }
-    ensures { λ r. ⌜ Ends 0 (runBlows (givenOf run (now (levels .entry)) (now (tables .entry)))) (planesOf (givenOf run (now (levels .entry)) (now (tables .entry))))
-        (six (now (plane .entry)) (now (prior .entry)) (now (gradient .entry)) (now (across .entry)) (now (down .entry)) (now (saved .entry))) r
+    ensures { λ r. ⌜ Ends 0 (runOf (givenOf run (now (levels .entry)) (now (tables .entry))))
+        (six (now (plane .entry)) (now (prior .entry)) (now (gradient .entry)) (now (across .entry)) (now (down .entry)) (now (saved .entry))) (answerOf r)
         (six (now (plane .exit)) (now (prior .exit)) (now (gradient .exit)) (now (across .exit)) (now (down .exit)) (now (saved .exit))) ⌝ }
 {
     let mut next = run;
@@ -94,7 +94,7 @@ fn rounds(
         );
         let a = t.answer;
         let Answer::Done = a else {
-            return Answer::Refused(10);
+            return Answer::Blown;
         };
         next = t.run;
     }
