@@ -15,7 +15,7 @@
  * Everything else is checked: a length, number, level, quantiser, position or weight that is not usable is refused.
  *
  * Answers. 0 is done. 1 to 13 is a refusal: nothing that was lent has changed, except `*line` of measure and read. 255 (project
- * alone) is done, and the channel is now marked blown. smoother_solve's 10 is the one refusal that may change the buffers. */
+ * and smoother_solve) is done, and the channel is now marked blown, or a channel blew in the run. */
 #ifndef SMOOTHER_H
 #define SMOOTHER_H
 
@@ -43,7 +43,7 @@ enum smoother_answer {
     SMOOTHER_DONE = 11,    /* the channel, or for blend any channel, has had all its steps */
     SMOOTHER_CHANNEL = 12, /* there is no such channel */
     SMOOTHER_RECORD = 13,  /* sizes, factors, weights, iterations, positions or marks of no legal record */
-    SMOOTHER_NOW_BLOWN = 255 /* project: done, and the channel is now marked blown */
+    SMOOTHER_NOW_BLOWN = 255 /* project: done, and the channel is now marked blown; smoother_solve: a channel blew */
 };
 
 /* ---- Reading a sheet text ---- */
@@ -148,8 +148,8 @@ uint32_t smoother_serve(struct smoother_run *run, const uint8_t *jobs, size_t jo
 /* The whole run of a sheet, in its mode, by the SMOOTHER_NUMBERS numbers that smoother_read lends out: joint mode is one run, in separate mode
  * each channel is one. plane, prior, gradient, across, down and saved have channels x W x H values each in either mode; what they hold before
  * does not matter. Fields that no run of the sheet uses are not looked at.
- * 0: plane holds the planes after the last job; the contents of the other five are not promised.
- * 10: a channel is blown; the contents of the six are not promised.
+ * 0: the six hold each channel's after its last job, channel after channel; plane the planes.
+ * 255: a channel is blown; the contents of the six are not promised.
  * 8 for another count of numbers, 13 for a mode that is not 0 or 1 and for numbers of no legal sheet, 8, 4, 5: all six are unchanged. */
 uint32_t smoother_solve(const uint32_t *header, size_t header_len, const int16_t *levels, size_t levels_len, const uint16_t *tables,
                         size_t tables_len, float *plane, size_t plane_len, float *prior, size_t prior_len, float *gradient,

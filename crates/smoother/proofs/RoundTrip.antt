@@ -1,4 +1,4 @@
--- A sheet's record lent out as numbers and given back: what the whole run refuses, its planes and whether it blows are those of the sheet, in either form
+-- A sheet's record lent out as numbers and given back: what the whole run refuses and what it leaves are those of the sheet, in either form
 -- of its weights.
 use mathlib.Core.Path.{_≡_, refl, sym, ap, _∙_, fun-ext}
 use Prim.Native.Nat.{ℕ, suc}
@@ -16,13 +16,14 @@ use Rattle.sheet.specs.declared.Sheet.{Sheet}
 use Rattle.fold.specs.Part.{part}
 use Rattle.scalar.specs.Buffers.{Buffers}
 use Rattle.calls.specs.Run.{Given, levelsBefore, every, among}
-use Rattle.calls.specs.Buffers.{join}
-use Rattle.calls.specs.Calls.{startRefusal, lengths, allSix}
+use Rattle.calls.specs.Buffers.{joined}
+use Rattle.calls.specs.Calls.{Answer, startRefusal, lengths, allSix}
+use Rattle.serve.specs.Serve.{byteOf}
 use Rattle.record.specs.declared.Run.{Run}
 use Rattle.record.specs.Model.{sheetOf, placesOf, givenOf}
-use Rattle.solve.specs.Solve.{joint, alone, tablesFor, planeOf, planesOf, runBlows, planes, blows, isLegal, allLegal, solveRefusal, Ends, SolveIs}
+use Rattle.solve.specs.Solve.{joint, alone, tablesFor, runBlows, Whole, last, runOf, separately, wholeOf, isLegal, allLegal, solveRefusal, Ends}
 use Rattle.smoother.specs.Sheets.{numbersOf, weightBits}
-use Rattle.smoother.specs.Whole.{sheetOfNumbers, numbersRefusal, answerIn, SolveNumbers}
+use Rattle.smoother.specs.Whole.{sheetOfNumbers, numbersRefusal, SolveNumbers}
 
 value-fits : (w : Weight) → T (fits binary32 (valueOf w))
 unfolding valueOf
@@ -55,11 +56,10 @@ module _ (levels : List ℤ) (tables : List ℕ) where
   abbrev refusalBy : List ℕ → ℕ → Run → (ℕ → Run) → ℕ
   refusalBy ls n J A = cond (isLegal J && every n (λ c. isLegal (A c))) (startRefusal (givenOf J levels tables) (placesOf J) ls) 13
 
-  abbrev planesBy : Bool → ℕ → Run → (ℕ → Run) → List Float
-  planesBy b n J A = cond b (planesOf (givenOf J levels tables)) (join n (λ c. planeOf (ownGiven J A c) 0))
-
-  abbrev blowsBy : Bool → ℕ → Run → (ℕ → Run) → Bool
-  blowsBy b n J A = cond b (runBlows (givenOf J levels tables)) (among n (λ c. runBlows (ownGiven J A c)))
+  abbrev wholeBy : Bool → ℕ → Run → (ℕ → Run) → Whole
+  wholeBy b n J A =
+      cond b (runOf (givenOf J levels tables))
+      (record { buffers = joined n (λ c. last (ownGiven J A c) 0); blown = among n (λ c. runBlows (ownGiven J A c)) })
 
 module _ (S : Sheet) where
   abbrev S′ : Sheet
@@ -87,18 +87,15 @@ module _ (S : Sheet) where
     unfolding solveRefusal allLegal
     same-refusal ls = λ i. refusalBy levels tables ls (same-count i) (same-joint i) (fun-ext same-alone i)
 
-    pub same-planes : planes S′ levels tables ≡ planes S levels tables
-    unfolding planes
-    same-planes = λ i. planesBy levels tables (mode-kept i) (same-count i) (same-joint i) (fun-ext same-alone i)
-
-    pub same-blows : blows S′ levels tables ≡ blows S levels tables
-    unfolding blows
-    same-blows = λ i. blowsBy levels tables (mode-kept i) (same-count i) (same-joint i) (fun-ext same-alone i)
+    pub same-whole : wholeOf S′ levels tables ≡ wholeOf S levels tables
+    unfolding wholeOf separately
+    same-whole = λ i. wholeBy levels tables (mode-kept i) (same-count i) (same-joint i) (fun-ext same-alone i)
 
     same-numbers : (ls : List ℕ) → numbersRefusal (numbersOf S) levels tables ls ≡ solveRefusal S levels tables ls
     unfolding numbersRefusal numbersOf
     same-numbers ls = ap (λ (b : Bool). cond b (solveRefusal S′ levels tables ls) 13) (a-mode (S .header .joint)) ∙ same-refusal ls
 
     -- the exported call, lent the numbers of a sheet, does what `solve` does of the sheet
-    pub as-of-sheet : (B : Buffers) (k : ℕ) (B′ : Buffers) → SolveNumbers (numbersOf S) levels tables B k B′ ≡ SolveIs S levels tables B (answerIn k) B′
-    as-of-sheet B k B′ = λ i. Ends (same-numbers (lengths allSix B) i) (same-blows i) (same-planes i) B (answerIn k) B′
+    pub as-of-sheet : (B : Buffers) (k : ℕ) (B′ : Buffers)
+        → SolveNumbers (numbersOf S) levels tables B k B′ ≡ ((a : Answer) × (k ≡ byteOf a) × Ends (solveRefusal S levels tables (lengths allSix B)) (wholeOf S levels tables) B a B′)
+    as-of-sheet B k B′ = λ i. (a : Answer) × (k ≡ byteOf a) × Ends (same-numbers (lengths allSix B) i) (same-whole i) B a B′

@@ -9,23 +9,16 @@ use lib.IntN.{ℤ}
 use lib.Ieee.{Float}
 use borrow.Author.Tests.{eq-eqb, ne-eqb, le-leb, lt-leb}
 use Rattle.scalar.specs.Buffers.{Buffers}
+use Rattle.calls.specs.Calls as Calls
 use Rattle.calls.specs.Calls.{lengths, allSix}
 use Rattle.record.specs.declared.Answer.{Answer}
 use Rattle.record.specs.Model.{answerOf}
 use Rattle.serve.specs.Serve.{byteOf}
 use Rattle.sheet.specs.declared.Sheet.{Sheet}
-use Rattle.solve.specs.Solve.{solveRefusal, planes, blows, Ends, SolveIs}
+use Rattle.solve.specs.Solve.{solveRefusal, wholeOf, Ends, SolveIs}
 use Rattle.picture.specs.declared.Answer as drawn
 use Rattle.picture.specs.Finish.{Outcome, told, finishing}
-use Rattle.smoother.specs.Whole.{sheetOfNumbers, numbersRefusal, answerIn, SolveNumbers, toldNumber, FinishNumbers}
-
-abbrev numberOf : Answer → ℕ
-numberOf a = byteOf (answerOf a)
-
-ends-number : (n : ℕ) (b : Bool) (xs : List Float) (B : Buffers) (a : Answer) (k : ℕ) (B′ : Buffers) → Ends n b xs B a B′ → k ≡ byteOf (answerOf a) → Ends n b xs B (answerIn k) B′
-ends-number (suc n) b xs B a k B′ h e = (ap answerIn (e ∙ ap numberOf (h .0)), h .1)
-ends-number zero true xs B a k B′ h e = (ap answerIn (e ∙ ap numberOf (h .0)), h .1)
-ends-number zero false xs B a k B′ h e = (ap answerIn (e ∙ ap numberOf (h .0)), h .1, h .2)
+use Rattle.smoother.specs.Whole.{sheetOfNumbers, numbersRefusal, SolveNumbers, toldNumber, FinishNumbers}
 
 module _ (ns : List ℕ) (levels : List ℤ) (tables : List ℕ) (B : Buffers) where
   abbrev S : Sheet
@@ -36,25 +29,25 @@ module _ (ns : List ℕ) (levels : List ℤ) (tables : List ℕ) (B : Buffers) w
 
   -- how the call ends, by its refusal
   abbrev End : ℕ → ℕ → Buffers → Type 0
-  End n k B′ = Ends n (blows S levels tables) (planes S levels tables) B (answerIn k) B′
+  End n k B′ = (a : Calls.Answer) × (k ≡ byteOf a) × Ends n (wholeOf S levels tables) B a B′
 
   pub no-record : (length ns ≡ 27 → ⊥) → SolveNumbers ns levels tables B 8 B
   unfolding numbersRefusal
-  no-record h = subst (λ (b : Bool). End (cond b (cond (leb (getD ns 5 0) 1) R 13) 8) 8 B) (sym (ne-eqb (length ns) 27 h)) (refl, refl)
+  no-record h = subst (λ (b : Bool). End (cond b (cond (leb (getD ns 5 0) 1) R 13) 8) 8 B) (sym (ne-eqb (length ns) 27 h)) (Calls.refused 8, refl, (refl, refl))
 
   with-record : (k : ℕ) (B′ : Buffers) → length ns ≡ 27 → End (cond (leb (getD ns 5 0) 1) R 13) k B′ → SolveNumbers ns levels tables B k B′
   unfolding numbersRefusal
   with-record k B′ h e = subst (λ (b : Bool). End (cond b (cond (leb (getD ns 5 0) 1) R 13) 8) k B′) (sym (eq-eqb (length ns) 27 h)) e
 
   pub no-mode : length ns ≡ 27 → 1 < getD ns 5 0 → SolveNumbers ns levels tables B 13 B
-  no-mode h m = with-record 13 B h (subst (λ (b : Bool). End (cond b R 13) 13 B) (sym (lt-leb (getD ns 5 0) 1 m)) (refl, refl))
+  no-mode h m = with-record 13 B h (subst (λ (b : Bool). End (cond b R 13) 13 B) (sym (lt-leb (getD ns 5 0) 1 m)) (Calls.refused 13, refl, (refl, refl)))
 
   pub solved : (s : Sheet) (a : Answer) (k : ℕ) (B′ : Buffers) → length ns ≡ 27 → getD ns 5 0 ≤ 1 → s ≡ S → SolveIs s levels tables B a B′ → k ≡ byteOf (answerOf a)
       → SolveNumbers ns levels tables B k B′
   solved s a k B′ h m p e q =
       with-record k B′ h
       (subst (λ (b : Bool). End (cond b R 13) k B′) (sym (le-leb (getD ns 5 0) 1 m))
-      (ends-number R (blows S levels tables) (planes S levels tables) B a k B′ (subst (λ (z : Sheet). SolveIs z levels tables B a B′) p e) q))
+      (answerOf a, q, subst (λ (z : Sheet). SolveIs z levels tables B a B′) p e))
 
 -- ---- the picture
 

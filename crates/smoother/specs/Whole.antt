@@ -13,10 +13,9 @@ use Rattle.sheet.specs.declared.Sheet.{Sheet}
 use Rattle.sheet.specs.declared.Header.{Header}
 use Rattle.sheet.specs.declared.Channel.{Channel}
 use Rattle.scalar.specs.Buffers.{Buffers}
-use Rattle.calls.specs.Calls.{lengths, allSix}
-use Rattle.record.specs.declared.Answer.{Answer}
-use Rattle.record.specs.declared.Answer.the-variants.{Refused, Done}
-use Rattle.solve.specs.Solve.{solveRefusal, planes, blows, Ends}
+use Rattle.calls.specs.Calls.{Answer, lengths, allSix}
+use Rattle.serve.specs.Serve.{byteOf}
+use Rattle.solve.specs.Solve.{solveRefusal, wholeOf, Ends}
 use Rattle.picture.specs.Finish.{Told, done, refused, finishing}
 
 -- ---- the record
@@ -57,16 +56,10 @@ unfoldable pub numbersRefusal : List ℕ → List ℤ → List ℕ → List ℕ 
 numbersRefusal ns levels tables ls =
     cond (eqb (length ns) 27) (cond (leb (getD ns 5 0) 1) (solveRefusal (sheetOfNumbers ns) levels tables ls) 13) 8
 
--- the answer of a whole run by its number: 0 is done, any other a refusal
-abbrev pub answerIn : ℕ → Answer
-answerIn zero = Done
-answerIn (suc n) = Refused (suc n)
-
--- `SolveIs` of the record's sheet
+-- `SolveIs` of the record's sheet, by the answer's number
 abbrev pub SolveNumbers : List ℕ → List ℤ → List ℕ → Buffers → ℕ → Buffers → Type 0
 SolveNumbers ns levels tables B k B′ =
-    let S = sheetOfNumbers ns in
-    Ends (numbersRefusal ns levels tables (lengths allSix B)) (blows S levels tables) (planes S levels tables) B (answerIn k) B′
+    (a : Answer) × (k ≡ byteOf a) × Ends (numbersRefusal ns levels tables (lengths allSix B)) (wholeOf (sheetOfNumbers ns) levels tables) B a B′
 
 -- ---- finish
 

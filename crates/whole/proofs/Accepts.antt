@@ -21,8 +21,8 @@ use Rattle.sheet.specs.declared.Channel as Line
 use Rattle.sheet.specs.Legal.{LegalChannel, LegalSheet, LegalQuantisers, LegalLevels, channelAt, levelsTo}
 use Rattle.calls.specs.Run.{coefs, count, levelsBefore, Own, fresh, own, place, side, fullSide, factor, weight, ownOk, headerOk, sheetOk, placesOk, legal, every}
 use Rattle.calls.specs.Run as Model
-use Rattle.calls.specs.Calls.{all, tableOk, levelOk, buffersLong, valuesLong, lendTests, startRefusal}
-use Rattle.calls.proofs.Tests.{every-of, never, not-of, skip}
+use Rattle.calls.specs.Calls.{all, tableOk, levelOk, lendTests, startRefusal}
+use Rattle.calls.proofs.Tests.{every-of, never, skip, of-lent}
 use Rattle.calls.specs.Between.{PlaceIs}
 use Rattle.calls.proofs.Legal.{places-ok}
 use Rattle.record.specs.declared.Run.{Run}
@@ -235,17 +235,16 @@ module _ (limit : ℕ) (S : Sheet) (ls : List ℤ) (ts : List ℕ) (l : LegalShe
   unfolding startRefusal joint
   start-accepts lens t =
       let G = jointGiven S ls ts in
-      skip (lendTests G (placesOf (joint S)) lens true) [] (
-        not-of (legal (G .sheet) (placesOf (joint S))) (run-legal (joint S) joint-fine),
-        (
-          not-of (buffersLong G lens && valuesLong G)
-              (and-i (buffersLong G lens) (valuesLong G) t
-              (and-i (eqb (length ls) (levelsBefore (G .sheet) (count G))) (eqb (length ts) (count G * 64))
-              (eq→eqb (l .levels-count ∙ sym (levels-same (S .header .channels) (omega arith))))
-              (eq→eqb (l .tables-count ∙ mul-comm 64 (S .header .channels))))),
-          (not-of (all tableOk ts) (tables-test ts (l .tables)), (not-of (all levelOk ls) (levels-test ls (l .levels)), tt)),
-        ),
-      )
+      skip (lendTests G (placesOf (joint S)) lens true) []
+      (of-lent G (placesOf (joint S)) lens true
+      record {
+        is-legal = run-legal (joint S) joint-fine;
+        long = t;
+        levels-long = λ e. l .levels-count ∙ sym (levels-same (S .header .channels) (omega arith));
+        tables-long = λ e. l .tables-count ∙ mul-comm 64 (S .header .channels);
+        tables-ok = λ e. tables-test ts (l .tables);
+        levels-ok = λ e. levels-test ls (l .levels);
+      })
 
   pub accepts : (lens : List ℕ) → T (all (λ n. eqb n (S .header .channels * (S .header .width * S .header .height))) lens) → solveRefusal S ls ts lens ≡ 0
   unfolding solveRefusal

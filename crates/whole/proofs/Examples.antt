@@ -28,7 +28,8 @@ use Rattle.text.specs.Written.{decimal}
 use Rattle.sheet.specs.declared.Sheet.{Sheet}
 use Rattle.sheet.specs.Lines.{rulesOf, fieldsFault, headerOf, channelOf, recordOf, noChannel}
 use Rattle.sheet.specs.Reading.{contents, blank, expectedTag, takenOf, lineFault, readText}
-use Rattle.solve.specs.Solve.{joint, alone, planeOf, runBlows, planes, blows}
+use Rattle.solve.specs.Solve.{joint, alone, runBlows, last, runOf, separately, wholeOf, planes, blows}
+use Rattle.calls.specs.Buffers.{joined}
 use Rattle.picture.specs.Finish as Finish
 use Rattle.output.specs.Output as Output
 use Rattle.output.specs.Output.{pictureText, refusalText}
@@ -88,11 +89,11 @@ reads = refl
 
 -- N = 0: the unprojected start, "all 64 are v = 1 − 2⁻²⁴, not 1"
 start : planes sheet levels tables ≡ replicate 64 (ofBits binary32 0x3f7fffff)
-unfolding planes planeOf fixed coefOf joint alone auxInit initPixels imageData imageBlock initDctTarget dequantise dequantised idct8x8 onLine idct8 fromBlocks upsamplePixels upto trailingZeros add sub mul div sum round units odd size span climb ofBits ofFields neg ne eq lt ofInt mulAdd product clamp
+unfolding wholeOf runOf separately last joined fixed coefOf joint alone auxInit initPixels imageData imageBlock initDctTarget dequantise dequantised idct8x8 onLine idct8 fromBlocks upsamplePixels upto trailingZeros add sub mul div sum round units odd size span climb ofBits ofFields neg ne eq lt ofInt mulAdd product clamp
 start = refl
 
 kept : blows sheet levels tables ≡ false
-unfolding blows runBlows alone
+unfolding wholeOf runOf separately runBlows alone
 kept = refl
 
 grey : painted (sheet .header) (replicate 64 (ofBits binary32 0x3f7fffff)) ≡ b "I\t2\t1\nR\t818181\t818181\n"

@@ -31,9 +31,10 @@ use Rattle.scalar.specs.Buffers.{Buffers}
 use Rattle.calls.specs.Buffers.{Name, Plane, Prior, Gradient, Across, Down, Saved, get, Sized}
 use Rattle.calls.specs.Calls.{all, allSix, lengths}
 use Rattle.record.specs.declared.Answer.{Answer}
-use Rattle.record.specs.declared.Answer.the-variants as answer
+use Rattle.record.specs.Model.{answerOf}
 use Rattle.record.proofs.Answer.{the-type}
-use Rattle.solve.specs.Solve.{planes, blows, Ends, SolveIs}
+use Rattle.solve.specs.Solve.{wholeOf, planes, blows, Ended, Ends, SolveIs}
+use Rattle.solve.proofs.Ends.{is-done, not-done}
 use Rattle.picture.specs.Finish as Finish
 use Rattle.picture.proofs.Pixels.{picture-length}
 use Rattle.output.specs.Output.{Wrote, pictureInto, refusalText, refusalInto}
@@ -76,19 +77,14 @@ module _ (S : Sheet) (ls : List ℤ) (ts : List ℕ) (l : LegalSheet 32 S ls ts)
   sized Down = long .4
   sized Saved = long .5
 
-  ended : Ends 0 (blows S ls ts) (planes S ls ts) B a B′
-  ended = subst (λ (n : ℕ). Ends n (blows S ls ts) (planes S ls ts) B a B′) (accepts 32 S ls ts l (lengths allSix B) (all-sized size B sized allSix)) said
+  ended : Ended (blows S ls ts) (wholeOf S ls ts) B (answerOf a) B′
+  ended = subst (λ (n : ℕ). Ends n (wholeOf S ls ts) B (answerOf a) B′) (accepts 32 S ls ts l (lengths allSix B) (all-sized size B sized allSix)) said
 
   -- done: it did not blow, and the planes are there
   module _ (one : OneOf (1 ∷ []) (tagOf the-type a)) where
-    not-blown : (b : Bool) → Ends 0 b (planes S ls ts) B a B′ → (b ≡ false) × (B′ .plane ≡ planes S ls ts) × (length (B′ .plane) ≡ size)
-    not-blown true e = absurd (no a (e .0) one)
-      where
-        no : (a : Answer) → a ≡ answer.Refused 10 → OneOf (1 ∷ []) (tagOf the-type a) → ⊥
-        no (answer.Refused m) e one = omega arith
-        no answer.Done e one = let z : _≡_ {A = ℕ} 0 1 = cc in omega arith
-        no answer.Blown e one = let z : _≡_ {A = ℕ} 0 1 = cc in omega arith
-    not-blown false e = (refl, e .1, e .2 Plane ∙ sized Plane)
+    not-blown : (b : Bool) → Ended b (wholeOf S ls ts) B (answerOf a) B′ → (b ≡ false) × (B′ .plane ≡ planes S ls ts) × (length (B′ .plane) ≡ size)
+    not-blown true e = let z : _≡_ {A = ℕ} 0 1 = cc (e .0, is-done a one) in absurd (omega arith)
+    not-blown false e = (refl, ap (λ (X : Buffers). X .plane) (e .1), e .2 Plane ∙ sized Plane)
 
     pub done-long : length (B′ .plane) ≡ size
     done-long = not-blown (blows S ls ts) ended .2
@@ -101,14 +97,9 @@ module _ (S : Sheet) (ls : List ℤ) (ts : List ℕ) (l : LegalSheet 32 S ls ts)
 
   -- any other answer: it blew
   module _ (other : OneOf (0 ∷ 2 ∷ []) (tagOf the-type a)) where
-    blown : (b : Bool) → Ends 0 b (planes S ls ts) B a B′ → b ≡ true
+    blown : (b : Bool) → Ended b (wholeOf S ls ts) B (answerOf a) B′ → b ≡ true
     blown true e = refl
-    blown false e = absurd (no a (e .0) other)
-      where
-        no : (a : Answer) → a ≡ answer.Done → OneOf (0 ∷ 2 ∷ []) (tagOf the-type a) → ⊥
-        no (answer.Refused m) e one = let z : _≡_ {A = ℕ} 0 1 = cc in omega arith
-        no answer.Done e one = ⊎-elim (λ e. omega arith) (λ e. omega arith) one
-        no answer.Blown e one = let z : _≡_ {A = ℕ} 0 1 = cc in omega arith
+    blown false e = absurd (not-done a other (sym (e .0)))
 
     pub blown-text : (out : List ℕ) (r : ℕ) (out′ : List ℕ) (number line : ℕ) → mostPrinted ≤ length out → Wrote 0 (refusalInto number line (length out)) out r out′
         → number ≡ 10 → line ≡ 0 → Wrote 0 (sheetText S ls ts) out r out′

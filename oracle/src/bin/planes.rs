@@ -293,12 +293,12 @@ fn solved_as(
         "the lowest bit of the last value" => {
             plane.iter_mut().last().into_iter().for_each(|v| *v = f32::from_bits(v.to_bits() ^ 1));
         }
-        "done where blown" if answer == 10 => answer = 0,
+        "done where blown" if answer == 255 => answer = 0,
         _ => (),
     }
     let due = planes(sheet);
     let equal = match &due {
-        None => answer == 10,
+        None => answer == 255,
         Some(due) => answer == 0 && equal(&plane, &due.iter().flat_map(|p| p.iter().copied()).collect::<Vec<_>>()),
     };
     tally.count_in(kind, equal, || format!("answer {answer}, blown {}, numbers {:?}", due.is_none(), x.numbers));

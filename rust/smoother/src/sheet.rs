@@ -195,11 +195,11 @@ fn done(number: u32) -> Result<(), Refusal> {
     Refusal::of_number(number).map_or(Ok(()), Err)
 }
 
-/// The whole run of a sheet by its record's numbers, in lent buffers of channels × W × H values each; `b.plane` becomes the planes. Where it is
-/// refused, but for `Refusal::Blown`, the buffers are unchanged.
+/// The whole run of a sheet by its record's numbers, in lent buffers of channels × W × H values each, which become each channel's after its last
+/// job. Where it is refused, but for `Refusal::Blown`, the buffers are unchanged.
 pub fn solve_into(header: &[u32], levels: &[i16], tables: &[u16], b: &mut Buffers) -> Result<(), Refusal> {
     // SAFETY: each pointer and length are of one slice, and the slices do not overlap.
-    done(unsafe {
+    let number = unsafe {
         ffi::smoother_solve(
             header.as_ptr(),
             header.len(),
@@ -220,7 +220,9 @@ pub fn solve_into(header: &[u32], levels: &[i16], tables: &[u16], b: &mut Buffer
             b.saved.as_mut_ptr(),
             b.saved.len(),
         )
-    })
+    };
+    // 255: a channel blew in the run
+    if number == 255 { Err(Refusal::Blown) } else { done(number) }
 }
 
 /// The picture of planes, in lent bytes; `sides` are W, H and the picture's.
