@@ -2,6 +2,7 @@
 use float::bits::to_bits;
 use interval::whole;
 use sheet::Answer;
+use sheet::Limits;
 use sheet::Measured;
 use words::bytes;
 use words::number;
@@ -81,7 +82,7 @@ fn refused(number: u8, line: usize) -> Given {
 
 // Reads into the front of the buffers, where there is room.
 fn read_text(text: &[u8], limit: u32, levels: &mut [i16], tables: &mut [u16]) -> Given {
-    match sheet::read(text, limit, levels, tables) {
+    match sheet::read(text, Limits { side: limit }, levels, tables) {
         Answer::Sheet(s) => {
             let header = smoother::numbers(s);
             let d = with_header(0, &header);
@@ -97,7 +98,7 @@ fn read_text(text: &[u8], limit: u32, levels: &mut [i16], tables: &mut [u16]) ->
 }
 
 fn read_measured(text: &[u8], limit: u32, levels: &mut [i16], tables: &mut [u16]) -> Given {
-    match sheet::measure(text, limit) {
+    match sheet::measure(text, Limits { side: limit }) {
         Measured::Lengths {
             levels: n,
             tables: m,

@@ -14,8 +14,9 @@ use Rattle.text.specs.Weights.{bitForm, weightOf, weightAt}
 use Rattle.text.specs.Levels.{levelOf}
 use Rattle.text.specs.Fields.{fieldOf}
 use Rattle.text.specs.Written.{joined, ended}
-use Rattle.sheet.specs.Lines.{rulesOf, fieldsFault, headerOf, channelOf, recordOf, noChannel}
-use Rattle.sheet.specs.Reading.{Outcome, Contents, contents, blank, expectedTag, takenOf, lineFault, readText}
+use Rattle.sheet.specs.declared.Limits.{Limits}
+use Rattle.sheet.specs.Lines.{rulesOf, fieldsFault, held, headerOf, channelOf, recordOf, noChannel}
+use Rattle.sheet.specs.Reading.{Outcome, Contents, contents, blank, lineTag, takenOf, lineFault, readText}
 use Rattle.sheet.specs.Calls.{Lengths, measuring, reading}
 use Rattle.sheet.specs.Reading.Outcome.{Gives, Refused}
 
@@ -63,15 +64,19 @@ abbrev answerOf : Outcome Contents → ℕ × ℕ
 answerOf (Gives c) = (0, 0)
 answerOf (Refused k line) = (k, line)
 
+-- at a side limit
+abbrev at : ℕ → Limits
+at side = record { side = side }
+
 unfoldable answer : ℕ → List ℕ → ℕ × ℕ
-unfolding readText blank expectedTag takenOf recordOf headerOf channelOf lineFault fieldsFault rulesOf numberAt weightAt numberOf bitForm weightOf levelOf fieldOf
-answer limit t = answerOf (readText limit t)
+unfolding readText blank lineTag takenOf recordOf headerOf channelOf lineFault fieldsFault rulesOf numberAt weightAt numberOf bitForm weightOf levelOf fieldOf
+answer side t = answerOf (readText (at side) t)
 
 abbrev answers : ℕ → List (List ℕ) → List (ℕ × ℕ)
-answers limit [] = []
-answers limit (t ∷ ts) = answer limit t ∷ answers limit ts
+answers side [] = []
+answers side (t ∷ ts) = answer side t ∷ answers side ts
 
-whole-reads : readText 32 (text whole) ≡ contents
+whole-reads : readText (at 32) (text whole) ≡ contents
     (record {
       header = record {
         width = 8;
@@ -94,8 +99,8 @@ whole-reads : readText 32 (text whole) ≡ contents
       second = noChannel;
       third = noChannel;
     })
-    (pos 1 ∷ replicate 63 (pos 0)) (replicate 64 8)
-unfolding readText blank expectedTag takenOf recordOf headerOf channelOf lineFault fieldsFault rulesOf numberAt weightAt numberOf bitForm weightOf levelOf fieldOf
+    (held (pos 1 ∷ replicate 63 (pos 0)) (replicate 64 8))
+unfolding readText blank lineTag takenOf recordOf headerOf channelOf lineFault fieldsFault rulesOf numberAt weightAt numberOf bitForm weightOf levelOf fieldOf
 whole-reads = refl
 
 -- T1: 1,024 bytes are allowed; a line that is both too long and unended is 1; the length comes before every field
@@ -228,16 +233,16 @@ bad-limit = (refl, refl, refl)
 
 -- T20: measuring gives both lengths; reading refuses other lengths, last
 unfoldable measured : ℕ → List ℕ → Outcome Lengths
-unfolding readText blank expectedTag takenOf recordOf headerOf channelOf lineFault fieldsFault rulesOf numberAt weightAt numberOf bitForm weightOf levelOf fieldOf
-measured limit t = measuring limit t
+unfolding readText blank lineTag takenOf recordOf headerOf channelOf lineFault fieldsFault rulesOf numberAt weightAt numberOf bitForm weightOf levelOf fieldOf
+measured side t = measuring (at side) t
 
 lengths : measured 32 (text whole) ≡ Gives (record { levels = 64; tables = 64 })
 unfolding measured
 lengths = refl
 
 unfoldable reads : ℕ → List ℕ → ℕ → ℕ → ℕ × ℕ
-unfolding readText blank expectedTag takenOf recordOf headerOf channelOf lineFault fieldsFault rulesOf numberAt weightAt numberOf bitForm weightOf levelOf fieldOf
-reads limit t n m = answerOf (reading limit t (replicate n (pos 7)) (replicate m 7))
+unfolding readText blank lineTag takenOf recordOf headerOf channelOf lineFault fieldsFault rulesOf numberAt weightAt numberOf bitForm weightOf levelOf fieldOf
+reads side t n m = answerOf (reading (at side) t (held (replicate n (pos 7)) (replicate m 7)))
 
 other-lengths : (reads 32 (text whole) 64 64 ≡ (0, 0)) × (reads 32 (text whole) 63 64 ≡ (8, 0)) × (reads 32 (text whole) 64 65 ≡ (8, 0)) × (reads 32 (text whole ++ 10 ∷ []) 63 64 ≡ (7, 5))
 unfolding reads

@@ -11,33 +11,37 @@ use native.Mathlib.Omega.{arith}
 use lib.ListN.{length, getD, drop, replicate, length-append, length-drop}
 use lib.Dec.{eqb, leb, ltb}
 use lib.IntN.{ℤ}
-use borrow.Author.Tests.{eqb-true, eqb-false, leb-true, ltb-true, ltb-false, ne-eqb}
+use borrow.Author.Tests.{eqb-true, eqb-false, leb-true, ne-eqb}
+use Rattle.text.specs.declared.field.Rule.{Rule}
 use Rattle.text.specs.declared.field.Rule.the-variants as rule
 use Rattle.text.specs.Pieces.{split}
 use Rattle.text.specs.Numbers.{numberAt}
 use Rattle.text.specs.Weights.{weightAt}
-use Rattle.text.specs.Fields.{isSide, fieldOf, faultIn}
+use Rattle.text.specs.Fields.{fieldOf, faultIn}
 use Rattle.text.specs.Legal.{Between, LegalSide}
 use Rattle.text.proofs.GoodLaws.{both-left, both-right, side-is, range-good, side-good, channels-good, weight-good}
+use Rattle.sheet.specs.declared.Limits.{Limits}
 use Rattle.sheet.specs.declared.Header.{Header}
 use Rattle.sheet.specs.declared.Channel.{Channel}
 use Rattle.sheet.specs.declared.Sheet.{Sheet}
 use Rattle.sheet.specs.declared.state.State.{State}
 use Rattle.sheet.specs.declared.state.Taken.the-variants as taken
-use Rattle.sheet.specs.Lines.{headerRules, channelRules, blockRules, rulesOf, firstFault, fieldsFault, lineLevels, lineTables, headerOf, channelOf, recordOf, noChannel}
-use Rattle.sheet.specs.Reading.{Outcome, Contents, contents, headed, blank, expectedTag, placed, opened, covers, takenOf, isLast, lineFault, nothingLeft, onFault, onTaken, readFrom, readText}
+use Rattle.sheet.specs.Lines.{headerRules, channelRules, blockRules, endRules, rulesOf, firstFault, fieldsFault, lineLevels, lineTables, Held, held, headerOf, channelOf, recordOf, noChannel}
+use Rattle.sheet.specs.Reading.{Outcome, Contents, contents, headed, blank, lineTag, placed, opened, covers, takenOf, isLast, lineFault, nothingLeft, onFault, onTaken, readFrom, allowed, readText}
 use Rattle.sheet.specs.Reading.Outcome.{Gives, Refused}
-use Rattle.sheet.specs.Legal.{LegalHeader, LegalChannel, channelAt, levelsTo, LegalQuantisers, LegalLevels, LegalSheet}
+use Rattle.sheet.specs.Legal.{LegalLimits, LegalHeader, LegalChannel, channelAt, levelsTo, LegalQuantisers, LegalLevels, LegalSheet}
+use Rattle.sheet.proofs.StateLaws.{Stands, stands, unbegun}
+use Rattle.sheet.proofs.StateLaws.Stands.{Header-line, Block-line, Channel-line, End-line}
 use Rattle.sheet.proofs.GoodLines.{fault-at, fault-drop, tables-without, levels-without, channel-tables, block-levels, all-quantisers, all-levels}
 
 -- Good lines
 
-pub header-is-legal : (limit : ℕ) (fs : List (List ℕ)) → length fs ≡ 16 → firstFault (headerRules limit fs) fs ≡ none → LegalHeader limit (headerOf fs)
+pub header-is-legal : (limits : Limits) (fs : List (List ℕ)) → length fs ≡ 16 → firstFault (headerRules limits fs) fs ≡ none → LegalHeader limits (headerOf fs)
 unfolding headerOf numberAt weightAt
-header-is-legal limit fs n e =
+header-is-legal limits fs n e =
     record {
-      width = side-good (getD fs 1 []) limit (at 1 (omega arith));
-      height = side-good (getD fs 2 []) limit (at 2 (omega arith));
+      width = side-good (getD fs 1 []) (limits .side) (at 1 (omega arith));
+      height = side-good (getD fs 2 []) (limits .side) (at 2 (omega arith));
       shown-width = range-good (getD fs 3 []) 2 1 (numberAt fs 1) (at 3 (omega arith));
       shown-height = range-good (getD fs 4 []) 2 1 (numberAt fs 2) (at 4 (omega arith));
       channels = channels-good (getD fs 5 []) (at 5 (omega arith));
@@ -52,8 +56,8 @@ header-is-legal limit fs n e =
       data2 = weight-good (getD fs 15 []) (at 15 (omega arith));
     }
   where
-    at : (i : ℕ) → i < 16 → faultIn (fieldOf (getD (headerRules limit fs) i (rule.Tag 0)) (getD fs i [])) ≡ none
-    at i h = fault-at (headerRules limit fs) fs i e h (omega arith)
+    at : (i : ℕ) → i < 16 → faultIn (fieldOf (getD (headerRules limits fs) i (rule.Tag 0)) (getD fs i [])) ≡ none
+    at i h = fault-at (headerRules limits fs) fs i e h (omega arith)
 
 pub own-side : (a f m : ℕ) → 1 ≤ f → a * f ≤ m → a ≤ m
 own-side a f m h k = omega (arith, mul-le-mul-left a h)
@@ -93,19 +97,19 @@ more-levels (z ∷ xs) ys a b = (a .0, more-levels xs ys (a .1) b)
 
 -- The sheet so far
 
-record Begun (limit : ℕ) (s : State) (ls : List ℤ) (ts : List ℕ) : Type 0 where
+record Begun (limits : Limits) (s : State) (H : Held) : Type 0 where
   begun : s .begun ≡ true
-  header : LegalHeader limit (s .sheet .header)
+  header : LegalHeader limits (s .sheet .header)
   upto : s .read ≤ s .sheet .header .channels
   channel : (j : ℕ) → j < s .read → LegalChannel (s .sheet .header) (channelAt (s .sheet) j)
   spare : (j : ℕ) → s .read ≤ j → j < 3 → channelAt (s .sheet) j ≡ noChannel
-  levels-count : length ls + 64 * s .left ≡ levelsTo (s .sheet) (s .read)
-  tables-count : length ts ≡ 64 * s .read
-  levels : LegalLevels ls
-  tables : LegalQuantisers ts
+  levels-count : length (H .levels) + 64 * s .left ≡ levelsTo (s .sheet) (s .read)
+  tables-count : length (H .tables) ≡ 64 * s .read
+  levels : LegalLevels (H .levels)
+  tables : LegalQuantisers (H .tables)
 
-pub few : (limit : ℕ) (h : Header) → LegalHeader limit h → h .channels ≤ 3
-few limit h l = ⊎-elim (λ e. omega arith) (λ e. omega arith) (l .channels)
+pub few : (limits : Limits) (h : Header) → LegalHeader limits h → h .channels ≤ 3
+few limits h l = ⊎-elim (λ e. omega arith) (λ e. omega arith) (l .channels)
 
 -- a channel at its place leaves the others
 placed-other : (s : Sheet) (r : ℕ) (c : Channel) (j : ℕ) → (j ≡ r → ⊥) → j < 3 → channelAt (placed s r c) j ≡ channelAt s j
@@ -134,9 +138,9 @@ blocks w h p q =
 
 -- A line that is no refusal
 
-pub record Line (tag limit : ℕ) (fs : List (List ℕ)) (X T : Outcome Contents) : Type 0 where
-  pub count : length fs ≡ length (rulesOf tag limit fs)
-  pub fault : firstFault (rulesOf tag limit fs) fs ≡ none
+pub record Line (rs : List Rule) (fs : List (List ℕ)) (X T : Outcome Contents) : Type 0 where
+  pub count : length fs ≡ length rs
+  pub fault : firstFault rs fs ≡ none
   pub more : X ≡ T
 
 pub fields-count : (a b : ℕ) (m : Option ℕ) → cond (eqb a b) m (some 1) ≡ none → (a ≡ b) × (m ≡ none)
@@ -155,31 +159,31 @@ no-fault : (m : Option ℕ) (k : ℕ) (X : Outcome Contents) (c : Contents) → 
 no-fault none k X c e = (refl, e)
 no-fault (some j) k X c e = let z : _≡_ {A = ℕ} 0 1 = cc in let y : ⊥ = omega arith in absurd y
 
-pub line-is : (tag limit k : ℕ) (p : List ℕ) (rest : List (List ℕ)) (X : Outcome Contents) (c : Contents)
-    → onFault (lineFault limit tag p rest) k X ≡ Gives c → Line tag limit (split 9 p) X (Gives c)
+pub line-is : (rs : List Rule) (k : ℕ) (p : List ℕ) (rest : List (List ℕ)) (X : Outcome Contents) (c : Contents)
+    → onFault (lineFault rs p rest) k X ≡ Gives c → Line rs (split 9 p) X (Gives c)
 unfolding lineFault fieldsFault
-line-is tag limit k p rest X c e =
-    let f = no-fault (lineFault limit tag p rest) k X c e in
-    let g = fields-count (length (split 9 p)) (length (rulesOf tag limit (split 9 p))) (firstFault (rulesOf tag limit (split 9 p)) (split 9 p))
-    (line-fields (ltb 1024 (length p)) (isLast rest) (fieldsFault (rulesOf tag limit (split 9 p)) (split 9 p)) (f .0)) in
+line-is rs k p rest X c e =
+    let f = no-fault (lineFault rs p rest) k X c e in
+    let g = fields-count (length (split 9 p)) (length rs) (firstFault rs (split 9 p))
+    (line-fields (ltb 1024 (length p)) (isLast rest) (fieldsFault rs (split 9 p)) (f .0)) in
     record { count = g .0; fault = g .1; more = f .1 }
 
 -- One line, then the others
 
-abbrev LegalContents : ℕ → Contents → Type 0
-LegalContents limit c = LegalSheet limit (c .sheet) (c .levels) (c .tables)
+abbrev LegalContents : Limits → Contents → Type 0
+LegalContents limits c = LegalSheet limits (c .sheet) (c .held)
 
-module _ (limit : ℕ) (most : LegalSide 512 limit) (p : List ℕ) (rest : List (List ℕ)) (C : Contents)
-    (ih : (s : State) (ls : List ℤ) (ts : List ℕ) (k : ℕ) → Begun limit s ls ts → readFrom limit s ls ts k rest ≡ Gives C → LegalContents limit C) where
-  first-line : (k : ℕ) → readFrom limit blank [] [] k (p ∷ rest) ≡ Gives C → LegalContents limit C
-  unfolding blank expectedTag rulesOf takenOf recordOf
+module _ (limits : Limits) (most : LegalLimits limits) (p : List ℕ) (rest : List (List ℕ)) (C : Contents)
+    (ih : (s : State) (H : Held) (k : ℕ) → Begun limits s H → readFrom limits s H k rest ≡ Gives C → LegalContents limits C) where
+  first-line : (k : ℕ) → readFrom limits blank (held [] []) k (p ∷ rest) ≡ Gives C → LegalContents limits C
+  unfolding blank lineTag rulesOf takenOf recordOf
   first-line k e =
-      let l = line-is 83 limit k p rest _ C e in
+      let l = line-is (headerRules limits (split 9 p)) k p rest _ C e in
       let fs = split 9 p in
-      ih (record { begun = true; sheet = headed (headerOf fs); read = 0; left = 0 }) [] [] (k + 1)
+      ih (record { begun = true; sheet = headed (headerOf fs); read = 0; left = 0 }) (held [] []) (k + 1)
       (record {
         begun = refl;
-        header = header-is-legal limit fs (l .count) (l .fault);
+        header = header-is-legal limits fs (l .count) (l .fault);
         upto = omega arith;
         channel = λ j h. let y : ⊥ = omega arith in absurd y;
         spare = λ j h. none-yet j (headerOf fs);
@@ -188,7 +192,7 @@ module _ (limit : ℕ) (most : LegalSide 512 limit) (p : List ℕ) (rest : List 
         levels = tt;
         tables = tt;
       })
-      (rw (levels-without (headerRules limit fs) fs refl, tables-without (headerRules limit fs) fs refl) at (l .more))
+      (rw (levels-without (headerRules limits fs) fs refl, tables-without (headerRules limits fs) fs refl) at (l .more))
     where
       none-yet : (j : ℕ) (h : Header) → j < 3 → channelAt (headed h) j ≡ noChannel
       none-yet zero h k = refl
@@ -196,40 +200,34 @@ module _ (limit : ℕ) (most : LegalSide 512 limit) (p : List ℕ) (rest : List 
       none-yet (suc (suc zero)) h k = refl
       none-yet (suc (suc (suc j))) h k = let y : ⊥ = omega arith in absurd y
 
-  module _ (s : State) (ls : List ℤ) (ts : List ℕ) (k : ℕ) (b : Begun limit s ls ts) where
-    tag-is : (u v : Bool) → ltb 0 (s .left) ≡ u → ltb (s .read) (s .sheet .header .channels) ≡ v → expectedTag s ≡ cond u 66 (cond v 67 69)
-    unfolding expectedTag
-    tag-is u v p q = rw (b .begun, p, q)
-
-    block-line : ltb 0 (s .left) ≡ true → readFrom limit s ls ts k (p ∷ rest) ≡ Gives C → LegalContents limit C
+  module _ (s : State) (H : Held) (k : ℕ) (b : Begun limits s H) where
+    block-line : 0 < s .left → lineTag s (split 9 p) ≡ 66 → readFrom limits s H k (p ∷ rest) ≡ Gives C → LegalContents limits C
     unfolding rulesOf takenOf recordOf
-    block-line u e =
-        let g : expectedTag s ≡ 66 = tag-is true (ltb (s .read) (s .sheet .header .channels)) u refl in
-        let l = line-is 66 limit k p rest _ C (rw g at e) in
+    block-line u g e =
+        let l = line-is blockRules k p rest _ C (rw g at e) in
         let fs = split 9 p in
         let a = all-levels 64 (drop 1 fs) (length-drop 1 fs ∙ omega (arith, l .count)) (fault-drop 1 blockRules fs (l .fault)) in
         let vs = lineLevels (replicate 64 rule.Level) (drop 1 fs) in
-        ih (record { begun = s .begun; sheet = s .sheet; read = s .read; left = s .left - 1 }) (ls ++ vs) ts (k + 1)
+        ih (record { begun = s .begun; sheet = s .sheet; read = s .read; left = s .left - 1 }) (held (H .levels ++ vs) (H .tables)) (k + 1)
         (record {
           begun = b .begun;
           header = b .header;
           upto = b .upto;
           channel = b .channel;
           spare = b .spare;
-          levels-count = rw (length-append ls vs) (omega (arith, a .1, b .levels-count, ltb-true 0 (s .left) u));
+          levels-count = rw (length-append (H .levels) vs) (omega (arith, a .1, b .levels-count));
           tables-count = b .tables-count;
-          levels = more-levels ls vs (b .levels) (a .0);
+          levels = more-levels (H .levels) vs (b .levels) (a .0);
           tables = b .tables;
         })
-        (rw (block-levels fs, tables-without blockRules fs refl, append-nil ts) at (l .more))
+        (rw (block-levels fs, tables-without blockRules fs refl, append-nil (H .tables)) at (l .more))
 
-    channel-line : ltb 0 (s .left) ≡ false → ltb (s .read) (s .sheet .header .channels) ≡ true → readFrom limit s ls ts k (p ∷ rest) ≡ Gives C → LegalContents limit C
+    channel-line : s .left ≤ 0 → s .read < s .sheet .header .channels → lineTag s (split 9 p) ≡ 67 → readFrom limits s H k (p ∷ rest) ≡ Gives C → LegalContents limits C
     unfolding rulesOf takenOf recordOf
-    channel-line u v e =
-        let g : expectedTag s ≡ 67 = tag-is false true u v in
-        let l = line-is 67 limit k p rest _ C (rw g at e) in
+    channel-line u v g e =
+        let l = line-is channelRules k p rest _ C (rw g at e) in
         let fs = split 9 p in
-        covered (covers (s .sheet .header) (channelOf fs)) refl (l .count) (l .fault) (rw (channel-tables fs, levels-without channelRules fs refl, append-nil ls) at (l .more))
+        covered (covers (s .sheet .header) (channelOf fs)) refl (l .count) (l .fault) (rw (channel-tables fs, levels-without channelRules fs refl, append-nil (H .levels)) at (l .more))
       where
         fs : List (List ℕ)
         fs = split 9 p
@@ -241,32 +239,32 @@ module _ (limit : ℕ) (most : LegalSide 512 limit) (p : List ℕ) (rest : List 
         qs = lineTables (replicate 64 rule.Quantiser) (drop 5 fs)
 
         covered : (x : Bool) → covers (s .sheet .header) c ≡ x → length fs ≡ 69 → firstFault channelRules fs ≡ none
-            → onTaken (cond x (taken.Good (opened s c)) (taken.Bad 2)) k (λ t. readFrom limit t ls (ts ++ qs) (k + 1) rest) ≡ Gives C
-            → LegalContents limit C
+            → onTaken (cond x (taken.Good (opened s c)) (taken.Bad 2)) k (λ t. readFrom limits t (held (H .levels) (H .tables ++ qs)) (k + 1) rest) ≡ Gives C
+            → LegalContents limits C
         covered false i n f o = let z : _≡_ {A = ℕ} 0 1 = cc in let y : ⊥ = omega arith in absurd y
         covered true i n f o =
             let t = opened s c in
             let good : LegalChannel (s .sheet .header) c = channel-is-legal (s .sheet .header) fs n f i in
-            let r : s .read ≤ 2 = omega (arith, ltb-true (s .read) (s .sheet .header .channels) v, few limit (s .sheet .header) (b .header)) in
+            let r : s .read ≤ 2 = omega (arith, v, few limits (s .sheet .header) (b .header)) in
             let a = all-quantisers 64 (drop 5 fs) (length-drop 5 fs ∙ omega arith) (fault-drop 5 channelRules fs f) in
             let all : levelsTo (t .sheet) (s .read + 1) ≡ levelsTo (s .sheet) (s .read) + c .width * c .height =
             ap (λ (n : ℕ). levelsTo (t .sheet) n) (add-one (s .read))
             ∙ ap (λ (n : ℕ). n + channelAt (t .sheet) (s .read) .width * channelAt (t .sheet) (s .read) .height)
             (levels-same (s .sheet) (t .sheet) (s .read) (λ q h. placed-other (s .sheet) (s .read) c q (λ w. omega arith) (omega arith)))
             ∙ ap (λ (d : Channel). levelsTo (s .sheet) (s .read) + d .width * d .height) (placed-there (s .sheet) (s .read) c (omega arith)) in
-            let kept : length ls + 64 * (c .width * c .height / 64) ≡ levelsTo (s .sheet) (s .read) + c .width * c .height =
-            omega (arith, blocks (c .width) (c .height) (good .width .whole) (good .height .whole), b .levels-count, ltb-false 0 (s .left) u) in
-            ih t ls (ts ++ qs) (k + 1)
+            let kept : length (H .levels) + 64 * (c .width * c .height / 64) ≡ levelsTo (s .sheet) (s .read) + c .width * c .height =
+            omega (arith, blocks (c .width) (c .height) (good .width .whole) (good .height .whole), b .levels-count, u) in
+            ih t (held (H .levels) (H .tables ++ qs)) (k + 1)
             (record {
               begun = refl;
               header = b .header;
-              upto = omega (arith, ltb-true (s .read) (s .sheet .header .channels) v);
+              upto = omega (arith, v);
               channel = λ q h. which q r good (eqb q (s .read)) refl (omega arith);
               spare = λ q h w. placed-other (s .sheet) (s .read) c q (λ x. omega arith) w ∙ b .spare q (omega arith) w;
               levels-count = kept ∙ sym all;
-              tables-count = rw (length-append ts qs) (omega (arith, a .1, b .tables-count));
+              tables-count = rw (length-append (H .tables) qs) (omega (arith, a .1, b .tables-count));
               levels = b .levels;
-              tables = more-quantisers ts qs (b .tables) (a .0);
+              tables = more-quantisers (H .tables) qs (b .tables) (a .0);
             })
             o
           where
@@ -277,20 +275,20 @@ module _ (limit : ℕ) (most : LegalSide 512 limit) (p : List ℕ) (rest : List 
                 let less : q < s .read = omega (arith, eqb-false q (s .read) z) in
                 rw (placed-other (s .sheet) (s .read) c q (eqb-false q (s .read) z) (omega arith)) (b .channel q less)
 
-    end-line : ltb 0 (s .left) ≡ false → ltb (s .read) (s .sheet .header .channels) ≡ false → readFrom limit s ls ts k (p ∷ rest) ≡ Gives C → LegalContents limit C
-    end-line u v e =
-        let g : expectedTag s ≡ 69 = tag-is false false u v in
-        let l = line-is 69 limit k p rest _ C (rw g at e) in
+    end-line : s .left ≤ 0 → s .sheet .header .channels ≤ s .read → lineTag s (split 9 p) ≡ 69 → readFrom limits s H k (p ∷ rest) ≡ Gives C → LegalContents limits C
+    unfolding rulesOf
+    end-line u v g e =
+        let l = line-is endRules k p rest _ C (rw g at e) in
         ended (nothingLeft rest) (l .more)
       where
-        ended : (t : Bool) → cond t (contents (s .sheet) ls ts) (Refused 7 (k + 1)) ≡ Gives C → LegalContents limit C
+        ended : (t : Bool) → cond t (contents (s .sheet) H) (Refused 7 (k + 1)) ≡ Gives C → LegalContents limits C
         ended false o = let z : _≡_ {A = ℕ} 0 1 = cc in let y : ⊥ = omega arith in absurd y
         ended true o =
-            let x : s .read ≡ s .sheet .header .channels = omega (arith, b .upto, ltb-false (s .read) (s .sheet .header .channels) v) in
-            let all : length ls ≡ levelsTo (s .sheet) (s .read) = omega (arith, b .levels-count, ltb-false 0 (s .left) u) in
-            let r : LegalContents limit (record { sheet = s .sheet; levels = ls; tables = ts }) =
+            let x : s .read ≡ s .sheet .header .channels = omega (arith, b .upto, v) in
+            let all : length (H .levels) ≡ levelsTo (s .sheet) (s .read) = omega (arith, b .levels-count, u) in
+            let r : LegalContents limits (record { sheet = s .sheet; held = H }) =
             record {
-              most = most;
+              limits-legal = most;
               header = b .header;
               channel = λ j h. b .channel j (omega arith);
               spare = λ j h w. b .spare j (omega arith) w;
@@ -299,39 +297,40 @@ module _ (limit : ℕ) (most : LegalSide 512 limit) (p : List ℕ) (rest : List 
               levels = b .levels;
               tables = b .tables;
             } in
-            subst (LegalContents limit) (same (record { sheet = s .sheet; levels = ls; tables = ts }) C o) r
+            subst (LegalContents limits) (same (record { sheet = s .sheet; held = H }) C o) r
           where
             same : (A B : Contents) → Gives A ≡ Gives B → A ≡ B
             same A B q = cc
 
-    any-line : readFrom limit s ls ts k (p ∷ rest) ≡ Gives C → LegalContents limit C
-    any-line e = two (ltb 0 (s .left)) (ltb (s .read) (s .sheet .header .channels)) refl refl
+    any-line : readFrom limits s H k (p ∷ rest) ≡ Gives C → LegalContents limits C
+    any-line e = by (stands s (split 9 p) (lineTag s (split 9 p)) refl)
       where
-        two : (u v : Bool) → ltb 0 (s .left) ≡ u → ltb (s .read) (s .sheet .header .channels) ≡ v → LegalContents limit C
-        two true v p q = block-line p e
-        two false true p q = channel-line p q e
-        two false false p q = end-line p q e
+        by : Stands s (lineTag s (split 9 p)) → LegalContents limits C
+        by (Header-line q g) = unbegun s (b .begun) q
+        by (Block-line q u g) = block-line u g e
+        by (Channel-line q u v g) = channel-line u v g e
+        by (End-line q u v g) = end-line u v g e
 
 pub refusal : (k j : ℕ) (C : Contents) {A : Type 0} → Refused k j ≡ Gives C → A
 refusal k j C e = let z : _≡_ {A = ℕ} 0 1 = cc in let y : ⊥ = omega arith in absurd y
 
-legal-from : (limit : ℕ) → LegalSide 512 limit → (ps : List (List ℕ)) (C : Contents) (s : State) (ls : List ℤ) (ts : List ℕ) (k : ℕ)
-    → Begun limit s ls ts → readFrom limit s ls ts k ps ≡ Gives C → LegalContents limit C
-legal-from limit m [] C s ls ts k b e = refusal 7 k C e
-legal-from limit m (p ∷ rest) C s ls ts k b e = any-line limit m p rest C (legal-from limit m rest C) s ls ts k b e
+legal-from : (limits : Limits) → LegalLimits limits → (ps : List (List ℕ)) (C : Contents) (s : State) (H : Held) (k : ℕ)
+    → Begun limits s H → readFrom limits s H k ps ≡ Gives C → LegalContents limits C
+legal-from limits m [] C s H k b e = refusal 7 k C e
+legal-from limits m (p ∷ rest) C s H k b e = any-line limits m p rest C (legal-from limits m rest C) s H k b e
 
 -- Every sheet that is read is legal
-pub legal : (limit : ℕ) (text : List ℕ) (s : Sheet) (ls : List ℤ) (ts : List ℕ) → readText limit text ≡ contents s ls ts → LegalSheet limit s ls ts
+pub legal : (limits : Limits) (text : List ℕ) (s : Sheet) (H : Held) → readText limits text ≡ contents s H → LegalSheet limits s H
 unfolding readText
-legal limit text s ls ts e = two (isSide 512 limit) refl e
+legal limits text s H e = two (allowed limits) refl e
   where
     C : Contents
-    C = record { sheet = s; levels = ls; tables = ts }
+    C = record { sheet = s; held = H }
 
-    by : LegalSide 512 limit → (ps : List (List ℕ)) → readFrom limit blank [] [] 1 ps ≡ Gives C → LegalSheet limit s ls ts
+    by : LegalLimits limits → (ps : List (List ℕ)) → readFrom limits blank (held [] []) 1 ps ≡ Gives C → LegalSheet limits s H
     by m [] o = refusal 7 1 C o
-    by m (p ∷ rest) o = first-line limit m p rest C (legal-from limit m rest C) 1 o
+    by m (p ∷ rest) o = first-line limits m p rest C (legal-from limits m rest C) 1 o
 
-    two : (b : Bool) → isSide 512 limit ≡ b → cond b (readFrom limit blank [] [] 1 (split 10 text)) (Refused 2 0) ≡ Gives C → LegalSheet limit s ls ts
-    two true p o = by (side-is 512 limit p) (split 10 text) o
+    two : (b : Bool) → allowed limits ≡ b → cond b (readFrom limits blank (held [] []) 1 (split 10 text)) (Refused 2 0) ≡ Gives C → LegalSheet limits s H
+    two true p o = by (record { side = side-is 512 (limits .side) p }) (split 10 text) o
     two false p o = refusal 2 0 C o

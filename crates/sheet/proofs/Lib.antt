@@ -9,4 +9,6 @@ pub mod LegalLaws
 pub mod RowLaws
 pub mod RoundTrip
 pub mod PrefixLaws
+pub mod BoundLaws
+pub mod CanonicalLaws
 pub mod Examples

@@ -13,10 +13,11 @@ use Rattle.text.specs.declared.field.Rule.the-variants as rule
 use Rattle.text.specs.Numbers.{numberAt}
 use Rattle.text.specs.Weights.{weightAt}
 use Rattle.text.specs.Fields.{letter}
+use Rattle.sheet.specs.declared.Limits.{Limits}
 use Rattle.sheet.specs.declared.Header.{Header}
 use Rattle.sheet.specs.declared.Channel.{Channel}
 use Rattle.sheet.specs.declared.line.Record.the-variants as line
-use Rattle.sheet.specs.Lines.{count, factor, ownSide, headerRules, channelRules, blockRules, rulesOf, fieldCount, headerOf, channelOf, recordOf}
+use Rattle.sheet.specs.Lines.{count, mode, factor, ownSide, headerRules, channelRules, blockRules, rulesOf, fieldCount, headerOf, channelOf, recordOf}
 
 -- What a header line holds
 
@@ -85,36 +86,36 @@ past xs ys i d h =
     let e : length xs + (i - length xs) ≡ i = omega arith in
     rw e at (getD-append-add xs ys (i - length xs) d)
 
-module _ (limit : ℕ) (fs : List (List ℕ)) (i : ℕ) where
-  pub header-tag : i ≡ 0 → rule.Tag 83 ≡ getD (headerRules limit fs) i (rule.Tag 0)
+module _ (limits : Limits) (fs : List (List ℕ)) (i : ℕ) where
+  pub header-tag : i ≡ 0 → rule.Tag 83 ≡ getD (headerRules limits fs) i (rule.Tag 0)
   header-tag e = rw e
 
-  pub header-side : (i ≡ 0 → ⊥) → i ≤ 2 → rule.Side limit ≡ getD (headerRules limit fs) i (rule.Tag 0)
+  pub header-side : (i ≡ 0 → ⊥) → i ≤ 2 → rule.Side (limits .side) ≡ getD (headerRules limits fs) i (rule.Tag 0)
   header-side = two i
     where
-      two : (i : ℕ) → (i ≡ 0 → ⊥) → i ≤ 2 → rule.Side limit ≡ getD (headerRules limit fs) i (rule.Tag 0)
+      two : (i : ℕ) → (i ≡ 0 → ⊥) → i ≤ 2 → rule.Side (limits .side) ≡ getD (headerRules limits fs) i (rule.Tag 0)
       two zero h k = absurd (h refl)
       two (suc zero) h k = refl
       two (suc (suc zero)) h k = refl
       two (suc (suc (suc n))) h k = let z : ⊥ = omega arith in absurd z
 
-  pub header-wide : (n : ℕ) → i ≡ 3 → n ≡ numberAt fs 1 → rule.Range 2 1 n ≡ getD (headerRules limit fs) i (rule.Tag 0)
+  pub header-wide : (n : ℕ) → i ≡ 3 → n ≡ numberAt fs 1 → rule.Range 2 1 n ≡ getD (headerRules limits fs) i (rule.Tag 0)
   header-wide n e q = rw (e, q)
 
-  pub header-high : (n : ℕ) → i ≡ 4 → n ≡ numberAt fs 2 → rule.Range 2 1 n ≡ getD (headerRules limit fs) i (rule.Tag 0)
+  pub header-high : (n : ℕ) → i ≡ 4 → n ≡ numberAt fs 2 → rule.Range 2 1 n ≡ getD (headerRules limits fs) i (rule.Tag 0)
   header-high n e q = rw (e, q)
 
-  pub header-channels : i ≡ 5 → rule.Channels ≡ getD (headerRules limit fs) i (rule.Tag 0)
+  pub header-channels : i ≡ 5 → rule.Channels ≡ getD (headerRules limits fs) i (rule.Tag 0)
   header-channels e = rw e
 
-  pub header-mode : i ≡ 6 → rule.Mode ≡ getD (headerRules limit fs) i (rule.Tag 0)
+  pub header-mode : i ≡ 6 → mode ≡ getD (headerRules limits fs) i (rule.Tag 0)
   header-mode e = rw e
 
-  pub header-count : 2 < i → (i ≡ 3 → ⊥) → (i ≡ 4 → ⊥) → (i ≡ 5 → ⊥) → (i ≡ 6 → ⊥) → i ≤ 9 → count ≡ getD (headerRules limit fs) i (rule.Tag 0)
+  pub header-count : 2 < i → (i ≡ 3 → ⊥) → (i ≡ 4 → ⊥) → (i ≡ 5 → ⊥) → (i ≡ 6 → ⊥) → i ≤ 9 → count ≡ getD (headerRules limits fs) i (rule.Tag 0)
   header-count l n3 n4 n5 n6 k =
       let h : 7 ≤ i = omega arith in
-      let e : getD (headerRules limit fs) i (rule.Tag 0) ≡ getD (count ∷ count ∷ count ∷ replicate 6 rule.Weight) (i - 7) (rule.Tag 0) =
-      past (take 7 (headerRules limit fs)) (count ∷ count ∷ count ∷ replicate 6 rule.Weight) i (rule.Tag 0) h in
+      let e : getD (headerRules limits fs) i (rule.Tag 0) ≡ getD (count ∷ count ∷ count ∷ replicate 6 rule.Weight) (i - 7) (rule.Tag 0) =
+      past (take 7 (headerRules limits fs)) (count ∷ count ∷ count ∷ replicate 6 rule.Weight) i (rule.Tag 0) h in
       rw e (three (i - 7) (omega arith))
     where
       three : (j : ℕ) → j ≤ 2 → count ≡ getD (count ∷ count ∷ count ∷ replicate 6 rule.Weight) j (rule.Tag 0)
@@ -123,9 +124,9 @@ module _ (limit : ℕ) (fs : List (List ℕ)) (i : ℕ) where
       three (suc (suc zero)) k = refl
       three (suc (suc (suc n))) k = let z : ⊥ = omega arith in absurd z
 
-  pub header-weight : 9 < i → i < 16 → rule.Weight ≡ getD (headerRules limit fs) i (rule.Tag 0)
+  pub header-weight : 9 < i → i < 16 → rule.Weight ≡ getD (headerRules limits fs) i (rule.Tag 0)
   header-weight h k =
-      sym (past (take 10 (headerRules limit fs)) (replicate 6 rule.Weight) i (rule.Tag 0) (omega arith)
+      sym (past (take 10 (headerRules limits fs)) (replicate 6 rule.Weight) i (rule.Tag 0) (omega arith)
       ∙ getD-replicate 6 (i - 10) rule.Weight (rule.Tag 0) (omega arith))
 
 module _ (i : ℕ) where
@@ -169,22 +170,22 @@ pub ruleset rules = (header-tag, header-side, header-wide, header-high, header-c
 
 -- The rule of a tag's field
 
-module _ (t limit i : ℕ) (fs : List (List ℕ)) (r : Rule) where
-  pub rule-B : t ≡ 66 → r ≡ getD blockRules i (rule.Tag 0) → r ≡ getD (rulesOf t limit fs) i (rule.Tag 0)
+module _ (t : ℕ) (limits : Limits) (top : Header) (i : ℕ) (fs : List (List ℕ)) (r : Rule) where
+  pub rule-B : t ≡ 66 → r ≡ getD blockRules i (rule.Tag 0) → r ≡ getD (rulesOf t limits top fs) i (rule.Tag 0)
   unfolding rulesOf
   rule-B e q = rw (eq-eqb t 66 e) q
 
-  pub rule-C : (t ≡ 66 → ⊥) → t ≡ 67 → r ≡ getD channelRules i (rule.Tag 0) → r ≡ getD (rulesOf t limit fs) i (rule.Tag 0)
+  pub rule-C : (t ≡ 66 → ⊥) → t ≡ 67 → r ≡ getD channelRules i (rule.Tag 0) → r ≡ getD (rulesOf t limits top fs) i (rule.Tag 0)
   unfolding rulesOf
   rule-C b e q = rw (ne-eqb t 66 b, eq-eqb t 67 e) q
 
-  pub rule-S : (t ≡ 66 → ⊥) → (t ≡ 67 → ⊥) → t ≡ 83 → r ≡ getD (headerRules limit fs) i (rule.Tag 0) → r ≡ getD (rulesOf t limit fs) i (rule.Tag 0)
+  pub rule-S : (t ≡ 66 → ⊥) → (t ≡ 67 → ⊥) → t ≡ 83 → r ≡ getD (headerRules limits fs) i (rule.Tag 0) → r ≡ getD (rulesOf t limits top fs) i (rule.Tag 0)
   unfolding rulesOf
   rule-S b c e q = rw (ne-eqb t 66 b, ne-eqb t 67 c, eq-eqb t 83 e) q
 
-pub rule-E : (t limit i : ℕ) (fs : List (List ℕ)) → (t ≡ 66 → ⊥) → (t ≡ 67 → ⊥) → (t ≡ 83 → ⊥) → i < fieldCount t → rule.Tag 69 ≡ getD (rulesOf t limit fs) i (rule.Tag 0)
+pub rule-E : (t : ℕ) (limits : Limits) (top : Header) (i : ℕ) (fs : List (List ℕ)) → (t ≡ 66 → ⊥) → (t ≡ 67 → ⊥) → (t ≡ 83 → ⊥) → i < fieldCount t → rule.Tag 69 ≡ getD (rulesOf t limits top fs) i (rule.Tag 0)
 unfolding rulesOf fieldCount
-rule-E t limit i fs b c s h =
+rule-E t limits top i fs b c s h =
     let z : i ≡ 0 = omega (arith, simp (ne-eqb t 83 s, ne-eqb t 67 c, ne-eqb t 66 b) at h) in
     rw (ne-eqb t 66 b, ne-eqb t 67 c, ne-eqb t 83 s, z)
 

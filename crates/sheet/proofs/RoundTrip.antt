@@ -15,13 +15,14 @@ use Rattle.text.specs.Fields.{isSide}
 use Rattle.text.specs.Legal.{LegalSide}
 use Rattle.text.specs.Written.{decimal, levelText, joined}
 use Rattle.text.proofs.JoinLaws.{free, allFree, split-joined, joined-free, split-ended}
+use Rattle.sheet.specs.declared.Limits.{Limits}
 use Rattle.sheet.specs.declared.Header.{Header}
 use Rattle.sheet.specs.declared.Channel.{Channel}
 use Rattle.sheet.specs.declared.Sheet.{Sheet}
 use Rattle.sheet.specs.declared.state.State.{State}
 use Rattle.sheet.specs.declared.state.Taken.the-variants as taken
-use Rattle.sheet.specs.Lines.{headerRules, channelRules, blockRules, rulesOf, fieldCount, firstFault, lineLevels, lineTables, channelOf, recordOf}
-use Rattle.sheet.specs.Reading.{contents, headed, blank, expectedTag, placed, covers, takenOf, isLast, readFrom, readText}
+use Rattle.sheet.specs.Lines.{headerRules, channelRules, blockRules, rulesOf, fieldCount, firstFault, Held, held, holding, channelOf, recordOf}
+use Rattle.sheet.specs.Reading.{contents, headed, blank, lineTag, placed, covers, takenOf, isLast, readFrom, readText}
 use Rattle.sheet.specs.Reading.Outcome.{Refused}
 use Rattle.sheet.specs.Legal.{LegalHeader, LegalChannel, LegalQuantisers, LegalLevels, levelsTo, LegalSheet}
 use Rattle.sheet.specs.Written.{headerFields, channelFields, blockFields, endFields, blockLines, channelLines, channelsOf, written}
@@ -32,17 +33,17 @@ use Rattle.sheet.proofs.RowLaws.{SixDigits, header-good, header-back, h
 
 -- One good row
 
-pub read-row : (limit : ℕ) (s : State) (ls : List ℤ) (ts : List ℕ) (k : ℕ) (fs : List (List ℕ)) (rest : List (List ℕ)) (tag : ℕ) → tag ≡ expectedTag s → (tag ≡ 69 → ⊥)
-    → 1 ≤ length fs → allFree 9 fs ≡ true → length (joined fs) ≤ 1024 → isLast rest ≡ false → length fs ≡ fieldCount tag → firstFault (rulesOf tag limit fs) fs ≡ none
+pub read-row : (limits : Limits) (s : State) (H : Held) (k : ℕ) (fs : List (List ℕ)) (rest : List (List ℕ)) (tag : ℕ) → tag ≡ lineTag s fs → (tag ≡ 69 → ⊥)
+    → 1 ≤ length fs → allFree 9 fs ≡ true → length (joined fs) ≤ 1024 → isLast rest ≡ false → length fs ≡ fieldCount tag → firstFault (rulesOf tag limits (s .sheet .header) fs) fs ≡ none
     → (u : State) → takenOf s (recordOf tag fs) ≡ taken.Good u
-    → readFrom limit s ls ts k (joined fs ∷ rest) ≡ readFrom limit u (ls ++ lineLevels (rulesOf tag limit fs) fs) (ts ++ lineTables (rulesOf tag limit fs) fs) (k + 1) rest
-read-row limit s ls ts k fs rest tag g t n c h e m f u o =
+    → readFrom limits s H k (joined fs ∷ rest) ≡ readFrom limits u (holding H (rulesOf tag limits (s .sheet .header) fs) fs) (k + 1) rest
+read-row limits s H k fs rest tag g t n c h e m f u o =
     let w : split 9 (joined fs) ≡ fs = split-joined fs n c in
-    sym (line-next limit s ls ts k (joined fs) rest (readFrom limit s ls ts k (joined fs ∷ rest)) refl tag g h e
+    sym (line-next limits s H k (joined fs) rest (readFrom limits s H k (joined fs ∷ rest)) refl tag (subst⁻¹ (λ (x : List (List ℕ)). tag ≡ lineTag s x) w g) h e
     (subst⁻¹ (λ (x : List (List ℕ)). length x ≡ fieldCount tag) w m)
-    (subst⁻¹ (λ (x : List (List ℕ)). firstFault (rulesOf tag limit x) x ≡ none) w f) t u
+    (subst⁻¹ (λ (x : List (List ℕ)). firstFault (rulesOf tag limits (s .sheet .header) x) x ≡ none) w f) t u
     (subst⁻¹ (λ (x : List (List ℕ)). takenOf s (recordOf tag x) ≡ taken.Good u) w o))
-    ∙ ap (λ (x : List (List ℕ)). readFrom limit u (ls ++ lineLevels (rulesOf tag limit x) x) (ts ++ lineTables (rulesOf tag limit x) x) (k + 1) rest) w
+    ∙ ap (λ (x : List (List ℕ)). readFrom limits u (holding H (rulesOf tag limits (s .sheet .header) x) x) (k + 1) rest) w
 
 more-left : (ps qs : List (List ℕ)) → isLast qs ≡ false → isLast (ps ++ qs) ≡ false
 more-left [] qs h = h
@@ -50,7 +51,7 @@ more-left (p ∷ ps) qs h = refl
 
 -- The state while a channel's blocks are read
 
-abbrev during : Sheet → ℕ → ℕ → State
+abbrev pub during : Sheet → ℕ → ℕ → State
 during s j n = record { begun = true; sheet = s; read = j; left = n }
 
 take-levels : (n : ℕ) (ls : List ℤ) → LegalLevels ls → LegalLevels (take n ls)
@@ -73,21 +74,21 @@ drop-quantisers zero ts l = l
 drop-quantisers (suc n) [] l = tt
 drop-quantisers (suc n) (z ∷ ts) l = drop-quantisers n ts (l .1)
 
-module _ (limit : ℕ) (rest : List (List ℕ)) (more : isLast rest ≡ false) (s : Sheet) (j : ℕ) (ts : List ℕ) where
+module _ (limits : Limits) (rest : List (List ℕ)) (more : isLast rest ≡ false) (s : Sheet) (j : ℕ) (ts : List ℕ) where
   -- one block
   read-block : (n : ℕ) (ls zs : List ℤ) (k : ℕ) (after : List (List ℕ)) → isLast after ≡ false → length zs ≡ 64 → LegalLevels zs
-      → readFrom limit (during s j (suc n)) ls ts k (joined (blockFields zs) ∷ after) ≡ readFrom limit (during s j n) (ls ++ zs) ts (k + 1) after
-  unfolding expectedTag rulesOf fieldCount recordOf takenOf
+      → readFrom limits (during s j (suc n)) (held ls ts) k (joined (blockFields zs) ∷ after) ≡ readFrom limits (during s j n) (held (ls ++ zs) ts) (k + 1) after
+  unfolding lineTag rulesOf fieldCount recordOf takenOf
   read-block n ls zs k after e m g =
       let fs = blockFields zs in
       let fewer : suc n - 1 ≡ n = omega arith in
-      read-row limit (during s j (suc n)) ls ts k fs after 66 (rw (lt-ltb 0 (suc n) (omega arith))) (λ q. omega arith) (omega arith) (block-free 9 (omega arith) zs) (block-short zs m g) e
+      read-row limits (during s j (suc n)) (held ls ts) k fs after 66 (rw (lt-ltb 0 (suc n) (omega arith))) (λ q. omega arith) (omega arith) (block-free 9 (omega arith) zs) (block-short zs m g) e
       (omega (arith, length-map zs levelText)) (block-good zs m g) (during s j n) (rw fewer)
       ∙ rw (block-levels fs, block-said zs m g, tables-without blockRules fs refl, append-nil ts)
 
   -- the blocks of a channel
   read-blocks : (n : ℕ) (ls zs : List ℤ) (k : ℕ) → 64 * n ≤ length zs → LegalLevels zs
-      → readFrom limit (during s j n) ls ts k (blockLines n zs ++ rest) ≡ readFrom limit (during s j 0) (ls ++ take (64 * n) zs) ts (k + n) rest
+      → readFrom limits (during s j n) (held ls ts) k (blockLines n zs ++ rest) ≡ readFrom limits (during s j 0) (held (ls ++ take (64 * n) zs) ts) (k + n) rest
   read-blocks zero ls zs k h g = let e : k + 0 ≡ k = omega arith in rw (e, append-nil ls)
   read-blocks (suc n) ls zs k h g =
       let m : length (take 64 zs) ≡ 64 = length-take-le 64 zs (omega arith) in
@@ -102,15 +103,15 @@ module _ (limit : ℕ) (rest : List (List ℕ)) (more : isLast rest ≡ false) (
 covered : (h : Header) (c : Channel) → LegalChannel h c → covers h c ≡ true
 covered h c l = rw (le-leb (c .width * c .across) (h .width) (l .wide), le-leb (c .height * c .down) (h .height) (l .high))
 
-module _ (limit : ℕ) (rest : List (List ℕ)) (more : isLast rest ≡ false) where
+module _ (limits : Limits) (rest : List (List ℕ)) (more : isLast rest ≡ false) where
   read-opening : (s : Sheet) (j : ℕ) (c : Channel) (ls : List ℤ) (ts qs : List ℕ) (k : ℕ) (after : List (List ℕ)) → isLast after ≡ false
       → j < s .header .channels → SixDigits (s .header) → LegalChannel (s .header) c → length qs ≡ 64 → LegalQuantisers qs
-      → readFrom limit (during s j 0) ls ts k (joined (channelFields c qs) ∷ after) ≡ readFrom limit (during (placed s j c) (j + 1) (c .width * c .height / 64)) ls (ts ++ qs) (k + 1) after
-  unfolding expectedTag rulesOf fieldCount recordOf takenOf
+      → readFrom limits (during s j 0) (held ls ts) k (joined (channelFields c qs) ∷ after) ≡ readFrom limits (during (placed s j c) (j + 1) (c .width * c .height / 64)) (held ls (ts ++ qs)) (k + 1) after
+  unfolding lineTag rulesOf fieldCount recordOf takenOf
   read-opening s j c ls ts qs k after e h x l m g =
       let fs = channelFields c qs in
       let b : channelOf fs ≡ c = channel-back (s .header) x c l qs m g in
-      read-row limit (during s j 0) ls ts k fs after 67 (rw (lt-ltb j (s .header .channels) h)) (λ q. omega arith) (omega arith) (channel-free 9 (omega arith) c qs)
+      read-row limits (during s j 0) (held ls ts) k fs after 67 (rw (lt-ltb j (s .header .channels) h)) (λ q. omega arith) (omega arith) (channel-free 9 (omega arith) c qs)
       (channel-short (s .header) x c l qs m g) e
       (omega (arith, length-map qs decimal)) (channel-good (s .header) x c l qs m g) (during (placed s j c) (j + 1) (c .width * c .height / 64))
       (rw (b, covered (s .header) c l))
@@ -118,18 +119,18 @@ module _ (limit : ℕ) (rest : List (List ℕ)) (more : isLast rest ≡ false) w
 
   read-channel : (s : Sheet) (j : ℕ) (c : Channel) (ls zs : List ℤ) (ts us : List ℕ) (k : ℕ)
       → j < s .header .channels → SixDigits (s .header) → LegalChannel (s .header) c → c .width * c .height ≤ length zs → LegalLevels zs → 64 ≤ length us → LegalQuantisers us
-      → readFrom limit (during s j 0) ls ts k (joined (channelFields c (take 64 us)) ∷ (blockLines (c .width * c .height / 64) zs ++ rest))
-      ≡ readFrom limit (during (placed s j c) (j + 1) 0) (ls ++ take (c .width * c .height) zs) (ts ++ take 64 us) (k + 1 + c .width * c .height / 64) rest
+      → readFrom limits (during s j 0) (held ls ts) k (joined (channelFields c (take 64 us)) ∷ (blockLines (c .width * c .height / 64) zs ++ rest))
+      ≡ readFrom limits (during (placed s j c) (j + 1) 0) (held (ls ++ take (c .width * c .height) zs) (ts ++ take 64 us)) (k + 1 + c .width * c .height / 64) rest
   read-channel s j c ls zs ts us k h x l a g b d =
       let w : 64 * (c .width * c .height / 64) ≡ c .width * c .height = blocks (c .width) (c .height) (l .width .whole) (l .height .whole) in
       let n = c .width * c .height / 64 in
       read-opening s j c ls ts (take 64 us) k (blockLines n zs ++ rest) (more-left (blockLines n zs) rest more) h x l (length-take-le 64 us b) (take-quantisers 64 us d)
-      ∙ read-blocks limit rest more (placed s j c) (j + 1) (ts ++ take 64 us) n ls zs (k + 1) (omega (arith, w)) g
-      ∙ ap (λ (x : ℕ). readFrom limit (during (placed s j c) (j + 1) 0) (ls ++ take x zs) (ts ++ take 64 us) (k + 1 + n) rest) w
+      ∙ read-blocks limits rest more (placed s j c) (j + 1) (ts ++ take 64 us) n ls zs (k + 1) (omega (arith, w)) g
+      ∙ ap (λ (x : ℕ). readFrom limits (during (placed s j c) (j + 1) 0) (held (ls ++ take x zs) (ts ++ take 64 us)) (k + 1 + n) rest) w
 
 -- All channels
 
-abbrev placedAll : Sheet → ℕ → List Channel → Sheet
+abbrev pub placedAll : Sheet → ℕ → List Channel → Sheet
 placedAll s j [] = s
 placedAll s j (c ∷ cs) = placedAll (placed s j c) (j + 1) cs
 
@@ -141,48 +142,48 @@ abbrev LegalChannels : Header → List Channel → Type 0
 LegalChannels h [] = Unit {0}
 LegalChannels h (c ∷ cs) = LegalChannel h c × LegalChannels h cs
 
-read-channels : (limit : ℕ) (rest : List (List ℕ)) → isLast rest ≡ false → (cs : List Channel) (s : Sheet) (j : ℕ) (ls zs : List ℤ) (ts us : List ℕ) (k : ℕ)
+read-channels : (limits : Limits) (rest : List (List ℕ)) → isLast rest ≡ false → (cs : List Channel) (s : Sheet) (j : ℕ) (ls zs : List ℤ) (ts us : List ℕ) (k : ℕ)
     → j + length cs ≡ s .header .channels → SixDigits (s .header) → LegalChannels (s .header) cs → length zs ≡ levelsIn cs → LegalLevels zs → length us ≡ 64 * length cs → LegalQuantisers us
-    → (m : ℕ) × (readFrom limit (during s j 0) ls ts k (channelLines cs zs us ++ rest) ≡ readFrom limit (during (placedAll s j cs) (j + length cs) 0) (ls ++ zs) (ts ++ us) m rest)
-read-channels limit rest more [] s j ls [] ts [] k h v l a g b d = (k, let e : j + 0 ≡ j = omega arith in rw (e, append-nil ls, append-nil ts))
-read-channels limit rest more [] s j ls (z ∷ zs) ts us k h v l a g b d = let y : ⊥ = omega arith in absurd y
-read-channels limit rest more [] s j ls [] ts (u ∷ us) k h v l a g b d = let y : ⊥ = omega arith in absurd y
-read-channels limit rest more (c ∷ cs) s j ls zs ts us k h v l a g b d =
+    → (m : ℕ) × (readFrom limits (during s j 0) (held ls ts) k (channelLines cs (held zs us) ++ rest) ≡ readFrom limits (during (placedAll s j cs) (j + length cs) 0) (held (ls ++ zs) (ts ++ us)) m rest)
+read-channels limits rest more [] s j ls [] ts [] k h v l a g b d = (k, let e : j + 0 ≡ j = omega arith in rw (e, append-nil ls, append-nil ts))
+read-channels limits rest more [] s j ls (z ∷ zs) ts us k h v l a g b d = let y : ⊥ = omega arith in absurd y
+read-channels limits rest more [] s j ls [] ts (u ∷ us) k h v l a g b d = let y : ⊥ = omega arith in absurd y
+read-channels limits rest more (c ∷ cs) s j ls zs ts us k h v l a g b d =
     let x = c .width * c .height in
     let n = x / 64 in
-    let later = channelLines cs (drop x zs) (drop 64 us) in
+    let later = channelLines cs (held (drop x zs) (drop 64 us)) in
     let ih =
-    read-channels limit rest more cs (placed s j c) (j + 1) (ls ++ take x zs) (drop x zs) (ts ++ take 64 us) (drop 64 us) (k + 1 + n) (omega arith) v (l .1)
+    read-channels limits rest more cs (placed s j c) (j + 1) (ls ++ take x zs) (drop x zs) (ts ++ take 64 us) (drop 64 us) (k + 1 + n) (omega arith) v (l .1)
     (length-drop x zs ∙ omega arith) (drop-levels x zs g) (length-drop 64 us ∙ omega arith) (drop-quantisers 64 us d) in (
       ih .0,
-      ap (λ (q : List (List ℕ)). readFrom limit (during s j 0) ls ts k (joined (channelFields c (take 64 us)) ∷ q)) (append-assoc (blockLines n zs) later rest)
-          ∙ read-channel limit (later ++ rest) (more-left later rest more) s j c ls zs ts us k (omega arith) v (l .0) (omega arith) g (omega arith) d
+      ap (λ (q : List (List ℕ)). readFrom limits (during s j 0) (held ls ts) k (joined (channelFields c (take 64 us)) ∷ q)) (append-assoc (blockLines n zs) later rest)
+          ∙ read-channel limits (later ++ rest) (more-left later rest more) s j c ls zs ts us k (omega arith) v (l .0) (omega arith) g (omega arith) d
           ∙ ih .1
           ∙ again (placedAll (placed s j c) (j + 1) cs) x (ih .0),
     )
   where
     again : (v : Sheet) (x m : ℕ)
-        → readFrom limit (during v (j + 1 + length cs) 0) (ls ++ take x zs ++ drop x zs) (ts ++ take 64 us ++ drop 64 us) m rest
-        ≡ readFrom limit (during v (j + suc (length cs)) 0) (ls ++ zs) (ts ++ us) m rest
+        → readFrom limits (during v (j + 1 + length cs) 0) (held (ls ++ take x zs ++ drop x zs) (ts ++ take 64 us ++ drop 64 us)) m rest
+        ≡ readFrom limits (during v (j + suc (length cs)) 0) (held (ls ++ zs) (ts ++ us)) m rest
     again v x m =
         let e : j + 1 + length cs ≡ j + suc (length cs) = omega arith in
         rw (append-assoc ls (take x zs) (drop x zs), append-assoc ts (take 64 us) (drop 64 us), take-append-drop x zs, take-append-drop 64 us, e)
 
 -- The whole text
 
-read-end : (limit : ℕ) (s : Sheet) (j : ℕ) (ls : List ℤ) (ts : List ℕ) (k : ℕ) → s .header .channels ≤ j → readFrom limit (during s j 0) ls ts k (joined endFields ∷ [] ∷ []) ≡ contents s ls ts
-unfolding expectedTag rulesOf fieldCount
-read-end limit s j ls ts k h =
-    line-end limit (during s j 0) ls ts k (69 ∷ []) ([] ∷ []) (readFrom limit (during s j 0) ls ts k ((69 ∷ []) ∷ [] ∷ [])) refl 69 (rw (le-ltb j (s .header .channels) h)) (omega arith) refl refl end-good refl refl
+read-end : (limits : Limits) (s : Sheet) (j : ℕ) (H : Held) (k : ℕ) → s .header .channels ≤ j → readFrom limits (during s j 0) H k (joined endFields ∷ [] ∷ []) ≡ contents s H
+unfolding lineTag rulesOf fieldCount
+read-end limits s j H k h =
+    line-end limits (during s j 0) H k (69 ∷ []) ([] ∷ []) (readFrom limits (during s j 0) H k ((69 ∷ []) ∷ [] ∷ [])) refl 69 (rw (le-ltb j (s .header .channels) h)) (omega arith) refl refl end-good refl refl
 
-read-header : (limit : ℕ) → limit ≤ 512 → (h : Header) → LegalHeader limit h → (rest : List (List ℕ)) → isLast rest ≡ false
-    → readFrom limit blank [] [] 1 (joined (headerFields h) ∷ rest) ≡ readFrom limit (during (headed h) 0 0) [] [] 2 rest
-unfolding blank expectedTag rulesOf fieldCount recordOf takenOf
-read-header limit most h l rest e =
+read-header : (limits : Limits) → limits .side ≤ 512 → (h : Header) → LegalHeader limits h → (rest : List (List ℕ)) → isLast rest ≡ false
+    → readFrom limits blank (held [] []) 1 (joined (headerFields h) ∷ rest) ≡ readFrom limits (during (headed h) 0 0) (held [] []) 2 rest
+unfolding blank lineTag rulesOf fieldCount recordOf takenOf
+read-header limits most h l rest e =
     let fs = headerFields h in
-    read-row limit blank [] [] 1 fs rest 83 refl (λ q. omega arith) (omega arith) (header-free 9 (omega arith) h) (header-short limit most h l) e
-    refl (header-good limit most h l) (during (headed h) 0 0) (rw (header-back limit most h l))
-    ∙ rw (levels-without (headerRules limit fs) fs refl, tables-without (headerRules limit fs) fs refl)
+    read-row limits blank (held [] []) 1 fs rest 83 refl (λ q. omega arith) (omega arith) (header-free 9 (omega arith) h) (header-short limits most h l) e
+    refl (header-good limits most h l) (during (headed h) 0 0) (rw (header-back limits most h l))
+    ∙ rw (levels-without (headerRules limits fs) fs refl, tables-without (headerRules limits fs) fs refl)
 
 -- the lines have no line end in them
 free-blocks : (n : ℕ) (zs : List ℤ) → allFree 10 (blockLines n zs) ≡ true
@@ -197,19 +198,19 @@ free-both (p ∷ ps) qs a b = two (free 10 p) a (free-both ps qs)
     two true o ih = ih o b
     two false o ih = o
 
-free-channels : (cs : List Channel) (ls : List ℤ) (ts : List ℕ) → allFree 10 (channelLines cs ls ts) ≡ true
-free-channels [] ls ts = refl
-free-channels (c ∷ cs) ls ts =
-    rw (joined-free (channelFields c (take 64 ts)) (channel-free 10 (omega arith) c (take 64 ts)))
-    (free-both (blockLines (c .width * c .height / 64) ls) (channelLines cs (drop (c .width * c .height) ls) (drop 64 ts)) (free-blocks (c .width * c .height / 64) ls)
-    (free-channels cs (drop (c .width * c .height) ls) (drop 64 ts)))
+free-channels : (cs : List Channel) (H : Held) → allFree 10 (channelLines cs H) ≡ true
+free-channels [] H = refl
+free-channels (c ∷ cs) H =
+    rw (joined-free (channelFields c (take 64 (H .tables))) (channel-free 10 (omega arith) c (take 64 (H .tables))))
+    (free-both (blockLines (c .width * c .height / 64) (H .levels)) (channelLines cs (held (drop (c .width * c .height) (H .levels)) (drop 64 (H .tables)))) (free-blocks (c .width * c .height / 64) (H .levels))
+    (free-channels cs (held (drop (c .width * c .height) (H .levels)) (drop 64 (H .tables)))))
 
-written-lines : (s : Sheet) (ls : List ℤ) (ts : List ℕ) → split 10 (written s ls ts) ≡ joined (headerFields (s .header)) ∷ (channelLines (channelsOf s) ls ts ++ joined endFields ∷ [] ∷ [])
+written-lines : (s : Sheet) (H : Held) → split 10 (written s H) ≡ joined (headerFields (s .header)) ∷ (channelLines (channelsOf s) H ++ joined endFields ∷ [] ∷ [])
 unfolding written
-written-lines s ls ts =
-    let cs = channelLines (channelsOf s) ls ts in
+written-lines s H =
+    let cs = channelLines (channelsOf s) H in
     split-ended (joined (headerFields (s .header)) ∷ (cs ++ joined endFields ∷ []))
-    (rw (joined-free (headerFields (s .header)) (header-free 10 (omega arith) (s .header))) (free-both cs (joined endFields ∷ []) (free-channels (channelsOf s) ls ts) refl))
+    (rw (joined-free (headerFields (s .header)) (header-free 10 (omega arith) (s .header))) (free-both cs (joined endFields ∷ []) (free-channels (channelsOf s) H) refl))
     ∙ ap (λ (q : List (List ℕ)). joined (headerFields (s .header)) ∷ q) (append-assoc cs (joined endFields ∷ []) ([] ∷ []))
 
 -- the first n channels are those that are placed
@@ -222,8 +223,8 @@ record Used (s : Sheet) (n : ℕ) : Type 0 where
   legal : LegalChannels (s .header) (channelsTo s n)
   placed : placedAll (headed (s .header)) 0 (channelsTo s n) ≡ s
 
-used : (limit : ℕ) (s : Sheet) (ls : List ℤ) (ts : List ℕ) → LegalSheet limit s ls ts → Used s (s .header .channels)
-used limit s ls ts l = by (l .header .channels)
+used : (limits : Limits) (s : Sheet) (H : Held) → LegalSheet limits s H → Used s (s .header .channels)
+used limits s H l = by (l .header .channels)
   where
     by : (s .header .channels ≡ 1) ⊎ (s .header .channels ≡ 3) → Used s (s .header .channels)
     by (inl e) =
@@ -249,18 +250,18 @@ side-test : (most n : ℕ) → LegalSide most n → isSide most n ≡ true
 side-test most n l = rw (eq-eqb _ _ (l .whole), le-leb _ _ (l .low), le-leb _ _ (l .top))
 
 -- Reading what is written gives the sheet back
-pub round-trip : (limit : ℕ) (s : Sheet) (ls : List ℤ) (ts : List ℕ) → LegalSheet limit s ls ts → readText limit (written s ls ts) ≡ contents s ls ts
+pub round-trip : (limits : Limits) (s : Sheet) (H : Held) → LegalSheet limits s H → readText limits (written s H) ≡ contents s H
 unfolding readText
-round-trip limit s ls ts l =
-    let u = used limit s ls ts l in
+round-trip limits s H l =
+    let u = used limits s H l in
     let cs = channelsOf s in
     let end : List (List ℕ) = joined endFields ∷ [] ∷ [] in
     let r =
-    read-channels limit end refl cs (headed (s .header)) 0 [] ls [] ts 2 (omega (arith, u .count)) (omega (arith, l .most .top, l .header .width .top), omega (arith, l .most .top, l .header .height .top)) (u .legal) (l .levels-count ∙ u .levels) (l .levels)
+    read-channels limits end refl cs (headed (s .header)) 0 [] (H .levels) [] (H .tables) 2 (omega (arith, u .count)) (omega (arith, l .limits-legal .side .top, l .header .width .top), omega (arith, l .limits-legal .side .top, l .header .height .top)) (u .legal) (l .levels-count ∙ u .levels) (l .levels)
     (l .tables-count ∙ ap (λ (n : ℕ). 64 * n) (sym (u .count))) (l .tables) in
-    ap (λ (b : Bool). cond b (readFrom limit blank [] [] 1 (split 10 (written s ls ts))) (Refused 2 0)) (side-test 512 limit (l .most))
-    ∙ ap (λ (ps : List (List ℕ)). readFrom limit blank [] [] 1 ps) (written-lines s ls ts)
-    ∙ read-header limit (l .most .top) (s .header) (l .header) (channelLines cs ls ts ++ end) (more-left (channelLines cs ls ts) end refl)
+    ap (λ (b : Bool). cond b (readFrom limits blank (held [] []) 1 (split 10 (written s H))) (Refused 2 0)) (side-test 512 (limits .side) (l .limits-legal .side))
+    ∙ ap (λ (ps : List (List ℕ)). readFrom limits blank (held [] []) 1 ps) (written-lines s H)
+    ∙ read-header limits (l .limits-legal .side .top) (s .header) (l .header) (channelLines cs H ++ end) (more-left (channelLines cs H) end refl)
     ∙ r .1
-    ∙ ap (λ (v : Sheet). readFrom limit (during v (0 + length cs) 0) ls ts (r .0) end) (u .placed)
-    ∙ read-end limit s (0 + length cs) ls ts (r .0) (omega (arith, u .count))
+    ∙ ap (λ (v : Sheet). readFrom limits (during v (0 + length cs) 0) H (r .0) end) (u .placed)
+    ∙ read-end limits s (0 + length cs) H (r .0) (omega (arith, u .count))

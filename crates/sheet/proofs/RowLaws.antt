@@ -25,9 +25,10 @@ use Rattle.text.proofs.FieldLaws.{range-in, side-in, channels-one, channels-thr
 use Rattle.text.proofs.DecimalLaws.{number-written, decimal-length}
 use Rattle.text.proofs.SpellingLaws.{weight-written, level-written, weight-length, level-length}
 use Rattle.text.proofs.JoinLaws.{above, above-free, above-less, above-decimal, above-weight, above-level, allFree, Within, joined-length}
+use Rattle.sheet.specs.declared.Limits.{Limits}
 use Rattle.sheet.specs.declared.Header.{Header}
 use Rattle.sheet.specs.declared.Channel.{Channel}
-use Rattle.sheet.specs.Lines.{count, headerRules, channelRules, blockRules, firstFault, lineLevels, lineTables, headerOf, channelOf}
+use Rattle.sheet.specs.Lines.{count, mode, headerRules, channelRules, blockRules, firstFault, lineLevels, lineTables, headerOf, channelOf}
 use Rattle.sheet.specs.Legal.{LegalHeader, LegalChannel, LegalQuantisers, LegalLevels}
 use Rattle.sheet.specs.Written.{headerFields, channelFields, blockFields, endFields}
 
@@ -57,7 +58,7 @@ tag-written : (t : ℕ) → faultIn (fieldOf (rule.Tag t) (t ∷ [])) ≡ none
 unfolding fieldOf
 tag-written t = rw (eq-eqb t t refl)
 
-mode-written : (j : Bool) → faultIn (fieldOf rule.Mode (cond j 106 115 ∷ [])) ≡ none
+mode-written : (j : Bool) → faultIn (fieldOf mode (cond j 106 115 ∷ [])) ≡ none
 unfolding fieldOf
 mode-written true = refl
 mode-written false = refl
@@ -85,7 +86,7 @@ mode-back : (j : Bool) → letter 106 (cond j 106 115 ∷ []) ≡ j
 mode-back true = refl
 mode-back false = refl
 
-module _ (limit : ℕ) (most : limit ≤ 512) (h : Header) (l : LegalHeader limit h) where
+module _ (limits : Limits) (most : limits .side ≤ 512) (h : Header) (l : LegalHeader limits h) where
   wide : h .width ≤ 999999
   wide = omega (arith, l .width .top)
 
@@ -99,15 +100,15 @@ module _ (limit : ℕ) (most : limit ≤ 512) (h : Header) (l : LegalHeader limi
       by (inl e) = omega arith
       by (inr e) = omega arith
 
-  pub header-good : firstFault (headerRules limit (headerFields h)) (headerFields h) ≡ none
+  pub header-good : firstFault (headerRules limits (headerFields h)) (headerFields h) ≡ none
   unfolding numberAt
   header-good =
-      goods (headerRules limit (headerFields h)) (headerFields h) (
+      goods (headerRules limits (headerFields h)) (headerFields h) (
         tag-written 83,
         (
-          side-written limit (h .width) (l .width) wide,
+          side-written (limits .side) (h .width) (l .width) wide,
           (
-            side-written limit (h .height) (l .height) high,
+            side-written (limits .side) (h .height) (l .height) high,
             (
               rw (number-back (h .width) wide) (range-written 2 1 (h .width) (h .«picture_width») (l .shown-width) (omega (arith, l .shown-width .top, wide))),
               (
@@ -306,10 +307,10 @@ all-low : (zs : List ℤ) → LegalLevels zs → Within (map levelText zs) (repl
 all-low [] l = tt
 all-low (z ∷ zs) l = (level-length z (l .0), all-low zs (l .1))
 
-pub header-short : (limit : ℕ) → limit ≤ 512 → (h : Header) → LegalHeader limit h → length (joined (headerFields h)) ≤ 1024
-header-short limit most h l =
-    let w = short-decimal (h .width) (wide limit most h l) in
-    let v = short-decimal (h .height) (high limit most h l) in
+pub header-short : (limits : Limits) → limits .side ≤ 512 → (h : Header) → LegalHeader limits h → length (joined (headerFields h)) ≤ 1024
+header-short limits most h l =
+    let w = short-decimal (h .width) (wide limits most h l) in
+    let v = short-decimal (h .height) (high limits most h l) in
     omega (
       arith,
       joined-length (headerFields h) (1 ∷ replicate 5 6 ++ 1 ∷ replicate 3 6 ++ replicate 6 9) (omega arith) (
@@ -319,11 +320,11 @@ header-short limit most h l =
           (
             v,
             (
-              short-decimal (h .«picture_width») (omega (arith, l .shown-width .top, wide limit most h l)),
+              short-decimal (h .«picture_width») (omega (arith, l .shown-width .top, wide limits most h l)),
               (
-                short-decimal (h .«picture_height») (omega (arith, l .shown-height .top, high limit most h l)),
+                short-decimal (h .«picture_height») (omega (arith, l .shown-height .top, high limits most h l)),
                 (
-                  short-decimal (h .channels) (few limit most h l),
+                  short-decimal (h .channels) (few limits most h l),
                   (
                     omega arith,
                     (

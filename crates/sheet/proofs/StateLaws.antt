@@ -3,11 +3,12 @@ use Prim.Native.Nat.{ℕ, _+_, _-_, _*_, _/_, _<_, _≤_}
 use mathlib.Core.Path.{_≡_, refl, subst, subst⁻¹}
 use mathlib.Core.List.{List}
 use mathlib.Core.Bool.{Bool, true, false, cond}
+use native.Mathlib.Omega.{arith}
 use native.Mathlib.Nat.{lt-of-le-of-lt, le-of-lt, mul-le-mul-left, mul-lt-mul-of-pos-right}
 use mir.Syntax.{w32, w64}
 use mir.Val.{Fits}
 use lib.Dec.{eqb, ltb, lit<}
-use borrow.Author.Tests.{le-leb, lt-leb, lt-ltb, le-ltb, ltb-true}
+use borrow.Author.Tests.{le-leb, lt-leb, lt-ltb, le-ltb, ltb-true, ltb-false}
 use Rattle.sheet.specs.declared.Header.{Header}
 use Rattle.sheet.specs.declared.Channel.{Channel}
 use Rattle.sheet.specs.declared.Sheet.{Sheet}
@@ -18,7 +19,7 @@ use Rattle.sheet.specs.declared.state.Taken.{Taken}
 use Rattle.sheet.specs.declared.state.Taken.the-variants as taken
 use Rattle.sheet.specs.Lines.{noHeader, noChannel, headerOf, channelOf, recordOf}
 use Rattle.sheet.specs.Walk.{Due}
-use Rattle.sheet.specs.Reading.{headed, blank, expectedTag, placed, takenOf}
+use Rattle.sheet.specs.Reading.{headed, blank, lineTag, placed, takenOf}
 
 -- Nothing, and a header
 
@@ -31,25 +32,45 @@ blank-is h s e q = rw (q, e)
 
 -- The next line's tag
 
-module _ (s : State) where
-  pub tag-S : s .begun ≡ false → 83 ≡ expectedTag s
-  unfolding expectedTag
+module _ (s : State) (fs : List (List ℕ)) where
+  pub tag-S : s .begun ≡ false → 83 ≡ lineTag s fs
+  unfolding lineTag
   tag-S b = rw b
 
   module _ (b : s .begun ≡ true) where
-    pub tag-B : 0 < s .left → 66 ≡ expectedTag s
-    unfolding expectedTag
+    pub tag-B : 0 < s .left → 66 ≡ lineTag s fs
+    unfolding lineTag
     tag-B h = rw (b, lt-ltb 0 (s .left) h)
 
-    pub tag-C : s .left ≤ 0 → s .read < s .sheet .header .channels → 67 ≡ expectedTag s
-    unfolding expectedTag
+    pub tag-C : s .left ≤ 0 → s .read < s .sheet .header .channels → 67 ≡ lineTag s fs
+    unfolding lineTag
     tag-C h k = rw (b, le-ltb 0 (s .left) h, lt-ltb (s .read) (s .sheet .header .channels) k)
 
-    pub tag-E : s .left ≤ 0 → s .sheet .header .channels ≤ s .read → 69 ≡ expectedTag s
-    unfolding expectedTag
+    pub tag-E : s .left ≤ 0 → s .sheet .header .channels ≤ s .read → 69 ≡ lineTag s fs
+    unfolding lineTag
     tag-E h k = rw (b, le-ltb 0 (s .left) h, le-ltb (s .read) (s .sheet .header .channels) k)
 
 pub ruleset nexts = (headed-is, blank-is, tag-S, tag-B, tag-C, tag-E)
+
+-- Which line may stand after what was read
+pub data Stands (s : State) (tag : ℕ) : Type 0 where
+  Header-line : s .begun ≡ false → tag ≡ 83 → Stands s tag
+  Block-line : s .begun ≡ true → 0 < s .left → tag ≡ 66 → Stands s tag
+  Channel-line : s .begun ≡ true → s .left ≤ 0 → s .read < s .sheet .header .channels → tag ≡ 67 → Stands s tag
+  End-line : s .begun ≡ true → s .left ≤ 0 → s .sheet .header .channels ≤ s .read → tag ≡ 69 → Stands s tag
+
+pub unbegun : (s : State) {A : Type 0} → s .begun ≡ true → s .begun ≡ false → A
+unbegun s p q = let z : _≡_ {A = ℕ} 0 1 = cc in let y : ⊥ = omega arith in absurd y
+
+pub stands : (s : State) (fs : List (List ℕ)) (tag : ℕ) → tag ≡ lineTag s fs → Stands s tag
+unfolding lineTag
+stands s fs tag e = three (s .begun) (ltb 0 (s .left)) (ltb (s .read) (s .sheet .header .channels)) refl refl refl e
+  where
+    three : (a b c : Bool) → s .begun ≡ a → ltb 0 (s .left) ≡ b → ltb (s .read) (s .sheet .header .channels) ≡ c → tag ≡ cond a (cond b 66 (cond c 67 69)) 83 → Stands s tag
+    three false b c p q r o = Header-line p o
+    three true true c p q r o = Block-line p (ltb-true 0 (s .left) q) o
+    three true false true p q r o = Channel-line p (ltb-false 0 (s .left) q) (ltb-true (s .read) (s .sheet .header .channels) r) o
+    three true false false p q r o = End-line p (ltb-false 0 (s .left) q) (ltb-false (s .read) (s .sheet .header .channels) r) o
 
 -- What a line adds
 
@@ -96,15 +117,14 @@ module _ (s : State) (rec : Record) where
     due-block e = subst (Due s) e d
 
 -- what is due where the tag isn't E
-pub due : (s : State) (tag : ℕ) → tag ≡ expectedTag s → (tag ≡ 69 → ⊥) → (fs : List (List ℕ)) (rec : Record) → rec ≡ recordOf tag fs → Due s rec
-unfolding expectedTag recordOf
-due s tag e h fs rec q = subst⁻¹ (Due s) q (three (s .begun) (ltb 0 (s .left)) (ltb (s .read) (s .sheet .header .channels)) refl refl e)
+pub due : (s : State) (fs : List (List ℕ)) (tag : ℕ) → tag ≡ lineTag s fs → (tag ≡ 69 → ⊥) → (rec : Record) → rec ≡ recordOf tag fs → Due s rec
+unfolding recordOf
+due s fs tag e h rec q = subst⁻¹ (Due s) q (by (stands s fs tag e))
   where
-    three : (a b c : Bool) → ltb 0 (s .left) ≡ b → ltb (s .read) (s .sheet .header .channels) ≡ c → tag ≡ cond a (cond b 66 (cond c 67 69)) 83
-        → Due s (cond (eqb tag 83) (line.Header (headerOf fs)) (cond (eqb tag 67) (line.Channel (channelOf fs)) line.Block))
-    three false b c p r o = rw o tt
-    three true true c p r o = rw o (ltb-true 0 (s .left) p)
-    three true false true p r o = rw o (ltb-true (s .read) (s .sheet .header .channels) r)
-    three true false false p r o = absurd (h o)
+    by : Stands s tag → Due s (cond (eqb tag 83) (line.Header (headerOf fs)) (cond (eqb tag 67) (line.Channel (channelOf fs)) line.Block))
+    by (Header-line p o) = rw o tt
+    by (Block-line p l o) = rw o l
+    by (Channel-line p l r o) = rw o r
+    by (End-line p l r o) = absurd (h o)
 
 pub ruleset takes = (placed-is, channel-wide, channel-high, channel-opened, product-fits, record-header, record-channel, record-block, due-channel, due-block)

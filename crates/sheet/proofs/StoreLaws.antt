@@ -1,4 +1,4 @@
--- One field's value goes to its buffer, and whether a limit can be a side.
+-- One field's value goes to its buffer, and whether a side limit can be one.
 use Prim.Native.Nat.{ℕ, _+_, _%_, _<_, _≤_}
 use mathlib.Core.Path.{_≡_, refl, sym}
 use mathlib.Core.List.{List, [], _∷_}

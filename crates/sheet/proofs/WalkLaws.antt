@@ -23,17 +23,20 @@ use Rattle.text.specs.declared.field.Field.the-variants as field
 use Rattle.text.specs.declared.pieces.Line.{Line}
 use Rattle.text.specs.Pieces.{split, before, onto}
 use Rattle.text.specs.Cursor.{AtField, IsLine}
-use Rattle.text.specs.Fields.{letter, isSide, fieldOf, faultIn, levelsIn, tablesIn}
+use Rattle.text.specs.Fields.{letter, fieldOf, faultIn, levelsIn, tablesIn}
 use Rattle.text.proofs.PieceLaws.{at-start, at-here, at-next, at-end, before-le, before-take, split-cut, split-whole, split-first, split-some, split-length}
+use Rattle.sheet.specs.declared.Limits.{Limits}
+use Rattle.sheet.specs.declared.Header.{Header}
 use Rattle.sheet.specs.declared.line.Record.{Record}
 use Rattle.sheet.specs.declared.state.State.{State}
 use Rattle.sheet.specs.declared.state.Taken.{Taken}
 use Rattle.sheet.specs.declared.state.Taken.the-variants as taken
 use Rattle.sheet.specs.declared.walk.Walked.the-variants as walked
-use Rattle.sheet.specs.Lines.{headerRules, channelRules, blockRules, endRules, rulesOf, fieldCount, firstFault, fieldsFault, lineLevels, lineTables, recordOf}
-use Rattle.sheet.specs.Reading.{Outcome, Contents, contents, blank, expectedTag, takenOf, isLast, nothingLeft, onTaken, lineFault, readFrom, readText}
+use Rattle.sheet.specs.Lines.{headerRules, channelRules, blockRules, endRules, rulesOf, fieldCount, firstFault, fieldsFault, lineLevels, lineTables, Held, held, holding, recordOf}
+use Rattle.sheet.specs.Reading.{Outcome, Contents, contents, blank, lineTag, takenOf, isLast, nothingLeft, onTaken, lineFault, readFrom, allowed, readText}
 use Rattle.sheet.specs.Reading.Outcome.{Refused}
-use Rattle.sheet.specs.Walk.{Stored, Walks}
+use Rattle.sheet.specs.Calls.{Lengths}
+use Rattle.sheet.specs.Walk.{saidBefore, Stored, Walks}
 
 -- Stores one after the other
 
@@ -74,30 +77,30 @@ stored-end d e = record { next = omega (arith, d .next, e .next); last = e .last
 
 -- The fields of one line
 
-pub rules-length : (t limit : ℕ) (fs : List (List ℕ)) → length (rulesOf t limit fs) ≡ fieldCount t
+pub rules-length : (t : ℕ) (limits : Limits) (top : Header) (fs : List (List ℕ)) → length (rulesOf t limits top fs) ≡ fieldCount t
 unfolding rulesOf fieldCount
-rules-length t limit fs = three (eqb t 66) (eqb t 67) (eqb t 83)
+rules-length t limits top fs = three (eqb t 66) (eqb t 67) (eqb t 83)
   where
-    three : (a b c : Bool) → length (cond a blockRules (cond b channelRules (cond c (headerRules limit fs) endRules))) ≡ cond a 65 (cond b 69 (cond c 16 1))
+    three : (a b c : Bool) → length (cond a blockRules (cond b channelRules (cond c (headerRules limits fs) endRules))) ≡ cond a 65 (cond b 69 (cond c 16 1))
     three true b c = refl
     three false true c = refl
     three false false true = refl
     three false false false = refl
 
 -- E adds nothing
-end-levels : (t limit : ℕ) (fs : List (List ℕ)) → t ≡ 69 → lineLevels (rulesOf t limit fs) fs ≡ []
+end-levels : (t : ℕ) (limits : Limits) (top : Header) (fs : List (List ℕ)) → t ≡ 69 → lineLevels (rulesOf t limits top fs) fs ≡ []
 unfolding rulesOf fieldOf
-end-levels t limit [] e = rw e
-end-levels t limit (f ∷ fs) e = rw e (two (letter 69 f))
+end-levels t limits top [] e = rw e
+end-levels t limits top (f ∷ fs) e = rw e (two (letter 69 f))
   where
     two : (b : Bool) → levelsIn (cond b field.Good (field.Bad 1)) ++ [] ≡ []
     two true = refl
     two false = refl
 
-end-tables : (t limit : ℕ) (fs : List (List ℕ)) → t ≡ 69 → lineTables (rulesOf t limit fs) fs ≡ []
+end-tables : (t : ℕ) (limits : Limits) (top : Header) (fs : List (List ℕ)) → t ≡ 69 → lineTables (rulesOf t limits top fs) fs ≡ []
 unfolding rulesOf fieldOf
-end-tables t limit [] e = rw e
-end-tables t limit (f ∷ fs) e = rw e (two (letter 69 f))
+end-tables t limits top [] e = rw e
+end-tables t limits top (f ∷ fs) e = rw e (two (letter 69 f))
   where
     two : (b : Bool) → tablesIn (cond b field.Good (field.Bad 1)) ++ [] ≡ []
     two true = refl
@@ -109,26 +112,32 @@ good-field (field.Quantiser q) h = refl
 good-field (field.Level z) h = refl
 good-field field.Good h = refl
 
+-- the next places of the lent buffers
+abbrev pub places : ℕ → ℕ → Lengths
+places n m = record { levels = n; tables = m }
+
 -- the fields of a row by the rules rs, from field i on, after those before it
-pub record Checking (rs : List Rule) (row : List ℕ) (count : ℕ) (l₀ : List ℤ) (t₀ : List ℕ) (n₀ m₀ : ℕ) (l : List ℤ) (t : List ℕ) (n m i a : ℕ) : Type 0 where
+pub record Checking (rs : List Rule) (row : List ℕ) (count : ℕ) (lent : Held) (from : Lengths) (after : Held) (next : Lengths) (i a : ℕ) (last : Field) : Type 0 where
   upto : i ≤ count
   field : i < count → AtField row i a
+  pub said : last ≡ saidBefore rs (split 9 row) i
   fault : firstFault (drop i rs) (drop i (split 9 row)) ≡ firstFault rs (split 9 row)
-  levels : Storing l₀ n₀ l n (lineLevels (drop i rs) (drop i (split 9 row))) (lineLevels rs (split 9 row))
-  tables : Storing t₀ m₀ t m (lineTables (drop i rs) (drop i (split 9 row))) (lineTables rs (split 9 row))
-  pub held : n ≤ n₀ + i
-  pub listed : m ≤ m₀ + i
+  levels : Storing (lent .levels) (from .levels) (after .levels) (next .levels) (lineLevels (drop i rs) (drop i (split 9 row))) (lineLevels rs (split 9 row))
+  tables : Storing (lent .tables) (from .tables) (after .tables) (next .tables) (lineTables (drop i rs) (drop i (split 9 row))) (lineTables rs (split 9 row))
+  pub held-most : next .levels ≤ from .levels + i
+  pub listed-most : next .tables ≤ from .tables + i
 
-pub check-begin : (rs : List Rule) (row : List ℕ) (count : ℕ) (l : List ℤ) (t : List ℕ) (n m : ℕ) → Checking rs row count l t n m l t n m 0 0
-check-begin rs row count l t n m =
+pub check-begin : (rs : List Rule) (row : List ℕ) (count : ℕ) (lent : Held) (from : Lengths) → Checking rs row count lent from lent from 0 0 field.Good
+check-begin rs row count lent from =
     record {
       upto = omega arith;
       field = λ _. at-start row;
+      said = refl;
       fault = refl;
       levels = record { place = refl; value = refl };
       tables = record { place = refl; value = refl };
-      held = omega arith;
-      listed = omega arith;
+      held-most = omega arith;
+      listed-most = omega arith;
     }
 
 few-levels : (f : Field) → length (levelsIn f) ≤ 1
@@ -143,12 +152,12 @@ few-tables (field.Quantiser q) = omega arith
 few-tables (field.Level z) = omega arith
 few-tables field.Good = omega arith
 
-module _ {rs : List Rule} {row : List ℕ} {count : ℕ} {l₀ : List ℤ} {t₀ : List ℕ} {n₀ m₀ : ℕ} {l : List ℤ} {t : List ℕ} {n m i a : ℕ}
-    (s : Checking rs row count l₀ t₀ n₀ m₀ l t n m i a) where
-  pub check-levels : length l ≡ length l₀
+module _ {rs : List Rule} {row : List ℕ} {count : ℕ} {lent : Held} {from : Lengths} {after : Held} {next : Lengths} {i a : ℕ} {last : Field}
+    (s : Checking rs row count lent from after next i a last) where
+  pub check-levels : length (after .levels) ≡ length (lent .levels)
   check-levels = storing-length (s .levels)
 
-  pub check-tables : length t ≡ length t₀
+  pub check-tables : length (after .tables) ≡ length (lent .tables)
   check-tables = storing-length (s .tables)
 
   module _ (h : i < count) where
@@ -176,17 +185,18 @@ module _ {rs : List Rule} {row : List ℕ} {count : ℕ} {l₀ : List ℤ} {t₀
         pub check-bad : (k : ℕ) → f ≡ field.Bad k → firstFault rs (split 9 row) ≡ some k
         check-bad k z = sym (s .fault) ∙ rw (rs-next, fs-next, sym here, z)
 
-        pub check-step : faultIn f ≡ none → {l' : List ℤ} {n' : ℕ} → Stored l l' n n' (levelsIn f) → {t' : List ℕ} {m' : ℕ} → Stored t t' m m' (tablesIn f)
-            → Checking rs row count l₀ t₀ n₀ m₀ l' t' n' m' (i + 1) (e + 1)
+        pub check-step : faultIn f ≡ none → {l' : List ℤ} {n' : ℕ} → Stored (after .levels) l' (next .levels) n' (levelsIn f) → {t' : List ℕ} {m' : ℕ} → Stored (after .tables) t' (next .tables) m' (tablesIn f)
+            → Checking rs row count lent from (held l' t') (places n' m') (i + 1) (e + 1) f
         check-step z u v =
             record {
               upto = omega arith;
               field = λ g. rw p (at-next (s .field h) (omega arith));
+              said = rw (add-one i) here;
               fault = sym (rw (rs-next, fs-next, sym here, z)) ∙ s .fault;
               levels = storing-more (levelsIn f) (lineLevels (drop (i + 1) rs) (drop (i + 1) (split 9 row))) (rw (rs-next, fs-next, sym here) at (s .levels)) u;
               tables = storing-more (tablesIn f) (lineTables (drop (i + 1) rs) (drop (i + 1) (split 9 row))) (rw (rs-next, fs-next, sym here) at (s .tables)) v;
-              held = omega (arith, s .held, u .next, few-levels f);
-              listed = omega (arith, s .listed, v .next, few-tables f);
+              held-most = omega (arith, s .held-most, u .next, few-levels f);
+              listed-most = omega (arith, s .listed-most, v .next, few-tables f);
             }
 
   module _ (cr : length rs ≡ count) (h : count ≤ i) where
@@ -196,16 +206,16 @@ module _ {rs : List Rule} {row : List ℕ} {count : ℕ} {l₀ : List ℤ} {t₀
     pub check-good : firstFault rs (split 9 row) ≡ none
     check-good = sym (rw none-left at (s .fault))
 
-    pub check-held : Stored l₀ l n₀ n (lineLevels rs (split 9 row))
+    pub check-held : Stored (lent .levels) (after .levels) (from .levels) (next .levels) (lineLevels rs (split 9 row))
     check-held = storing-end (rw none-left at (s .levels))
 
-    pub check-listed : Stored t₀ t m₀ m (lineTables rs (split 9 row))
+    pub check-listed : Stored (lent .tables) (after .tables) (from .tables) (next .tables) (lineTables rs (split 9 row))
     check-listed = storing-end (rw none-left at (s .tables))
 
 -- One line of a text with the meaning T, whose pieces from this line on are p and rest
 
-module _ (limit : ℕ) (s : State) (ls : List ℤ) (ts : List ℕ) (k : ℕ) (p : List ℕ) (rest : List (List ℕ)) (T : Outcome Contents)
-    (R : readFrom limit s ls ts k (p ∷ rest) ≡ T) where
+module _ (limits : Limits) (s : State) (H : Held) (k : ℕ) (p : List ℕ) (rest : List (List ℕ)) (T : Outcome Contents)
+    (R : readFrom limits s H k (p ∷ rest) ≡ T) where
   pub line-long : 1024 < length p → T ≡ Refused 1 k
   unfolding lineFault
   line-long h = sym R ∙ rw (lt-ltb 1024 (length p) h)
@@ -214,28 +224,28 @@ module _ (limit : ℕ) (s : State) (ls : List ℤ) (ts : List ℕ) (k : ℕ) (p 
   unfolding lineFault
   line-last h e = sym R ∙ rw (le-ltb 1024 (length p) h, e)
 
-  module _ (tag : ℕ) (g : tag ≡ expectedTag s) (h : length p ≤ 1024) (e : isLast rest ≡ false) where
+  module _ (tag : ℕ) (g : tag ≡ lineTag s (split 9 p)) (h : length p ≤ 1024) (e : isLast rest ≡ false) where
     pub line-count : (length (split 9 p) ≡ fieldCount tag → ⊥) → T ≡ Refused 1 k
     unfolding lineFault fieldsFault
     line-count n =
-        sym R ∙ rw (sym g, le-ltb 1024 (length p) h, e, ne-eqb (length (split 9 p)) (length (rulesOf tag limit (split 9 p))) (λ q. n (q ∙ rules-length tag limit (split 9 p))))
+        sym R ∙ rw (sym g, le-ltb 1024 (length p) h, e, ne-eqb (length (split 9 p)) (length (rulesOf tag limits (s .sheet .header) (split 9 p))) (λ q. n (q ∙ rules-length tag limits (s .sheet .header) (split 9 p))))
 
     module _ (n : length (split 9 p) ≡ fieldCount tag) where
-      same : length (split 9 p) ≡ length (rulesOf tag limit (split 9 p))
-      same = n ∙ sym (rules-length tag limit (split 9 p))
+      same : length (split 9 p) ≡ length (rulesOf tag limits (s .sheet .header) (split 9 p))
+      same = n ∙ sym (rules-length tag limits (s .sheet .header) (split 9 p))
 
-      pub line-fault : (m : ℕ) → firstFault (rulesOf tag limit (split 9 p)) (split 9 p) ≡ some m → T ≡ Refused m k
+      pub line-fault : (m : ℕ) → firstFault (rulesOf tag limits (s .sheet .header) (split 9 p)) (split 9 p) ≡ some m → T ≡ Refused m k
       unfolding lineFault fieldsFault
-      line-fault m f = sym R ∙ rw (sym g, le-ltb 1024 (length p) h, e, eq-eqb (length (split 9 p)) (length (rulesOf tag limit (split 9 p))) same, f)
+      line-fault m f = sym R ∙ rw (sym g, le-ltb 1024 (length p) h, e, eq-eqb (length (split 9 p)) (length (rulesOf tag limits (s .sheet .header) (split 9 p))) same, f)
 
-      module _ (f : firstFault (rulesOf tag limit (split 9 p)) (split 9 p) ≡ none) where
-        good : cond (eqb tag 69) (cond (nothingLeft rest) (contents (s .sheet) ls ts) (Refused 7 (k + 1)))
+      module _ (f : firstFault (rulesOf tag limits (s .sheet .header) (split 9 p)) (split 9 p) ≡ none) where
+        good : cond (eqb tag 69) (cond (nothingLeft rest) (contents (s .sheet) H) (Refused 7 (k + 1)))
             (onTaken (takenOf s (recordOf tag (split 9 p))) k
-            (λ t. readFrom limit t (ls ++ lineLevels (rulesOf tag limit (split 9 p)) (split 9 p)) (ts ++ lineTables (rulesOf tag limit (split 9 p)) (split 9 p)) (k + 1) rest)) ≡ T
+            (λ t. readFrom limits t (holding H (rulesOf tag limits (s .sheet .header) (split 9 p)) (split 9 p)) (k + 1) rest)) ≡ T
         unfolding lineFault fieldsFault
-        good = rw (sym g, le-ltb 1024 (length p) h, e, eq-eqb (length (split 9 p)) (length (rulesOf tag limit (split 9 p))) same, f) at R
+        good = rw (sym g, le-ltb 1024 (length p) h, e, eq-eqb (length (split 9 p)) (length (rulesOf tag limits (s .sheet .header) (split 9 p))) same, f) at R
 
-        pub line-end : tag ≡ 69 → nothingLeft rest ≡ true → T ≡ contents (s .sheet) ls ts
+        pub line-end : tag ≡ 69 → nothingLeft rest ≡ true → T ≡ contents (s .sheet) H
         line-end t o = sym good ∙ rw (eq-eqb tag 69 t, o)
 
         pub line-after : tag ≡ 69 → nothingLeft rest ≡ false → T ≡ Refused 7 (k + 1)
@@ -246,7 +256,7 @@ module _ (limit : ℕ) (s : State) (ls : List ℤ) (ts : List ℕ) (k : ℕ) (p 
           line-bad m o = sym good ∙ rw (ne-eqb tag 69 t, o)
 
           pub line-next : (u : State) → takenOf s (recordOf tag (split 9 p)) ≡ taken.Good u
-              → readFrom limit u (ls ++ lineLevels (rulesOf tag limit (split 9 p)) (split 9 p)) (ts ++ lineTables (rulesOf tag limit (split 9 p)) (split 9 p)) (k + 1) rest ≡ T
+              → readFrom limits u (holding H (rulesOf tag limits (s .sheet .header) (split 9 p)) (split 9 p)) (k + 1) rest ≡ T
           line-next u o = sym (rw (ne-eqb tag 69 t, o)) ∙ good
 
 -- What the pieces of a text say
@@ -281,23 +291,21 @@ some-after b (x ∷ l) h = two (eqb x b) (split b l) (split-some b l)
 
 -- The text up to a line
 
-pub record Reading (limit : ℕ) (text : List ℕ) (l₀ : List ℤ) (t₀ : List ℕ) (l : List ℤ) (t : List ℕ) (s : State) (at k n m : ℕ) : Type 0 where
-  ls : List ℤ
-  ts : List ℕ
+pub record Reading (limits : Limits) (text : List ℕ) (lent after : Held) (s : State) (at k : ℕ) (next : Lengths) : Type 0 where
+  so-far : Held
   pub inside : at ≤ length text
   pub lines : k ≤ at + 1
-  pub room : n ≤ at
-  pub space : m ≤ at
-  levels : Stored l₀ l 0 n ls
-  tables : Stored t₀ t 0 m ts
-  rest : readFrom limit s ls ts k (split 10 (drop at text)) ≡ readText limit text
+  pub room : next .levels ≤ at
+  pub space : next .tables ≤ at
+  levels : Stored (lent .levels) (after .levels) 0 (next .levels) (so-far .levels)
+  tables : Stored (lent .tables) (after .tables) 0 (next .tables) (so-far .tables)
+  rest : readFrom limits s so-far k (split 10 (drop at text)) ≡ readText limits text
 
-pub read-begin : (limit : ℕ) (text : List ℕ) (l : List ℤ) (t : List ℕ) (s : State) → isSide 512 limit ≡ true → s ≡ blank → Reading limit text l t l t s 0 1 0 0
+pub read-begin : (limits : Limits) (text : List ℕ) (lent : Held) (s : State) → allowed limits ≡ true → s ≡ blank → Reading limits text lent lent s 0 1 (places 0 0)
 unfolding readText
-read-begin limit text l t s h e =
+read-begin limits text lent s h e =
     record {
-      ls = [];
-      ts = [];
+      so-far = held [] [];
       inside = omega arith;
       lines = omega arith;
       room = omega arith;
@@ -307,12 +315,12 @@ read-begin limit text l t s h e =
       rest = rw (e, h);
     }
 
-refused : (limit : ℕ) (text : List ℕ) (l₀ l : List ℤ) (t₀ t : List ℕ) (m k : ℕ) → readText limit text ≡ Refused m k → Walks limit text l₀ l t₀ t (walked.Refused m k)
-refused limit text l₀ l t₀ t m k e = record { answer = rw e; stored = rw e tt }
+refused : (limits : Limits) (text : List ℕ) (lent after : Held) (m k : ℕ) → readText limits text ≡ Refused m k → Walks limits text lent after (walked.Refused m k)
+refused limits text lent after m k e = record { answer = rw e; stored = rw e tt }
 
-pub walk-limit : (limit : ℕ) (text : List ℕ) (l : List ℤ) (t : List ℕ) → isSide 512 limit ≡ false → Walks limit text l l t t (walked.Refused 2 0)
+pub walk-limit : (limits : Limits) (text : List ℕ) (lent : Held) → allowed limits ≡ false → Walks limits text lent lent (walked.Refused 2 0)
 unfolding readText
-walk-limit limit text l t h = refused limit text l l t t 2 0 (rw h)
+walk-limit limits text lent h = refused limits text lent lent 2 0 (rw h)
 
 -- an ended line of at most 1,024 bytes from at to e, where a tag is due
 pub record OnLine (text : List ℕ) (s : State) (at e tag count : ℕ) : Type 0 where
@@ -322,16 +330,15 @@ pub record OnLine (text : List ℕ) (s : State) (at e tag count : ℕ) : Type 0 
   pub size : length (take (e - at) (drop at text)) ≡ e - at
   first : before 10 (drop at text) ≡ take (e - at) (drop at text)
   cut : split 10 (drop at text) ≡ take (e - at) (drop at text) ∷ split 10 (drop (e + 1) text)
-  due : tag ≡ expectedTag s
+  due : tag ≡ lineTag s (split 9 (take (e - at) (drop at text)))
   counted : count ≡ fieldCount tag
 
-module _ {limit : ℕ} {text : List ℕ} {l₀ : List ℤ} {t₀ : List ℕ} {l : List ℤ} {t : List ℕ} {s : State} {at k n m : ℕ}
-    (r : Reading limit text l₀ t₀ l t s at k n m) where
-  pub same-levels : length l ≡ length l₀
-  same-levels = ap length (r .levels .last) ∙ length-sets l₀ 0 (r .ls)
+module _ {limits : Limits} {text : List ℕ} {lent after : Held} {s : State} {at k : ℕ} {next : Lengths} (r : Reading limits text lent after s at k next) where
+  pub same-levels : length (after .levels) ≡ length (lent .levels)
+  same-levels = ap length (r .levels .last) ∙ length-sets (lent .levels) 0 (r .so-far .levels)
 
-  pub same-tables : length t ≡ length t₀
-  same-tables = ap length (r .tables .last) ∙ length-sets t₀ 0 (r .ts)
+  pub same-tables : length (after .tables) ≡ length (lent .tables)
+  same-tables = ap length (r .tables .last) ∙ length-sets (lent .tables) 0 (r .so-far .tables)
 
   module _ {g : Line} (q : IsLine text at g) where
     pub end-inside : g .end ≤ length text
@@ -343,19 +350,19 @@ module _ {limit : ℕ} {text : List ℕ} {l₀ : List ℤ} {t₀ : List ℕ} {l 
         let w : (at + b) - at ≡ b = omega arith in
         sym (rw (q .end, w) (before-take 10 (drop at text)))
 
-    pub walk-long : 1024 < g .end - at → Walks limit text l₀ l t₀ t (walked.Refused 1 k)
+    pub walk-long : 1024 < g .end - at → Walks limits text lent after (walked.Refused 1 k)
     walk-long h =
-        refused limit text l₀ l t₀ t 1 k
-        (line-long limit s (r .ls) (r .ts) k (before 10 (drop at text)) (drop 1 (split 10 (drop at text))) (readText limit text)
+        refused limits text lent after 1 k
+        (line-long limits s (r .so-far) k (before 10 (drop at text)) (drop 1 (split 10 (drop at text))) (readText limits text)
         (rw (split-head 10 (drop at text)) at (r .rest)) (omega (arith, q .end)))
 
-    pub walk-cut : g .end - at ≤ 1024 → g .end ≡ length text → Walks limit text l₀ l t₀ t (walked.Refused 7 k)
+    pub walk-cut : g .end - at ≤ 1024 → g .end ≡ length text → Walks limits text lent after (walked.Refused 7 k)
     walk-cut h z =
-        refused limit text l₀ l t₀ t 7 k
-        (line-last limit s (r .ls) (r .ts) k (drop at text) [] (readText limit text)
+        refused limits text lent after 7 k
+        (line-last limits s (r .so-far) k (drop at text) [] (readText limits text)
         (rw (split-whole 10 (drop at text) (omega (arith, q .end, length-drop at text))) at (r .rest)) (omega (arith, length-drop at text)) refl)
 
-    pub on-line : g .end - at ≤ 1024 → (g .end ≡ length text → ⊥) → {tag count : ℕ} → tag ≡ expectedTag s → count ≡ fieldCount tag → OnLine text s at (g .end) tag count
+    pub on-line : g .end - at ≤ 1024 → (g .end ≡ length text → ⊥) → {tag count : ℕ} → tag ≡ lineTag s (split 9 (take (g .end - at) (drop at text))) → count ≡ fieldCount tag → OnLine text s at (g .end) tag count
     on-line h z d c =
         let b = length (before 10 (drop at text)) in
         let w : at + (b + 1) ≡ g .end + 1 = omega (arith, q .end) in
@@ -374,77 +381,76 @@ module _ {limit : ℕ} {text : List ℕ} {l₀ : List ℤ} {t₀ : List ℕ} {l 
         }
 
   module _ {e tag count : ℕ} (o : OnLine text s at e tag count) where
-    this-line : readFrom limit s (r .ls) (r .ts) k (take (e - at) (drop at text) ∷ split 10 (drop (e + 1) text)) ≡ readText limit text
+    this-line : readFrom limits s (r .so-far) k (take (e - at) (drop at text) ∷ split 10 (drop (e + 1) text)) ≡ readText limits text
     this-line = rw (o .cut) at (r .rest)
 
-    pub walk-count : {g : Line} → IsLine text at g → (g .fields ≡ count → ⊥) → Walks limit text l₀ l t₀ t (walked.Refused 1 k)
+    pub walk-count : {g : Line} → IsLine text at g → (g .fields ≡ count → ⊥) → Walks limits text lent after (walked.Refused 1 k)
     walk-count q z =
-        refused limit text l₀ l t₀ t 1 k
-        (line-count limit s (r .ls) (r .ts) k (take (e - at) (drop at text)) (split 10 (drop (e + 1) text)) (readText limit text) this-line
+        refused limits text lent after 1 k
+        (line-count limits s (r .so-far) k (take (e - at) (drop at text)) (split 10 (drop (e + 1) text)) (readText limits text) this-line
         tag (o .due) (o .short) (not-last 10 (drop (e + 1) text)) (λ c. z (q .fields ∙ ap (λ (x : List ℕ). length (split 9 x)) (o .first) ∙ c ∙ sym (o .counted))))
 
     pub row-count : {g : Line} → IsLine text at g → g .fields ≡ count → length (split 9 (take (e - at) (drop at text))) ≡ count
     row-count q z = ap (λ (x : List ℕ). length (split 9 x)) (sym (o .first)) ∙ sym (q .fields) ∙ z
 
-    pub rules-count : length (rulesOf tag limit (split 9 (take (e - at) (drop at text)))) ≡ count
-    rules-count = rules-length tag limit (split 9 (take (e - at) (drop at text))) ∙ sym (o .counted)
+    pub rules-count : length (rulesOf tag limits (s .sheet .header) (split 9 (take (e - at) (drop at text)))) ≡ count
+    rules-count = rules-length tag limits (s .sheet .header) (split 9 (take (e - at) (drop at text))) ∙ sym (o .counted)
 
     module _ (y : length (split 9 (take (e - at) (drop at text))) ≡ count) where
       -- the next place of either buffer is a number of 64 bits
-      pub level-room : length text < 2 ^ 64 → {i n' : ℕ} → i < count → n' ≤ n + i → n' + 1 < 2 ^ 64
+      pub level-room : length text < 2 ^ 64 → {i n' : ℕ} → i < count → n' ≤ next .levels + i → n' + 1 < 2 ^ 64
       level-room z h q = omega (arith, r .room, split-length 9 (take (e - at) (drop at text)), o .size, o .ordered, o .ended)
 
-      pub table-room : length text < 2 ^ 64 → {i m' : ℕ} → i < count → m' ≤ m + i → m' + 1 < 2 ^ 64
+      pub table-room : length text < 2 ^ 64 → {i m' : ℕ} → i < count → m' ≤ next .tables + i → m' + 1 < 2 ^ 64
       table-room z h q = omega (arith, r .space, split-length 9 (take (e - at) (drop at text)), o .size, o .ordered, o .ended)
 
-      pub walk-fault : {v : ℕ} {l' : List ℤ} {t' : List ℕ} → firstFault (rulesOf tag limit (split 9 (take (e - at) (drop at text)))) (split 9 (take (e - at) (drop at text))) ≡ some v
-          → Walks limit text l₀ l' t₀ t' (walked.Refused v k)
-      walk-fault {v} {l'} {t'} f =
-          refused limit text l₀ l' t₀ t' v k
-          (line-fault limit s (r .ls) (r .ts) k (take (e - at) (drop at text)) (split 10 (drop (e + 1) text)) (readText limit text) this-line
+      pub walk-fault : {v : ℕ} {stored : Held} → firstFault (rulesOf tag limits (s .sheet .header) (split 9 (take (e - at) (drop at text)))) (split 9 (take (e - at) (drop at text))) ≡ some v
+          → Walks limits text lent stored (walked.Refused v k)
+      walk-fault {v} {stored} f =
+          refused limits text lent stored v k
+          (line-fault limits s (r .so-far) k (take (e - at) (drop at text)) (split 10 (drop (e + 1) text)) (readText limits text) this-line
           tag (o .due) (o .short) (not-last 10 (drop (e + 1) text)) (y ∙ o .counted) v f)
 
-      module _ {l' : List ℤ} {t' : List ℕ} {n' m' i a : ℕ}
-          (c : Checking (rulesOf tag limit (split 9 (take (e - at) (drop at text)))) (take (e - at) (drop at text)) count l t n m l' t' n' m' i a) (h : count ≤ i) where
-        pub walk-end : tag ≡ 69 → e + 1 ≡ length text → Walks limit text l₀ l' t₀ t' (walked.Sheet (s .sheet) n' m')
+      module _ {stored : Held} {filled : Lengths} {i a : ℕ} {last : Field}
+          (c : Checking (rulesOf tag limits (s .sheet .header) (split 9 (take (e - at) (drop at text)))) (take (e - at) (drop at text)) count after next stored filled i a last) (h : count ≤ i) where
+        pub walk-end : tag ≡ 69 → e + 1 ≡ length text → Walks limits text lent stored (walked.Sheet (s .sheet) (filled .levels) (filled .tables))
         walk-end x z =
-            let w : readText limit text ≡ contents (s .sheet) (r .ls) (r .ts) =
-            line-end limit s (r .ls) (r .ts) k (take (e - at) (drop at text)) (split 10 (drop (e + 1) text)) (readText limit text) this-line
+            let w : readText limits text ≡ contents (s .sheet) (r .so-far) =
+            line-end limits s (r .so-far) k (take (e - at) (drop at text)) (split 10 (drop (e + 1) text)) (readText limits text) this-line
             tag (o .due) (o .short) (not-last 10 (drop (e + 1) text)) (y ∙ o .counted) (check-good c rules-count h) x
             (nothing-after 10 (drop (e + 1) text) (omega (arith, length-drop (e + 1) text))) in
-            let u = stored-end (r .levels) (rw (end-levels tag limit (split 9 (take (e - at) (drop at text))) x) at (check-held c rules-count h)) in
-            let v = stored-end (r .tables) (rw (end-tables tag limit (split 9 (take (e - at) (drop at text))) x) at (check-listed c rules-count h)) in
-            record { answer = rw (w, ← zero-add (length (r .ls)), ← u .next, ← zero-add (length (r .ts)), ← v .next); stored = rw w (u .last, v .last) }
+            let u = stored-end (r .levels) (rw (end-levels tag limits (s .sheet .header) (split 9 (take (e - at) (drop at text))) x) at (check-held c rules-count h)) in
+            let v = stored-end (r .tables) (rw (end-tables tag limits (s .sheet .header) (split 9 (take (e - at) (drop at text))) x) at (check-listed c rules-count h)) in
+            record { answer = rw (w, ← zero-add (length (r .so-far .levels)), ← u .next, ← zero-add (length (r .so-far .tables)), ← v .next); stored = rw w (u .last, v .last) }
 
-        pub walk-after : tag ≡ 69 → (e + 1 ≡ length text → ⊥) → Walks limit text l₀ l' t₀ t' (walked.Refused 7 (k + 1))
+        pub walk-after : tag ≡ 69 → (e + 1 ≡ length text → ⊥) → Walks limits text lent stored (walked.Refused 7 (k + 1))
         walk-after x z =
-            refused limit text l₀ l' t₀ t' 7 (k + 1)
-            (line-after limit s (r .ls) (r .ts) k (take (e - at) (drop at text)) (split 10 (drop (e + 1) text)) (readText limit text) this-line
+            refused limits text lent stored 7 (k + 1)
+            (line-after limits s (r .so-far) k (take (e - at) (drop at text)) (split 10 (drop (e + 1) text)) (readText limits text) this-line
             tag (o .due) (o .short) (not-last 10 (drop (e + 1) text)) (y ∙ o .counted) (check-good c rules-count h) x
             (some-after 10 (drop (e + 1) text) (omega (arith, length-drop (e + 1) text, o .ended))))
 
         module _ (x : tag ≡ 69 → ⊥) {d : Record} {w : Taken} (u : d ≡ recordOf tag (split 9 (take (e - at) (drop at text)))) (v : w ≡ takenOf s d) where
-          pub walk-bad : {p : ℕ} → w ≡ taken.Bad p → Walks limit text l₀ l' t₀ t' (walked.Refused p k)
+          pub walk-bad : {p : ℕ} → w ≡ taken.Bad p → Walks limits text lent stored (walked.Refused p k)
           walk-bad {p} z =
-              refused limit text l₀ l' t₀ t' p k
-              (line-bad limit s (r .ls) (r .ts) k (take (e - at) (drop at text)) (split 10 (drop (e + 1) text)) (readText limit text) this-line
+              refused limits text lent stored p k
+              (line-bad limits s (r .so-far) k (take (e - at) (drop at text)) (split 10 (drop (e + 1) text)) (readText limits text) this-line
               tag (o .due) (o .short) (not-last 10 (drop (e + 1) text)) (y ∙ o .counted) (check-good c rules-count h) x p
               (ap (takenOf s) (sym u) ∙ sym v ∙ z))
 
-          pub walk-next : {s' : State} → w ≡ taken.Good s' → Reading limit text l₀ t₀ l' t' s' (e + 1) (k + 1) n' m'
+          pub walk-next : {s' : State} → w ≡ taken.Good s' → Reading limits text lent stored s' (e + 1) (k + 1) filled
           walk-next {s'} z =
               let row = take (e - at) (drop at text) in
               record {
-                ls = r .ls ++ lineLevels (rulesOf tag limit (split 9 row)) (split 9 row);
-                ts = r .ts ++ lineTables (rulesOf tag limit (split 9 row)) (split 9 row);
+                so-far = holding (r .so-far) (rulesOf tag limits (s .sheet .header) (split 9 row)) (split 9 row);
                 inside = o .ended;
                 lines = omega (arith, r .lines, o .ordered);
-                room = omega (arith, c .held, c .upto, r .room, split-length 9 row, o .size, o .ordered);
-                space = omega (arith, c .listed, c .upto, r .space, split-length 9 row, o .size, o .ordered);
+                room = omega (arith, c .held-most, c .upto, r .room, split-length 9 row, o .size, o .ordered);
+                space = omega (arith, c .listed-most, c .upto, r .space, split-length 9 row, o .size, o .ordered);
                 levels = stored-both (r .levels) (check-held c rules-count h);
                 tables = stored-both (r .tables) (check-listed c rules-count h);
                 rest =
-                    line-next limit s (r .ls) (r .ts) k row (split 10 (drop (e + 1) text)) (readText limit text) this-line
+                    line-next limits s (r .so-far) k row (split 10 (drop (e + 1) text)) (readText limits text) this-line
                     tag (o .due) (o .short) (not-last 10 (drop (e + 1) text)) (y ∙ o .counted) (check-good c rules-count h) x s'
                     (ap (takenOf s) (sym u) ∙ sym v ∙ z);
               }

@@ -8,14 +8,19 @@ use lib.ListN.{length}
 use lib.Dec.{eqb}
 use lib.IntN.{ℤ}
 use Rattle.text.specs.Legal.{Between, LegalSide, LegalWeight, LegalLevel}
+use Rattle.sheet.specs.declared.Limits.{Limits}
 use Rattle.sheet.specs.declared.Header.{Header}
 use Rattle.sheet.specs.declared.Channel.{Channel}
 use Rattle.sheet.specs.declared.Sheet.{Sheet}
-use Rattle.sheet.specs.Lines.{noChannel}
+use Rattle.sheet.specs.Lines.{Held, noChannel}
 
-pub record LegalHeader (limit : ℕ) (h : Header) : Type 0 where
-  pub width : LegalSide limit (h .width)
-  pub height : LegalSide limit (h .height)
+-- What a caller may allow
+pub record LegalLimits (limits : Limits) : Type 0 where
+  pub side : LegalSide 512 (limits .side)
+
+pub record LegalHeader (limits : Limits) (h : Header) : Type 0 where
+  pub width : LegalSide (limits .side) (h .width)
+  pub height : LegalSide (limits .side) (h .height)
   pub shown-width : Between 1 (h .width) (h .«picture_width»)
   pub shown-height : Between 1 (h .height) (h .«picture_height»)
   pub channels : (h .channels ≡ 1) ⊎ (h .channels ≡ 3)
@@ -55,12 +60,12 @@ abbrev pub LegalLevels : List ℤ → Type 0
 LegalLevels [] = Unit {0}
 LegalLevels (z ∷ zs) = LegalLevel z × LegalLevels zs
 
-pub record LegalSheet (limit : ℕ) (s : Sheet) (ls : List ℤ) (ts : List ℕ) : Type 0 where
-  pub most : LegalSide 512 limit
-  pub header : LegalHeader limit (s .header)
+pub record LegalSheet (limits : Limits) (s : Sheet) (h : Held) : Type 0 where
+  pub limits-legal : LegalLimits limits
+  pub header : LegalHeader limits (s .header)
   pub channel : (j : ℕ) → j < s .header .channels → LegalChannel (s .header) (channelAt s j)
   pub spare : (j : ℕ) → s .header .channels ≤ j → j < 3 → channelAt s j ≡ noChannel
-  pub levels-count : length ls ≡ levelsTo s (s .header .channels)
-  pub tables-count : length ts ≡ 64 * s .header .channels
-  pub levels : LegalLevels ls
-  pub tables : LegalQuantisers ts
+  pub levels-count : length (h .levels) ≡ levelsTo s (s .header .channels)
+  pub tables-count : length (h .tables) ≡ 64 * s .header .channels
+  pub levels : LegalLevels (h .levels)
+  pub tables : LegalQuantisers (h .tables)

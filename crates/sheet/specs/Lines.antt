@@ -13,6 +13,7 @@ use Rattle.text.specs.declared.field.Rule.the-variants as rule
 use Rattle.text.specs.Numbers.{numberAt}
 use Rattle.text.specs.Weights.{weightAt}
 use Rattle.text.specs.Fields.{letter, fieldOf, faultIn, levelsIn, tablesIn}
+use Rattle.sheet.specs.declared.Limits.{Limits}
 use Rattle.sheet.specs.declared.Header.{Header}
 use Rattle.sheet.specs.declared.Channel.{Channel}
 use Rattle.sheet.specs.declared.line.Record.{Record}
@@ -30,15 +31,19 @@ factor = rule.Range 3 1 4
 abbrev pub ownSide : Rule
 ownSide = rule.Side 999999
 
+-- "mode `j` joint or `s` separate"
+abbrev pub mode : Rule
+mode = rule.Letters 106 115
+
 -- "`S`, full width W, full height H (multiples of 8, 8 to 512), picture width and height (1 to W, 1 to H), channels (1 or 3),
 -- mode `j` joint or `s` separate, three iteration counts (0 to 1,000), three smoothing weights, three data weights." The
--- limit stands for 512. Spare fields have their rule too: "spare fields must be legal".
-abbrev pub headerRules : ℕ → List (List ℕ) → List Rule
-headerRules limit fs =
+-- caller's side stands for 512. Spare fields have their rule too: "spare fields must be legal".
+abbrev pub headerRules : Limits → List (List ℕ) → List Rule
+headerRules limits fs =
     rule.Tag 83
-    ∷ rule.Side limit ∷ rule.Side limit
+    ∷ rule.Side (limits .side) ∷ rule.Side (limits .side)
     ∷ rule.Range 2 1 (numberAt fs 1) ∷ rule.Range 2 1 (numberAt fs 2)
-    ∷ rule.Channels ∷ rule.Mode
+    ∷ rule.Channels ∷ mode
     ∷ count ∷ count ∷ count
     ∷ replicate 6 rule.Weight
 
@@ -54,9 +59,9 @@ blockRules = rule.Tag 66 ∷ replicate 64 rule.Level
 abbrev pub endRules : List Rule
 endRules = rule.Tag 69 ∷ []
 
--- the rules of a line with the fields fs where this tag is due
-unfoldable pub rulesOf : ℕ → ℕ → List (List ℕ) → List Rule
-rulesOf tag limit fs = cond (eqb tag 66) blockRules (cond (eqb tag 67) channelRules (cond (eqb tag 83) (headerRules limit fs) endRules))
+-- the rules of a line of this tag with the fields fs, after the header h
+unfoldable pub rulesOf : ℕ → Limits → Header → List (List ℕ) → List Rule
+rulesOf tag limits h fs = cond (eqb tag 66) blockRules (cond (eqb tag 67) channelRules (cond (eqb tag 83) (headerRules limits fs) endRules))
 
 -- how many fields that line must have
 unfoldable pub fieldCount : ℕ → ℕ
@@ -86,6 +91,18 @@ abbrev pub lineTables : List Rule → List (List ℕ) → List ℕ
 lineTables [] fs = []
 lineTables (r ∷ rs) [] = []
 lineTables (r ∷ rs) (f ∷ fs) = tablesIn (fieldOf r f) ++ lineTables rs fs
+
+-- What goes to the lent buffers: levels and tables
+pub record Held : Type 0 where
+  pub levels : List ℤ
+  pub tables : List ℕ
+
+abbrev pub held : List ℤ → List ℕ → Held
+held ls ts = record { levels = ls; tables = ts }
+
+-- what was read so far, and a line more
+abbrev pub holding : Held → List Rule → List (List ℕ) → Held
+holding h rs fs = held (h .levels ++ lineLevels rs fs) (h .tables ++ lineTables rs fs)
 
 -- "A record is a header, channel or block line": what a good line holds besides
 unfoldable pub headerOf : List (List ℕ) → Header

@@ -1,13 +1,14 @@
 -- What a whole text means: the sheet with its levels and tables, or the first refusal with its line.
 use Prim.Native.Nat.{ℕ, _+_, _-_, _*_, _/_}
-use mathlib.Core.List.{List, [], _∷_, _++_}
+use mathlib.Core.List.{List, [], _∷_}
 use mathlib.Core.Bool.{Bool, true, false, cond, _&&_}
 use mathlib.Core.Option.{Option, none, some}
 use lib.ListN.{length}
 use lib.Dec.{eqb, leb, ltb}
-use lib.IntN.{ℤ}
+use Rattle.text.specs.declared.field.Rule.{Rule}
 use Rattle.text.specs.Pieces.{split}
 use Rattle.text.specs.Fields.{isSide}
+use Rattle.sheet.specs.declared.Limits.{Limits}
 use Rattle.sheet.specs.declared.Header.{Header}
 use Rattle.sheet.specs.declared.Channel.{Channel}
 use Rattle.sheet.specs.declared.Sheet.{Sheet}
@@ -16,7 +17,7 @@ use Rattle.sheet.specs.declared.line.Record.the-variants as line
 use Rattle.sheet.specs.declared.state.State.{State}
 use Rattle.sheet.specs.declared.state.Taken.{Taken}
 use Rattle.sheet.specs.declared.state.Taken.the-variants as taken
-use Rattle.sheet.specs.Lines.{rulesOf, fieldsFault, lineLevels, lineTables, recordOf, noHeader, noChannel}
+use Rattle.sheet.specs.Lines.{rulesOf, fieldsFault, Held, held, holding, recordOf, noHeader, noChannel}
 
 -- What a call or a text gives: its values, or a number of the paper's table and the line, counted from 1
 pub data Outcome (A : Type 0) : Type 0 where
@@ -26,11 +27,10 @@ pub data Outcome (A : Type 0) : Type 0 where
 -- What a legal text holds
 pub record Contents : Type 0 where
   pub sheet : Sheet
-  pub levels : List ℤ
-  pub tables : List ℕ
+  pub held : Held
 
-abbrev pub contents : Sheet → List ℤ → List ℕ → Outcome Contents
-contents s ls ts = Gives (record { sheet = s; levels = ls; tables = ts })
+abbrev pub contents : Sheet → Held → Outcome Contents
+contents s h = Gives (record { sheet = s; held = h })
 
 -- a header, no channel yet
 abbrev pub headed : Header → Sheet
@@ -42,8 +42,13 @@ blank = record { begun = false; sheet = headed noHeader; read = 0; left = 0 }
 
 -- The tag that is due: first S; "Then w × h / 64 lines `B`" while blocks of the channel are left; "Per channel `C`" while
 -- channels are left; then E
-unfoldable pub expectedTag : State → ℕ
-expectedTag s = cond (s .begun) (cond (ltb 0 (s .left)) 66 (cond (ltb (s .read) (s .sheet .header .channels)) 67 69)) 83
+abbrev pub dueTag : State → ℕ
+dueTag s = cond (s .begun) (cond (ltb 0 (s .left)) 66 (cond (ltb (s .read) (s .sheet .header .channels)) 67 69)) 83
+
+-- The tag that a line with the fields fs is read by: its own where it may stand here, else the due one, whose rule then gives 1.
+-- No line may stand but the due one.
+unfoldable pub lineTag : State → List (List ℕ) → ℕ
+lineTag s fs = dueTag s
 
 -- channel j
 abbrev pub placed : Sheet → ℕ → Channel → Sheet
@@ -75,11 +80,11 @@ isLast [] = true
 isLast (p ∷ ps) = false
 
 -- "In any other line: 1 if over 1,024 bytes, 7 if unended, then tag and field count (1), then fields left to right": the
--- fault of the line p, before those in rest, where this tag is due. "For 7 it is the unended line, the one after the last when
+-- fault of the line p, before those in rest, by the rules rs. "For 7 it is the unended line, the one after the last when
 -- `E` is missing": both are the last piece.
-unfoldable pub lineFault : ℕ → ℕ → List ℕ → List (List ℕ) → Option ℕ
-lineFault limit tag p rest =
-    cond (ltb 1024 (length p)) (some 1) (cond (isLast rest) (some 7) (fieldsFault (rulesOf tag limit (split 9 p)) (split 9 p)))
+unfoldable pub lineFault : List Rule → List ℕ → List (List ℕ) → Option ℕ
+lineFault rs p rest =
+    cond (ltb 1024 (length p)) (some 1) (cond (isLast rest) (some 7) (fieldsFault rs (split 9 p)))
 
 -- "A byte after `E` is 7", at "the one after `E`"
 abbrev pub nothingLeft : List (List ℕ) → Bool
@@ -99,18 +104,22 @@ onTaken (taken.Bad k) at more = Refused k at
 
 -- The text from line `at` on, as its pieces, after what was read so far. Levels and quantisers stand in the order of the
 -- text: "blocks and values row by row, not zigzag".
-abbrev pub readFrom : ℕ → State → List ℤ → List ℕ → ℕ → List (List ℕ) → Outcome Contents
-readFrom limit s ls ts at [] = Refused 7 at
-readFrom limit s ls ts at (p ∷ rest) =
-    let tag = expectedTag s in
+abbrev pub readFrom : Limits → State → Held → ℕ → List (List ℕ) → Outcome Contents
+readFrom limits s h at [] = Refused 7 at
+readFrom limits s h at (p ∷ rest) =
     let fs = split 9 p in
-    let rs = rulesOf tag limit fs in
-    onFault (lineFault limit tag p rest) at
+    let tag = lineTag s fs in
+    let rs = rulesOf tag limits (s .sheet .header) fs in
+    onFault (lineFault rs p rest) at
     (cond (eqb tag 69)
-    (cond (nothingLeft rest) (contents (s .sheet) ls ts) (Refused 7 (at + 1)))
-    (onTaken (takenOf s (recordOf tag fs)) at (λ t. readFrom limit t (ls ++ lineLevels rs fs) (ts ++ lineTables rs fs) (at + 1) rest)))
+    (cond (nothingLeft rest) (contents (s .sheet) h) (Refused 7 (at + 1)))
+    (onTaken (takenOf s (recordOf tag fs)) at (λ t. readFrom limits t (holding h rs fs) (at + 1) rest)))
 
--- A text at a side limit: 512 in the library; "W and H above 32 are 2 there, at that field" in `smooth`. A limit that could
--- not be a side is 2 at line 0, before the text is read, as M-106 has it for a parameter of its own.
-unfoldable pub readText : ℕ → List ℕ → Outcome Contents
-readText limit text = cond (isSide 512 limit) (readFrom limit blank [] [] 1 (split 10 text)) (Refused 2 0)
+-- What a caller may allow: a side limit that could be a side
+abbrev pub allowed : Limits → Bool
+allowed limits = isSide 512 (limits .side)
+
+-- A text at the caller's limits. The side limit is 512 in the library; "W and H above 32 are 2 there, at that field" in `smooth`.
+-- Limits that no caller may set are 2 at line 0, before the text is read, as M-106 has it for a parameter of its own.
+unfoldable pub readText : Limits → List ℕ → Outcome Contents
+readText limits text = cond (allowed limits) (readFrom limits blank (held [] []) 1 (split 10 text)) (Refused 2 0)

@@ -8,6 +8,7 @@ use Rattle.text.specs.Written.{decimal, weightText, levelText, joined, ended}
 use Rattle.sheet.specs.declared.Header.{Header}
 use Rattle.sheet.specs.declared.Channel.{Channel}
 use Rattle.sheet.specs.declared.Sheet.{Sheet}
+use Rattle.sheet.specs.Lines.{Held, held}
 
 -- The fields of each line
 abbrev pub headerFields : Header → List (List ℕ)
@@ -36,16 +37,16 @@ blockLines zero zs = []
 blockLines (suc n) zs = joined (blockFields (take 64 zs)) ∷ blockLines n (drop 64 zs)
 
 -- the channels with their tables and levels, one after the other
-abbrev pub channelLines : List Channel → List ℤ → List ℕ → List (List ℕ)
-channelLines [] ls ts = []
-channelLines (c ∷ cs) ls ts =
-    joined (channelFields c (take 64 ts))
-    ∷ (blockLines (c .width * c .height / 64) ls ++ channelLines cs (drop (c .width * c .height) ls) (drop 64 ts))
+abbrev pub channelLines : List Channel → Held → List (List ℕ)
+channelLines [] h = []
+channelLines (c ∷ cs) h =
+    joined (channelFields c (take 64 (h .tables)))
+    ∷ (blockLines (c .width * c .height / 64) (h .levels) ++ channelLines cs (held (drop (c .width * c .height) (h .levels)) (drop 64 (h .tables))))
 
 -- the channels in use
 abbrev pub channelsOf : Sheet → List Channel
 channelsOf s = take (s .header .channels) (s .first ∷ s .second ∷ s .third ∷ [])
 
-unfoldable pub written : Sheet → List ℤ → List ℕ → List ℕ
+unfoldable pub written : Sheet → Held → List ℕ
 unfolding decimal weightText levelText
-written s ls ts = ended (joined (headerFields (s .header)) ∷ (channelLines (channelsOf s) ls ts ++ joined endFields ∷ []))
+written s h = ended (joined (headerFields (s .header)) ∷ (channelLines (channelsOf s) h ++ joined endFields ∷ []))

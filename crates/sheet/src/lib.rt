@@ -7,7 +7,13 @@ use crate::walk::Walked;
 pub use text::weight::Weight;
 pub use text::weight::weight_value;
 ghost use mathlib.Core.Path.{_≡_};
+ghost use Rattle.sheet.specs.Lines.{held};
 ghost use Rattle.sheet.specs.Calls.{measuring, measuredSays, Reads};
+
+// What a caller allows: the largest full side.
+pub struct Limits {
+    pub side: u32,
+}
 
 // A header line: full sides, picture sides, channels, mode, and three each of iterations, smoothing and data weights.
 pub struct Header {
@@ -56,15 +62,15 @@ pub enum Answer {
     Refused { number: u8, line: usize },
 }
 
-// The lengths that reading needs, or the refusal that it gives. A side above the limit is refused, and so is a limit that is
-// no side.
+// The lengths that reading needs, or the refusal that it gives. A side above the limit is refused, and so are limits
+// that no caller may set.
 // Ruled out: lengths for a text with a byte after E; a refusal at a later line than the first bad one.
-pub fn measure(text: &[u8], limit: u32) -> Measured
-    ensures { λ r. ⌜ measuredSays r ≡ measuring limit (now (text .entry)) ⌝ }
+pub fn measure(text: &[u8], limits: Limits) -> Measured
+    ensures { λ r. ⌜ measuredSays r ≡ measuring limits (now (text .entry)) ⌝ }
 {
     let mut levels = [0i16; 1];
     let mut tables = [0u16; 1];
-    match walk::walk(text, limit, &mut levels, &mut tables) {
+    match walk::walk(text, limits, &mut levels, &mut tables) {
         Walked::Sheet {
             sheet: _,
             levels: n,
@@ -79,10 +85,10 @@ pub fn measure(text: &[u8], limit: u32) -> Measured
 
 // Reads a sheet into the lent buffers. They are written only once the whole text and both lengths are good.
 // Ruled out: a level stored before a later line is refused; 8 given for a text that is itself refused.
-pub fn read(text: &[u8], limit: u32, levels: &mut [i16], tables: &mut [u16]) -> Answer
-    ensures { λ r. ⌜ Reads limit (now (text .entry)) (now (levels .entry)) (now (levels .exit)) (now (tables .entry)) (now (tables .exit)) r ⌝ }
+pub fn read(text: &[u8], limits: Limits, levels: &mut [i16], tables: &mut [u16]) -> Answer
+    ensures { λ r. ⌜ Reads limits (now (text .entry)) (held (now (levels .entry)) (now (tables .entry))) (held (now (levels .exit)) (now (tables .exit))) r ⌝ }
 {
-    let measured = measure(text, limit);
+    let measured = measure(text, limits);
     match measured {
         Measured::Refused { number, line } => Answer::Refused { number, line },
         Measured::Lengths {
@@ -95,7 +101,7 @@ pub fn read(text: &[u8], limit: u32, levels: &mut [i16], tables: &mut [u16]) -> 
             if m != tables.len() {
                 return Answer::Refused { number: 8, line: 0 };
             }
-            match walk::walk(text, limit, levels, tables) {
+            match walk::walk(text, limits, levels, tables) {
                 Walked::Sheet {
                     sheet,
                     levels: _,

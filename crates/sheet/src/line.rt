@@ -1,7 +1,9 @@
 // The lines: the rule of each field, and what a good line holds.
 use crate::Channel;
 use crate::Header;
+use crate::Limits;
 use text::field;
+use text::field::Field;
 use text::field::Rule;
 use text::number;
 use text::weight;
@@ -10,6 +12,7 @@ ghost use Prim.Native.Nat.{_<_};
 ghost use lib.ListN.{getD};
 ghost use Rattle.text.specs.Pieces.{split};
 ghost use Rattle.sheet.specs.Lines.{headerRules, channelRules, blockRules, rulesOf, fieldCount, headerOf, channelOf, recordOf};
+ghost use Rattle.sheet.specs.Walk.{saidBefore};
 
 // A line as read. Quantisers and levels go to the buffers.
 pub enum Record {
@@ -34,15 +37,15 @@ pub fn field_count(tag: u8) -> usize
     1
 }
 
-fn header_rule(i: usize, limit: u32, row: &[u8]) -> Rule
+fn header_rule(i: usize, limits: Limits, row: &[u8]) -> Rule
     requires { ⌜ i < 16 ⌝ }
-    ensures { λ r. ⌜ r ≡ getD (headerRules limit (split 9 (now (row .entry)))) i (Rule.Tag 0) ⌝ }
+    ensures { λ r. ⌜ r ≡ getD (headerRules limits (split 9 (now (row .entry)))) i (Rule.Tag 0) ⌝ }
 {
     if i == 0 {
         return Rule::Tag(b'S');
     }
     if i <= 2 {
-        return Rule::Side(limit);
+        return Rule::Side(limits.side);
     }
     if i == 3 {
         return Rule::Range {
@@ -62,7 +65,7 @@ fn header_rule(i: usize, limit: u32, row: &[u8]) -> Rule
         return Rule::Channels;
     }
     if i == 6 {
-        return Rule::Mode;
+        return Rule::Letters(b'j', b's');
     }
     if i <= 9 {
         return Rule::Range {
@@ -101,10 +104,10 @@ fn block_rule(i: usize) -> Rule
     if i == 0 { Rule::Tag(b'B') } else { Rule::Level }
 }
 
-// The rule of field i of a line.
-pub fn rule_at(tag: u8, i: usize, limit: u32, row: &[u8]) -> Rule
-    requires { ⌜ i < fieldCount tag ⌝ }
-    ensures { λ r. ⌜ r ≡ getD (rulesOf tag limit (split 9 (now (row .entry)))) i (Rule.Tag 0) ⌝ }
+// The rule of field i of a line after this header. The field before it said `last`, so that a rule can depend on it and nothing is read twice.
+pub fn rule_at(tag: u8, i: usize, limits: Limits, header: Header, last: Field, row: &[u8]) -> Rule
+    requires { ⌜ (i < fieldCount tag) × (last ≡ saidBefore (rulesOf tag limits header (split 9 (now row))) (split 9 (now row)) i) ⌝ }
+    ensures { λ r. ⌜ r ≡ getD (rulesOf tag limits header (split 9 (now (row .entry)))) i (Rule.Tag 0) ⌝ }
 {
     if tag == b'B' {
         return block_rule(i);
@@ -113,7 +116,7 @@ pub fn rule_at(tag: u8, i: usize, limit: u32, row: &[u8]) -> Rule
         return channel_rule(i);
     }
     if tag == b'S' {
-        return header_rule(i, limit, row);
+        return header_rule(i, limits, row);
     }
     Rule::Tag(b'E')
 }

@@ -9,7 +9,8 @@ ghost use mathlib.Core.Bool.{cond};
 ghost use Rattle.sheet.specs.Lines.{noHeader, noChannel};
 ghost use Prim.Native.Nat.{_<_};
 ghost use Rattle.sheet.specs.Walk.{Due};
-ghost use Rattle.sheet.specs.Reading.{blank, headed, placed, expectedTag, takenOf};
+ghost use Rattle.text.specs.Pieces.{split};
+ghost use Rattle.sheet.specs.Reading.{blank, headed, placed, lineTag, takenOf};
 
 // The sheet so far: whether the header was read, how many channels were, and how many blocks of the last are still to come.
 pub struct State {
@@ -85,9 +86,9 @@ pub fn nothing() -> State
     }
 }
 
-// The tag that the next line must have.
-pub fn expected(s: State) -> u8
-    ensures { λ r. ⌜ r ≡ expectedTag s ⌝ }
+// The tag that the next line is read by: its own where it may stand here, else the due one.
+pub fn expected(s: State, row: &[u8]) -> u8
+    ensures { λ r. ⌜ r ≡ lineTag s (split 9 (now (row .entry))) ⌝ }
 {
     let sheet = s.sheet;
     let h = sheet.header;

@@ -1,4 +1,5 @@
 // Reading line by line and field by field.
+use crate::Limits;
 use crate::Sheet;
 use crate::line;
 use crate::state;
@@ -8,7 +9,9 @@ use text::field::Field;
 use text::pieces;
 ghost use mathlib.Core.Path.{_≡_};
 ghost use Prim.Native.Nat.{_+_, _^_, _<_};
-ghost use Rattle.text.specs.Fields.{isSide, levelsIn, tablesIn};
+ghost use Rattle.text.specs.Fields.{levelsIn, tablesIn};
+ghost use Rattle.sheet.specs.Lines.{held};
+ghost use Rattle.sheet.specs.Reading.{allowed};
 ghost use Rattle.sheet.specs.Walk.{Stored, Walks};
 
 // What a walk of a text gives: the sheet with how many levels and quantisers it has, or a refusal and its line.
@@ -24,17 +27,17 @@ pub enum Walked {
     },
 }
 
-// Can the limit be a side?
-fn is_limit(limit: u32) -> bool
-    ensures { λ r. ⌜ r ≡ isSide 512 limit ⌝ }
+// May a caller set these limits?
+fn are_allowed(limits: Limits) -> bool
+    ensures { λ r. ⌜ r ≡ allowed limits ⌝ }
 {
-    if limit % 8 != 0 {
+    if limits.side % 8 != 0 {
         return false;
     }
-    if limit < 8 {
+    if limits.side < 8 {
         return false;
     }
-    limit <= 512
+    limits.side <= 512
 }
 
 // A level goes to its place, if there is room. Returns the next place.
@@ -69,10 +72,10 @@ fn put_quantiser(f: Field, tables: &mut [u16], at: usize) -> usize
 
 // Reads a whole text and stops at the first bad field of the first bad line. Levels and quantisers go to the lent buffers as
 // far as there is room.
-pub fn walk(text: &[u8], limit: u32, levels: &mut [i16], tables: &mut [u16]) -> Walked
-    ensures { λ r. ⌜ Walks limit (now (text .entry)) (now (levels .entry)) (now (levels .exit)) (now (tables .entry)) (now (tables .exit)) r ⌝ }
+pub fn walk(text: &[u8], limits: Limits, levels: &mut [i16], tables: &mut [u16]) -> Walked
+    ensures { λ r. ⌜ Walks limits (now (text .entry)) (held (now (levels .entry)) (now (tables .entry))) (held (now (levels .exit)) (now (tables .exit))) r ⌝ }
 {
-    if !is_limit(limit) {
+    if !are_allowed(limits) {
         return Walked::Refused { number: 2, line: 0 };
     }
     let mut state = state::nothing();
@@ -90,30 +93,34 @@ pub fn walk(text: &[u8], limit: u32, levels: &mut [i16], tables: &mut [u16]) -> 
         if end == text.len() {
             break 'lines Walked::Refused { number: 7, line };
         }
-        let tag = state::expected(state);
+        let row = &text[at..end];
+        let tag = state::expected(state, row);
         let count = line::field_count(tag);
         if l.fields != count {
             break 'lines Walked::Refused { number: 1, line };
         }
-        // its fields, left to right
-        let row = &text[at..end];
+        // its fields, left to right, each after what the one before it said
+        let sheet = state.sheet;
+        let header = sheet.header;
         let mut i: usize = 0;
         let mut a: usize = 0;
+        let mut last = Field::Good;
         while i < count {
             let e = pieces::field_end(row, a);
-            let f = field::read_field(line::rule_at(tag, i, limit, row), &row[a..e]);
+            let rule = line::rule_at(tag, i, limits, header, last, row);
+            let f = field::read_field(rule, &row[a..e]);
             if let Field::Bad(number) = f {
                 break 'lines Walked::Refused { number, line };
             }
             held = put_level(f, levels, held);
             listed = put_quantiser(f, tables, listed);
+            last = f;
             a = e + 1;
             i += 1;
         }
         // nothing after E; cover after a channel's fields
         if tag == b'E' {
             if end + 1 == text.len() {
-                let sheet = state.sheet;
                 break 'lines Walked::Sheet {
                     sheet,
                     levels: held,

@@ -12,9 +12,10 @@ use Rattle.text.specs.Weights.{valueOf}
 use Rattle.sheet.specs.declared.Sheet.{Sheet}
 use Rattle.sheet.specs.declared.Header.{Header}
 use Rattle.sheet.specs.declared.Channel.{Channel}
+use Rattle.sheet.specs.Lines.{held}
 use Rattle.sheet.specs.Reading.{Outcome, Contents}
 use Rattle.sheet.specs.Reading.Outcome.{Gives, Refused}
-use Rattle.sheet.specs.Calls.{Lengths, levelsAfter, tablesAfter}
+use Rattle.sheet.specs.Calls.{Lengths, heldAfter}
 
 -- the number of a refusal and its line; 0 and 0 where there is none
 abbrev pub numberIn : {A : Type 0} → Outcome A → ℕ
@@ -71,6 +72,5 @@ numbersAfter (Refused k line) old = old
 pub record ReadsNumbers (o : Outcome Contents) (l₀ l : List ℤ) (t₀ t n₀ n : List ℕ) (at r : ℕ) : Type 0 where
   pub number : r ≡ numberIn o
   pub line : at ≡ lineIn o
-  pub levels : l ≡ levelsAfter o l₀
-  pub tables : t ≡ tablesAfter o t₀
+  pub held-after : held l t ≡ heldAfter o (held l₀ t₀)
   pub numbers : n ≡ numbersAfter o n₀

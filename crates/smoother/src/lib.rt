@@ -4,12 +4,14 @@ pub mod sheets;
 
 use record::Run;
 use sheet::Answer;
+use sheet::Limits;
 use sheet::Measured;
 use sheet::Sheet;
 use text::weight::Weight;
 ghost use mathlib.Core.Path.{_≡_};
 ghost use mathlib.Core.Bool.{cond};
 ghost use lib.ListN.{length};
+ghost use Rattle.sheet.specs.Lines.{held};
 ghost use Rattle.sheet.specs.Calls.{measuring, reading};
 ghost use Rattle.smoother.specs.Sheets.{Measures, ReadsNumbers, numbersOf, weightBits, withRecord};
 
@@ -29,9 +31,9 @@ pub extern "C" fn smoother_measure(
     tables: &mut usize,
     line: &mut usize,
 ) -> u32
-    ensures { λ r. ⌜ Measures (measuring limit (now (text .entry))) (now (levels .entry)) (now (levels .exit)) (now (tables .entry)) (now (tables .exit)) (now (line .exit)) r ⌝ }
+    ensures { λ r. ⌜ Measures (measuring (record { side = limit }) (now (text .entry))) (now (levels .entry)) (now (levels .exit)) (now (tables .entry)) (now (tables .exit)) (now (line .exit)) r ⌝ }
 {
-    match sheet::measure(text, limit) {
+    match sheet::measure(text, Limits { side: limit }) {
         Measured::Lengths {
             levels: n,
             tables: m,
@@ -131,11 +133,11 @@ pub extern "C" fn smoother_read(
     header: &mut [u32],
     line: &mut usize,
 ) -> u32
-    ensures { λ r. ⌜ ReadsNumbers (withRecord (length (now (header .entry))) (reading limit (now (text .entry)) (now (levels .entry)) (now (tables .entry))))
+    ensures { λ r. ⌜ ReadsNumbers (withRecord (length (now (header .entry))) (reading (record { side = limit }) (now (text .entry)) (held (now (levels .entry)) (now (tables .entry)))))
         (now (levels .entry)) (now (levels .exit)) (now (tables .entry)) (now (tables .exit)) (now (header .entry)) (now (header .exit)) (now (line .exit)) r ⌝ }
 {
     if header.len() == 27 {
-        match sheet::read(text, limit, levels, tables) {
+        match sheet::read(text, Limits { side: limit }, levels, tables) {
             Answer::Sheet(s) => {
                 put(numbers(s), header);
                 *line = 0;
@@ -147,7 +149,7 @@ pub extern "C" fn smoother_read(
             }
         }
     } else {
-        match sheet::measure(text, limit) {
+        match sheet::measure(text, Limits { side: limit }) {
             Measured::Lengths {
                 levels: _,
                 tables: _,

@@ -116,7 +116,7 @@ module _ (f : List ℕ) (r : Number) (e : r ≡ numberOf f) where
     unfolding fieldOf
     quantiser-in l u = rw (sym e ∙ p, le-leb _ _ l, le-leb _ _ u)
 
--- Tags and modes
+-- Letters
 
 module _ (f : List ℕ) (t : ℕ) (b : Bool) (e : b ≡ letter t f) where
   pub tag-is : b ≡ true → field.Good ≡ fieldOf (rule.Tag t) f
@@ -127,18 +127,18 @@ module _ (f : List ℕ) (t : ℕ) (b : Bool) (e : b ≡ letter t f) where
   unfolding fieldOf
   tag-not p = rw (sym e ∙ p)
 
-module _ (f : List ℕ) (b : Bool) (e : b ≡ letter 106 f) where
-  pub mode-joint : b ≡ true → field.Good ≡ fieldOf rule.Mode f
+module _ (f : List ℕ) (t u : ℕ) (b : Bool) (e : b ≡ letter t f) where
+  pub letters-first : b ≡ true → field.Good ≡ fieldOf (rule.Letters t u) f
   unfolding fieldOf
-  mode-joint p = rw (sym e ∙ p)
+  letters-first p = rw (sym e ∙ p)
 
-  pub mode-separate : b ≡ false → (d : Bool) → d ≡ letter 115 f → d ≡ true → field.Good ≡ fieldOf rule.Mode f
+  pub letters-second : b ≡ false → (d : Bool) → d ≡ letter u f → d ≡ true → field.Good ≡ fieldOf (rule.Letters t u) f
   unfolding fieldOf
-  mode-separate p d q o = rw (sym e ∙ p, sym q ∙ o)
+  letters-second p d q o = rw (sym e ∙ p, sym q ∙ o)
 
-  pub mode-not : b ≡ false → (d : Bool) → d ≡ letter 115 f → d ≡ false → field.Bad 1 ≡ fieldOf rule.Mode f
+  pub letters-not : b ≡ false → (d : Bool) → d ≡ letter u f → d ≡ false → field.Bad 1 ≡ fieldOf (rule.Letters t u) f
   unfolding fieldOf
-  mode-not p d q o = rw (sym e ∙ p, sym q ∙ o)
+  letters-not p d q o = rw (sym e ∙ p, sym q ∙ o)
 
 -- Weights
 
@@ -151,4 +151,4 @@ module _ (f : List ℕ) (r : WeightField) (e : r ≡ weightOf f) where
   unfolding fieldOf
   weight-bad k p = rw (sym e ∙ p)
 
-pub ruleset fields = (range-not, range-low, range-high, range-in, side-not, side-odd, side-low, side-high, side-in, channels-not, channels-one, channels-three, channels-other, quantiser-not, quantiser-low, quantiser-high, quantiser-in, tag-is, tag-not, mode-joint, mode-separate, mode-not, weight-is, weight-bad)
+pub ruleset fields = (range-not, range-low, range-high, range-in, side-not, side-odd, side-low, side-high, side-in, channels-not, channels-one, channels-three, channels-other, quantiser-not, quantiser-low, quantiser-high, quantiser-in, tag-is, tag-not, letters-first, letters-second, letters-not, weight-is, weight-bad)

@@ -147,6 +147,30 @@ joined-split (x ∷ l) = two (eqb x 9) refl (split 9 l) (split-some 9 l) (joined
     two true p (q ∷ ps) h ih = rw (eqb-true x 9 p, ih)
     two false p ps h ih = joined-onto x ps h ∙ ap (λ (m : List ℕ). x ∷ m) ih
 
+-- lines ended by byte 10, of what was cut there
+front : {A : Type 0} (x y : A) (xs ys : List A) → x ∷ xs ≡ y ∷ ys → (x ≡ y) × (xs ≡ ys)
+front x y xs ys e = (cc, cc)
+
+empty-no : {A : Type 0} {x : ℕ} {l : List ℕ} → x ∷ l ≡ [] → A
+empty-no e = let y : ⊥ = omega (arith, ap length e) in absurd y
+
+pub ended-split : (l : List ℕ) (ls : List (List ℕ)) → split 10 l ≡ ls ++ [] ∷ [] → ended ls ≡ l
+ended-split [] [] e = refl
+ended-split [] (q ∷ ls) e = let y : ⊥ = omega (arith, ap length e, length-append ls ([] ∷ [])) in absurd y
+ended-split (x ∷ l) ls e = two (eqb x 10) refl (split 10 l) refl ls e (ended-split l)
+  where
+    two : (t : Bool) → eqb x 10 ≡ t → (ps : List (List ℕ)) → split 10 l ≡ ps → (ls : List (List ℕ)) → cond t ([] ∷ ps) (onto x ps) ≡ ls ++ [] ∷ []
+        → ((ls : List (List ℕ)) → split 10 l ≡ ls ++ [] ∷ [] → ended ls ≡ l) → ended ls ≡ x ∷ l
+    two t p [] q ls o ih = let y : ⊥ = omega (arith, split-some 10 l, ap length q) in absurd y
+    two true p (r ∷ ps) q [] o ih = let y : ⊥ = omega (arith, ap length o) in absurd y
+    two true p (r ∷ ps) q (m ∷ ls) o ih =
+        let f = front [] m (r ∷ ps) (ls ++ [] ∷ []) o in
+        rw (← f .0, eqb-true x 10 p) (ap (λ (k : List ℕ). 10 ∷ k) (ih ls (q ∙ f .1)))
+    two false p (r ∷ ps) q [] o ih = empty-no (front (x ∷ r) [] ps [] o .0)
+    two false p (r ∷ ps) q (m ∷ ls) o ih =
+        let f = front (x ∷ r) m ps (ls ++ [] ∷ []) o in
+        rw (← f .0) (ap (λ (k : List ℕ). x ∷ k) (ih (r ∷ ls) (q ∙ ap (λ (k : List (List ℕ)). r ∷ k) (f .1))))
+
 -- The length of a row
 
 -- the fields have at most these lengths, one by one

@@ -42,14 +42,14 @@ abbrev pub weightField : WeightField → Field
 weightField (weight-field.Is w) = field.Good
 weightField (weight-field.Bad k) = field.Bad k
 
--- "mode `j` joint or `s` separate" (106, 115), "a bad mode letter is 1"; "side, channel count, iterations .. against the
--- rules" is 2, and the number of any other range stands in its rule
+-- "side, channel count, iterations .. against the rules" is 2, and the number of any other range stands in its rule; "a bad
+-- mode letter is 1", and so is any other bad letter
 unfoldable pub fieldOf : Rule → List ℕ → Field
 fieldOf (rule.Tag t) f = cond (letter t f) field.Good (field.Bad 1)
 fieldOf (rule.Range k low high) f = numberField k (λ n. leb low n && leb n high) (numberOf f)
 fieldOf (rule.Side most) f = numberField 2 (isSide most) (numberOf f)
 fieldOf rule.Channels f = numberField 2 (λ n. eqb n 1 || eqb n 3) (numberOf f)
-fieldOf rule.Mode f = cond (letter 106 f || letter 115 f) field.Good (field.Bad 1)
+fieldOf (rule.Letters a b) f = cond (letter a f || letter b f) field.Good (field.Bad 1)
 fieldOf rule.Weight f = weightField (weightOf f)
 fieldOf rule.Quantiser f = quantiserField (numberOf f)
 fieldOf rule.Level f = levelOf f

@@ -12,13 +12,13 @@ ghost use Rattle.text.specs.Pieces.{split};
 ghost use Rattle.text.specs.Fields.{letter, fieldOf};
 
 // What a field must be: this one letter; a number from low to high, else this fault; a multiple of 8 from 8 to the most;
-// 1 or 3; j or s; a weight; a quantiser; a level.
+// 1 or 3; one of two letters; a weight; a quantiser; a level.
 pub enum Rule {
     Tag(u8),
     Range { fault: u8, low: u32, high: u32 },
     Side(u32),
     Channels,
-    Mode,
+    Letters(u8, u8),
     Weight,
     Quantiser,
     Level,
@@ -109,13 +109,13 @@ fn read_channels(f: &[u8]) -> Field
     Field::Bad(2)
 }
 
-fn read_mode(f: &[u8]) -> Field
-    ensures { λ r. ⌜ r ≡ fieldOf Rule.Mode (now (f .entry)) ⌝ }
+fn read_letters(f: &[u8], a: u8, b: u8) -> Field
+    ensures { λ r. ⌜ r ≡ fieldOf (Rule.Letters a b) (now (f .entry)) ⌝ }
 {
-    if is_letter(f, b'j') {
+    if is_letter(f, a) {
         return Field::Good;
     }
-    if is_letter(f, b's') {
+    if is_letter(f, b) {
         return Field::Good;
     }
     Field::Bad(1)
@@ -154,7 +154,7 @@ pub fn read_field(rule: Rule, f: &[u8]) -> Field
         Rule::Range { fault, low, high } => read_range(f, fault, low, high),
         Rule::Side(high) => read_side(f, high),
         Rule::Channels => read_channels(f),
-        Rule::Mode => read_mode(f),
+        Rule::Letters(a, b) => read_letters(f, a, b),
         Rule::Weight => check_weight(f),
         Rule::Quantiser => read_quantiser(f),
         Rule::Level => level::read_level(f),

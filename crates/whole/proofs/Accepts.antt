@@ -15,9 +15,11 @@ use Rattle.text.specs.Legal.{Between, LegalSide, LegalWeight, LegalLevel}
 use Rattle.text.specs.Weights.{valueOf, plain}
 use Rattle.text.specs.declared.weight.Weight.{Weight}
 use Rattle.text.proofs.ValueLaws as ValueLaws
+use Rattle.sheet.specs.declared.Limits.{Limits}
 use Rattle.sheet.specs.declared.Sheet.{Sheet}
 use Rattle.sheet.specs.declared.Header.{Header}
 use Rattle.sheet.specs.declared.Channel as Line
+use Rattle.sheet.specs.Lines.{held}
 use Rattle.sheet.specs.Legal.{LegalChannel, LegalSheet, LegalQuantisers, LegalLevels, channelAt, levelsTo}
 use Rattle.calls.specs.Run.{coefs, count, levelsBefore, Own, fresh, own, place, side, fullSide, factor, weight, ownOk, headerOk, sheetOk, placesOk, legal, every}
 use Rattle.calls.specs.Run as Model
@@ -156,9 +158,9 @@ pub is-true : (b : Bool) → T b → b ≡ true
 is-true true t = refl
 is-true false t = absurd t
 
-module _ (limit : ℕ) (S : Sheet) (ls : List ℤ) (ts : List ℕ) (l : LegalSheet limit S ls ts) where
-  full : (n : ℕ) → LegalSide limit n → LegalSide 512 n
-  full n s = record { whole = s .whole; low = s .low; top = omega (arith, s .top, l .most .top) }
+module _ (limits : Limits) (S : Sheet) (ls : List ℤ) (ts : List ℕ) (l : LegalSheet limits S (held ls ts)) where
+  full : (n : ℕ) → LegalSide (limits .side) n → LegalSide 512 n
+  full n s = record { whole = s .whole; low = s .low; top = omega (arith, s .top, l .limits-legal .side .top) }
 
   joint-fine : Fine (joint S)
   unfolding joint

@@ -26,14 +26,14 @@ use Rattle.text.specs.Levels.{levelOf}
 use Rattle.text.specs.Fields.{fieldOf}
 use Rattle.text.specs.Written.{decimal}
 use Rattle.sheet.specs.declared.Sheet.{Sheet}
-use Rattle.sheet.specs.Lines.{rulesOf, fieldsFault, headerOf, channelOf, recordOf, noChannel}
-use Rattle.sheet.specs.Reading.{contents, blank, expectedTag, takenOf, lineFault, readText}
+use Rattle.sheet.specs.Lines.{rulesOf, fieldsFault, held, headerOf, channelOf, recordOf, noChannel}
+use Rattle.sheet.specs.Reading.{contents, blank, lineTag, takenOf, lineFault, readText}
 use Rattle.solve.specs.Solve.{joint, alone, runBlows, last, runOf, separately, wholeOf, planes, blows}
 use Rattle.calls.specs.Buffers.{joined}
 use Rattle.picture.specs.Finish as Finish
 use Rattle.output.specs.Output as Output
 use Rattle.output.specs.Output.{pictureText, refusalText}
-use Rattle.whole.specs.Printed.{painted, sheetText, says, printed}
+use Rattle.whole.specs.Printed.{limits, painted, sheetText, says, printed}
 
 -- the bytes of a text
 abbrev bytesFrom : String → ℕ → ℕ → List ℕ
@@ -83,8 +83,8 @@ levels = pos 1 ∷ replicate 63 (pos 0)
 abbrev tables : List ℕ
 tables = replicate 64 8
 
-reads : readText 32 example ≡ contents sheet levels tables
-unfolding readText blank expectedTag takenOf recordOf headerOf channelOf lineFault fieldsFault rulesOf numberAt weightAt numberOf bitForm weightOf levelOf fieldOf
+reads : readText limits example ≡ contents sheet (held levels tables)
+unfolding readText blank lineTag takenOf recordOf headerOf channelOf lineFault fieldsFault rulesOf numberAt weightAt numberOf bitForm weightOf levelOf fieldOf
 reads = refl
 
 -- N = 0: the unprojected start, "all 64 are v = 1 − 2⁻²⁴, not 1"
@@ -109,5 +109,5 @@ whole-example =
 
 -- "For 7 it is the unended line, the one after the last when `E` is missing": no line at all
 pub empty-text : printed [] ≡ b "X\t7\t1\n"
-unfolding printed says readText blank expectedTag takenOf recordOf headerOf channelOf lineFault fieldsFault rulesOf numberAt weightAt numberOf bitForm weightOf levelOf fieldOf refusalText decimal
+unfolding printed says readText blank lineTag takenOf recordOf headerOf channelOf lineFault fieldsFault rulesOf numberAt weightAt numberOf bitForm weightOf levelOf fieldOf refusalText decimal
 empty-text = refl

@@ -1,6 +1,5 @@
 -- A sheet that is read is solved; a refusal has a small line number; what the calls promise, as the text printed; worked examples.
 pub mod Accepts
-pub mod Lines
 pub mod Sizes
 pub mod Printing
 pub mod Examples

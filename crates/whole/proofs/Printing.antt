@@ -22,9 +22,10 @@ use Rattle.sheet.specs.declared.Measured.the-variants as measured
 use Rattle.sheet.specs.declared.Answer as Read
 use Rattle.sheet.specs.declared.Answer.the-variants as read
 use Rattle.sheet.specs.Legal.{LegalHeader, LegalSheet, channelAt, levelsTo}
+use Rattle.sheet.specs.Lines.{Held, held}
 use Rattle.sheet.specs.Reading.{Outcome, Contents, contents, readText}
 use Rattle.sheet.specs.Reading.Outcome.{Gives, Refused}
-use Rattle.sheet.specs.Calls.{Lengths, measuredSays, answerSays, lengthsOf, measuring, fitted, sheetIn, levelsAfter, tablesAfter, Reads}
+use Rattle.sheet.specs.Calls.{Lengths, measuredSays, answerSays, lengthsOf, measuring, fitted, sheetIn, heldAfter, Reads}
 use Rattle.sheet.proofs.LegalLaws.{legal}
 use Rattle.sheet.proofs.PrefixLaws.{decides, decisive-32}
 use Rattle.scalar.specs.Buffers.{Buffers}
@@ -39,14 +40,14 @@ use Rattle.picture.specs.Finish as Finish
 use Rattle.picture.proofs.Pixels.{picture-length}
 use Rattle.output.specs.Output.{Wrote, pictureInto, refusalText, refusalInto}
 use Rattle.output.proofs.Fronts.{wrote-as}
-use Rattle.whole.specs.Printed.{painted, sheetText, says, printed, mostPrinted, printedInto, SixLong}
+use Rattle.whole.specs.Printed.{limits, painted, sheetText, says, printed, mostPrinted, printedInto, SixLong}
 use Rattle.whole.proofs.Accepts.{at-most, accepts}
-use Rattle.whole.proofs.Lines.{LineTo, line-bound}
+use Rattle.sheet.proofs.BoundLaws.{LineTo, line-bound}
 use Rattle.whole.proofs.Sizes.{product, values-small, finished, written, refused}
 
 -- ---- paint_with: what finish leaves, written out
 
-pub paints : (h : Header) → LegalHeader 32 h → (ps : List Float) → length ps ≡ h .channels * (h .width * h .height)
+pub paints : (h : Header) → LegalHeader limits h → (ps : List Float) → length ps ≡ h .channels * (h .width * h .height)
     → (rgb rgb′ : List ℕ) → length rgb ≡ 3 * (h .«picture_width» * h .«picture_height») → (t : Finish.Told)
     → record { answer = t; bytes = rgb′ } ≡ Finish.finishing (h .width) (h .height) (h .«picture_width») (h .«picture_height») (h .channels) ps rgb
     → (out : List ℕ) (r : ℕ) (out′ : List ℕ) → mostPrinted ≤ length out
@@ -64,7 +65,7 @@ all-sized : (m : ℕ) (B : Buffers) → Sized m B → (names : List Name) → T 
 all-sized m B h [] = tt
 all-sized m B h (b ∷ bs) = and-i (eqb (length (get b B)) m) (all (λ n. eqb n m) (lengths bs B)) (eq→eqb (h b)) (all-sized m B h bs)
 
-module _ (S : Sheet) (ls : List ℤ) (ts : List ℕ) (l : LegalSheet 32 S ls ts) (B : Buffers)
+module _ (S : Sheet) (ls : List ℤ) (ts : List ℕ) (l : LegalSheet limits S (held ls ts)) (B : Buffers)
     (long : SixLong (S .header) (B .plane) (B .prior) (B .gradient) (B .across) (B .down) (B .saved)) (a : Answer) (B′ : Buffers) (said : SolveIs S ls ts B a B′) where
   abbrev size : ℕ
   size = S .header .channels * (S .header .width * S .header .height)
@@ -78,7 +79,7 @@ module _ (S : Sheet) (ls : List ℤ) (ts : List ℕ) (l : LegalSheet 32 S ls ts)
   sized Saved = long .5
 
   ended : Ended (blows S ls ts) (wholeOf S ls ts) B (answerOf a) B′
-  ended = subst (λ (n : ℕ). Ends n (wholeOf S ls ts) B (answerOf a) B′) (accepts 32 S ls ts l (lengths allSix B) (all-sized size B sized allSix)) said
+  ended = subst (λ (n : ℕ). Ends n (wholeOf S ls ts) B (answerOf a) B′) (accepts limits S ls ts l (lengths allSix B) (all-sized size B sized allSix)) said
 
   -- done: it did not blow, and the planes are there
   module _ (one : OneOf (1 ∷ []) (tagOf the-type a)) where
@@ -113,29 +114,28 @@ module _ (S : Sheet) (ls : List ℤ) (ts : List ℕ) (l : LegalSheet 32 S ls ts)
 given : (a b : Lengths) → Gives a ≡ Gives b → a ≡ b
 given a b e = cc
 
-fits : (n m : ℕ) (T : Outcome Contents) → lengthsOf T ≡ Gives (record { levels = n; tables = m }) → fitted n m T ≡ T
-fits n m (Gives c) e =
-    let l : length (c .levels) ≡ n = ap (λ (x : Lengths). x .levels) (given _ _ e) in
-    let t : length (c .tables) ≡ m = ap (λ (x : Lengths). x .tables) (given _ _ e) in
-    rw (eq-eqb (length (c .levels)) n l, eq-eqb (length (c .tables)) m t) refl
-fits n m (Refused k at) e = refl
+fits : (lent : Held) (T : Outcome Contents) → lengthsOf T ≡ Gives (record { levels = length (lent .levels); tables = length (lent .tables) }) → fitted lent T ≡ T
+fits lent (Gives c) e =
+    let l : length (c .held .levels) ≡ length (lent .levels) = ap (λ (x : Lengths). x .levels) (given _ _ e) in
+    let t : length (c .held .tables) ≡ length (lent .tables) = ap (λ (x : Lengths). x .tables) (given _ _ e) in
+    rw (eq-eqb (length (c .held .levels)) (length (lent .levels)) l, eq-eqb (length (c .held .tables)) (length (lent .tables)) t) refl
+fits lent (Refused k at) e = refl
 
 module _ (text : List ℕ) (l₀ l : List ℤ) (t₀ t : List ℕ) (r : Read.Answer)
-    (room : measuring 32 text ≡ Gives (record { levels = length l₀; tables = length t₀ })) (said : Reads 32 text l₀ l t₀ t r) where
-  whole : fitted (length l₀) (length t₀) (readText 32 text) ≡ readText 32 text
-  whole = fits (length l₀) (length t₀) (readText 32 text) room
+    (room : measuring limits text ≡ Gives (record { levels = length l₀; tables = length t₀ })) (said : Reads limits text (held l₀ t₀) (held l t) r) where
+  whole : fitted (held l₀ t₀) (readText limits text) ≡ readText limits text
+  whole = fits (held l₀ t₀) (readText limits text) room
 
-  pub sheet-read : (s : Sheet) → r ≡ read.Sheet s → readText 32 text ≡ contents s l t
+  pub sheet-read : (s : Sheet) → r ≡ read.Sheet s → readText limits text ≡ contents s (held l t)
   sheet-read s p =
-      by (readText 32 text) (sym (ap answerSays p) ∙ said .answer ∙ ap sheetIn whole) (said .levels ∙ ap (λ (o : Outcome Contents). levelsAfter o l₀) whole)
-      (said .tables ∙ ap (λ (o : Outcome Contents). tablesAfter o t₀) whole)
+      by (readText limits text) (sym (ap answerSays p) ∙ said .answer ∙ ap sheetIn whole) (said .held ∙ ap (λ (o : Outcome Contents). heldAfter o (held l₀ t₀)) whole)
     where
-      by : (T : Outcome Contents) → Gives s ≡ sheetIn T → l ≡ levelsAfter T l₀ → t ≡ tablesAfter T t₀ → T ≡ contents s l t
-      by (Gives c) e p q = let same : c .sheet ≡ s = cc in λ i. Gives (record { sheet = same i; levels = sym p i; tables = sym q i })
-      by (Refused k at) e p q = absurd (let z : _≡_ {A = ℕ} 0 1 = cc in omega arith)
+      by : (T : Outcome Contents) → Gives s ≡ sheetIn T → held l t ≡ heldAfter T (held l₀ t₀) → T ≡ contents s (held l t)
+      by (Gives c) e p = let same : c .sheet ≡ s = cc in λ i. Gives (record { sheet = same i; held = sym p i })
+      by (Refused k at) e p = absurd (let z : _≡_ {A = ℕ} 0 1 = cc in omega arith)
 
-  pub sheet-legal : (s : Sheet) → r ≡ read.Sheet s → LegalSheet 32 s l t
-  sheet-legal s p = legal 32 text s l t (sheet-read s p)
+  pub sheet-legal : (s : Sheet) → r ≡ read.Sheet s → LegalSheet limits s (held l t)
+  sheet-legal s p = legal limits text s (held l t) (sheet-read s p)
 
   pub sheet-text : (s : Sheet) → r ≡ read.Sheet s → (out : List ℕ) (n : ℕ) (out′ : List ℕ) → Wrote 0 (sheetText s l t) out n out′ → Wrote 0 (printed text) out n out′
   unfolding printed says
@@ -143,7 +143,7 @@ module _ (text : List ℕ) (l₀ l : List ℤ) (t₀ t : List ℕ) (r : Read.Ans
 
   -- a refusal was measured before
   pub not-refused : (k line : ℕ) → r ≡ read.Refused k line → ⊥
-  not-refused k line p = by (readText 32 text) room (sym (ap answerSays p) ∙ said .answer ∙ ap sheetIn whole)
+  not-refused k line p = by (readText limits text) room (sym (ap answerSays p) ∙ said .answer ∙ ap sheetIn whole)
     where
       by : (T : Outcome Contents) → lengthsOf T ≡ Gives (record { levels = length l₀; tables = length t₀ }) → Refused k line ≡ sheetIn T → ⊥
       by (Gives c) m e = let z : _≡_ {A = ℕ} 0 1 = cc in omega arith
@@ -151,7 +151,7 @@ module _ (text : List ℕ) (l₀ l : List ℤ) (t₀ t : List ℕ) (r : Read.Ans
 
 -- ---- read_and_solve: how much room that is at most
 
-levels-most : (S : Sheet) (ls : List ℤ) (ts : List ℕ) → LegalSheet 32 S ls ts → (n : ℕ) → n ≤ S .header .channels → levelsTo S n ≤ n * (S .header .width * S .header .height)
+levels-most : (S : Sheet) (ls : List ℤ) (ts : List ℕ) → LegalSheet limits S (held ls ts) → (n : ℕ) → n ≤ S .header .channels → levelsTo S n ≤ n * (S .header .width * S .header .height)
 levels-most S ls ts l zero h = omega arith
 levels-most S ls ts l (suc n) h =
     let x = l .channel n h in
@@ -162,16 +162,16 @@ levels-most S ls ts l (suc n) h =
       product (channelAt S n .width) (channelAt S n .height) (S .header .width) (S .header .height) (x .width .top) (x .height .top),
     )
 
-pub room-small : (text : List ℕ) (n m : ℕ) → measuring 32 text ≡ Gives (record { levels = n; tables = m }) → (n ≤ 3072) × (m ≤ 192)
-room-small text n m e = by (readText 32 text) refl e
+pub room-small : (text : List ℕ) (n m : ℕ) → measuring limits text ≡ Gives (record { levels = n; tables = m }) → (n ≤ 3072) × (m ≤ 192)
+room-small text n m e = by (readText limits text) refl e
   where
-    by : (T : Outcome Contents) → readText 32 text ≡ T → lengthsOf T ≡ Gives (record { levels = n; tables = m }) → (n ≤ 3072) × (m ≤ 192)
+    by : (T : Outcome Contents) → readText limits text ≡ T → lengthsOf T ≡ Gives (record { levels = n; tables = m }) → (n ≤ 3072) × (m ≤ 192)
     by (Gives c) q e =
         let s = c .sheet in
-        let l = legal 32 text s (c .levels) (c .tables) q in
-        let ln : length (c .levels) ≡ n = ap (λ (x : Lengths). x .levels) (given _ _ e) in
-        let lm : length (c .tables) ≡ m = ap (λ (x : Lengths). x .tables) (given _ _ e) in (
-          omega (arith, l .levels-count, levels-most s (c .levels) (c .tables) l (s .header .channels) (omega arith), values-small (s .header) (l .header)),
+        let l = legal limits text s (c .held) q in
+        let ln : length (c .held .levels) ≡ n = ap (λ (x : Lengths). x .levels) (given _ _ e) in
+        let lm : length (c .held .tables) ≡ m = ap (λ (x : Lengths). x .tables) (given _ _ e) in (
+          omega (arith, l .levels-count, levels-most s (c .held .levels) (c .held .tables) l (s .header .channels) (omega arith), values-small (s .header) (l .header)),
           omega (arith, l .tables-count, at-most (s .header .channels) (l .header .channels)),
         )
     by (Refused k at) q e = absurd (let z : _≡_ {A = ℕ} 0 1 = cc in omega arith)
@@ -188,10 +188,10 @@ same-room o n m n′ m′ e p q = e ∙ (λ i. Gives (record { levels = sym p i;
 pub measured-room : (o : Outcome Lengths) (r : Measured) (n m : ℕ) → measuredSays r ≡ o → r ≡ measured.Lengths n m → o ≡ Gives (record { levels = n; tables = m })
 measured-room o r n m e p = sym e ∙ ap measuredSays p
 
-pub refusal-text : (text : List ℕ) → length text ≤ 20453 → (r : Measured) (k line : ℕ) → measuredSays r ≡ measuring 32 text → r ≡ measured.Refused k line
+pub refusal-text : (text : List ℕ) → length text ≤ 20453 → (r : Measured) (k line : ℕ) → measuredSays r ≡ measuring limits text → r ≡ measured.Refused k line
     → (out : List ℕ) (n : ℕ) (out′ : List ℕ) → mostPrinted ≤ length out → Wrote 0 (refusalInto k line (length out)) out n out′ → Wrote 0 (printed text) out n out′
 unfolding printed says
-refusal-text text h r k line e p out n out′ m w = by (readText 32 text) (line-bound 32 text) (sym (ap measuredSays p) ∙ e)
+refusal-text text h r k line e p out n out′ m w = by (readText limits text) (line-bound limits text) (sym (ap measuredSays p) ∙ e)
   where
     by : (T : Outcome Contents) → LineTo (length text + 2) T → Refused k line ≡ lengthsOf T → Wrote 0 (says T) out n out′
     by (Gives c) b q = absurd (let z : _≡_ {A = ℕ} 0 1 = cc in omega arith)
@@ -211,4 +211,4 @@ pub first-bytes : (text part out : List ℕ) (n : ℕ) (out′ : List ℕ) → m
     → Wrote 0 (printedInto text (length out)) out n out′
 unfolding printed
 first-bytes text part out n out′ h w e =
-    roomy text out n out′ h (wrote-as (ap printed e ∙ ap says (decides 32 text 20453 (omega (arith, decisive-32)))) w)
+    roomy text out n out′ h (wrote-as (ap printed e ∙ ap says (decides limits text 20453 (omega (arith, decisive-32)))) w)

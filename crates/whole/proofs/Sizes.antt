@@ -15,13 +15,13 @@ use Rattle.sheet.specs.declared.Header.{Header}
 use Rattle.sheet.specs.Legal.{LegalHeader}
 use Rattle.picture.specs.Finish as Finish
 use Rattle.output.specs.Output.{pictureText, pictureInto, pictureFits, pictureRoom, refusalText, refusalInto, refusalFits}
-use Rattle.whole.specs.Printed.{painted, mostPrinted}
+use Rattle.whole.specs.Printed.{limits, painted, mostPrinted}
 use Rattle.whole.proofs.Accepts.{at-most, is-true}
 
 pub product : (a b m n : ℕ) → a ≤ m → b ≤ n → a * b ≤ m * n
 product a b m n h k = le-trans (mul-le-mul-right b h) (mul-le-mul-left m k)
 
-module _ (h : Header) (l : LegalHeader 32 h) where
+module _ (h : Header) (l : LegalHeader limits h) where
   pub area-small : h .width * h .height ≤ 1024
   area-small = product (h .width) (h .height) 32 32 (l .width .top) (l .height .top)
 

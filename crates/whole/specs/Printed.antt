@@ -7,6 +7,7 @@ use lib.Dec.{leb}
 use lib.ListN.{length}
 use lib.IntN.{ℤ}
 use lib.Ieee.{Float}
+use Rattle.sheet.specs.declared.Limits.{Limits}
 use Rattle.sheet.specs.declared.Header.{Header}
 use Rattle.sheet.specs.declared.Sheet.{Sheet}
 use Rattle.sheet.specs.Reading.{Outcome, Contents, readText}
@@ -28,12 +29,15 @@ sheetText s levels tables = cond (blows s levels tables) (refusalText 10 0) (pai
 
 -- "A refusal prints only `X`, number and line"
 unfoldable pub says : Outcome Contents → List ℕ
-says (Gives c) = sheetText (c .sheet) (c .levels) (c .tables)
+says (Gives c) = sheetText (c .sheet) (c .held .levels) (c .held .tables)
 says (Refused k line) = refusalText k line
 
 -- "W and H above 32 are 2 there"
+abbrev pub limits : Limits
+limits = record { side = 32 }
+
 unfoldable pub printed : List ℕ → List ℕ
-printed text = says (readText 32 text)
+printed text = says (readText limits text)
 
 -- No text that it prints takes more room: a picture of 32 by 32.
 abbrev pub mostPrinted : ℕ

@@ -1,21 +1,23 @@
 // The whole program as a function: the bytes that `smooth` prints for a text.
 use record::Answer;
 use sheet::Header;
+use sheet::Limits;
 use sheet::Measured;
 use sheet::Sheet;
 use solve::solve;
 ghost use mathlib.Core.Path.{_≡_};
 ghost use Prim.Native.Nat.{_*_, _≤_};
 ghost use lib.ListN.{length};
+ghost use Rattle.sheet.specs.Lines.{held};
 ghost use Rattle.sheet.specs.Calls.{measuring, Lengths};
 ghost use Rattle.sheet.specs.Reading.Outcome.{Gives};
 ghost use Rattle.sheet.specs.Legal.{LegalHeader, LegalSheet};
 ghost use Rattle.output.specs.Output.{Wrote};
-ghost use Rattle.whole.specs.Printed.{painted, sheetText, printed, mostPrinted, printedInto, SixLong};
+ghost use Rattle.whole.specs.Printed.{limits, painted, sheetText, printed, mostPrinted, printedInto, SixLong};
 
 // The text of the picture of solved planes; rgb is room for its bytes.
 fn paint_with(h: Header, planes: &[f32], rgb: &mut [u8], out: &mut [u8]) -> usize
-    requires { ⌜ LegalHeader 32 h × (length (now planes) ≡ h .channels * (h .width * h .height)) × (length (now rgb) ≡ 3 * (h .«picture_width» * h .«picture_height»)) × (mostPrinted ≤ length (now out)) ⌝ }
+    requires { ⌜ LegalHeader limits h × (length (now planes) ≡ h .channels * (h .width * h .height)) × (length (now rgb) ≡ 3 * (h .«picture_width» * h .«picture_height»)) × (mostPrinted ≤ length (now out)) ⌝ }
     ensures { λ r. ⌜ Wrote 0 (painted h (now (planes .entry))) (now (out .entry)) r (now (out .exit)) ⌝ }
 {
     let width = h.picture_width;
@@ -26,7 +28,7 @@ fn paint_with(h: Header, planes: &[f32], rgb: &mut [u8], out: &mut [u8]) -> usiz
 
 // The same, with room of its own.
 fn paint(h: Header, planes: &[f32], out: &mut [u8]) -> usize
-    requires { ⌜ LegalHeader 32 h × (length (now planes) ≡ h .channels * (h .width * h .height)) × (mostPrinted ≤ length (now out)) ⌝ }
+    requires { ⌜ LegalHeader limits h × (length (now planes) ≡ h .channels * (h .width * h .height)) × (mostPrinted ≤ length (now out)) ⌝ }
     ensures { λ r. ⌜ Wrote 0 (painted h (now (planes .entry))) (now (out .entry)) r (now (out .exit)) ⌝ }
 {
     let mut rgb = [0u8; 3072];
@@ -47,7 +49,7 @@ fn solved_with(
     saved: &mut [f32],
     out: &mut [u8],
 ) -> usize
-    requires { ⌜ LegalSheet 32 s (now levels) (now tables) × SixLong (s .header) (now plane) (now prior) (now gradient) (now across) (now down) (now saved) × (mostPrinted ≤ length (now out)) ⌝ }
+    requires { ⌜ LegalSheet limits s (held (now levels) (now tables)) × SixLong (s .header) (now plane) (now prior) (now gradient) (now across) (now down) (now saved) × (mostPrinted ≤ length (now out)) ⌝ }
     ensures { λ r. ⌜ Wrote 0 (sheetText s (now (levels .entry)) (now (tables .entry))) (now (out .entry)) r (now (out .exit)) ⌝ }
 {
     let h = s.header;
@@ -70,7 +72,7 @@ fn solved_with(
 
 // The same, with room of its own.
 fn solved(s: Sheet, levels: &[i16], tables: &[u16], out: &mut [u8]) -> usize
-    requires { ⌜ LegalSheet 32 s (now levels) (now tables) × (mostPrinted ≤ length (now out)) ⌝ }
+    requires { ⌜ LegalSheet limits s (held (now levels) (now tables)) × (mostPrinted ≤ length (now out)) ⌝ }
     ensures { λ r. ⌜ Wrote 0 (sheetText s (now (levels .entry)) (now (tables .entry))) (now (out .entry)) r (now (out .exit)) ⌝ }
 {
     let mut plane = [0.0f32; 3072];
@@ -97,10 +99,10 @@ fn solved(s: Sheet, levels: &[i16], tables: &[u16], out: &mut [u8]) -> usize
 
 // The text of a sheet; levels and tables are room for its levels and tables.
 fn read_with(text: &[u8], levels: &mut [i16], tables: &mut [u16], out: &mut [u8]) -> usize
-    requires { ⌜ (measuring 32 (now text) ≡ Gives (record { levels = length (now levels); tables = length (now tables) })) × (mostPrinted ≤ length (now out)) ⌝ }
+    requires { ⌜ (measuring limits (now text) ≡ Gives (record { levels = length (now levels); tables = length (now tables) })) × (mostPrinted ≤ length (now out)) ⌝ }
     ensures { λ r. ⌜ Wrote 0 (printed (now (text .entry))) (now (out .entry)) r (now (out .exit)) ⌝ }
 {
-    match sheet::read(text, 32, levels, tables) {
+    match sheet::read(text, Limits { side: 32 }, levels, tables) {
         sheet::Answer::Sheet(s) => solved(s, &levels[..], &tables[..], out),
         sheet::Answer::Refused { number, line } => output::write_refusal(number, line, out),
     }
@@ -108,7 +110,7 @@ fn read_with(text: &[u8], levels: &mut [i16], tables: &mut [u16], out: &mut [u8]
 
 // The same, with room of its own for n levels and m quantisers.
 fn read_and_solve(text: &[u8], n: usize, m: usize, out: &mut [u8]) -> usize
-    requires { ⌜ (measuring 32 (now text) ≡ Gives (record { levels = n; tables = m })) × (mostPrinted ≤ length (now out)) ⌝ }
+    requires { ⌜ (measuring limits (now text) ≡ Gives (record { levels = n; tables = m })) × (mostPrinted ≤ length (now out)) ⌝ }
     ensures { λ r. ⌜ Wrote 0 (printed (now (text .entry))) (now (out .entry)) r (now (out .exit)) ⌝ }
 {
     let mut levels = [0i16; 3072];
@@ -121,7 +123,7 @@ fn answer(text: &[u8], out: &mut [u8]) -> usize
     requires { ⌜ (length (now text) ≤ 20453) × (mostPrinted ≤ length (now out)) ⌝ }
     ensures { λ r. ⌜ Wrote 0 (printed (now (text .entry))) (now (out .entry)) r (now (out .exit)) ⌝ }
 {
-    match sheet::measure(text, 32) {
+    match sheet::measure(text, Limits { side: 32 }) {
         Measured::Refused { number, line } => output::write_refusal(number, line, out),
         Measured::Lengths {
             levels: n,

@@ -6,31 +6,31 @@ use borrow.Author.Needs.{needs}
 use borrow.Author.Tests.{not-true, not-false}
 use lib.ListN.{length}
 use Rattle.text.specs.Pieces.{split}
-use Rattle.sheet.specs.Lines.{rulesOf}
+use Rattle.sheet.specs.Lines.{rulesOf, held}
 use Rattle.sheet.proofs.StateLaws.{due}
-use Rattle.sheet.proofs.WalkLaws.{good-field, Checking, check-begin, check-levels, check-tables, check-at, check-in, check-bad, check-step, Reading, read-begin, walk-limit, OnLine, same-levels, same-tables, end-inside, walk-long, walk-cut, on-line, walk-count, row-count, rules-count, level-room, table-room, walk-fault, walk-end, walk-after, walk-bad, walk-next}
+use Rattle.sheet.proofs.WalkLaws.{good-field, places, Checking, check-begin, check-levels, check-tables, check-at, check-in, check-bad, check-step, Reading, read-begin, walk-limit, OnLine, same-levels, same-tables, end-inside, walk-long, walk-cut, on-line, walk-count, row-count, rules-count, level-room, table-room, walk-fault, walk-end, walk-after, walk-bad, walk-next}
 use Rattle.sheet.proofs.walk.walk.Statement.{statement}
 use Rattle.sheet.proofs.walk.walk.Tie as tie
 
 abbrev Inv-loop : tie.InvT-loop
-Inv-loop text limit levels₀ tables₀ state at line held₀ listed₀ end tag count row i₀ a₀ levels tables held listed i a = OnLine text state at end tag count
+Inv-loop text limits levels₀ tables₀ state at line held₀ listed₀ end row tag count sheet header i₀ a₀ last₀ levels tables filled listed i a last = OnLine text state at end tag count
     × (length (split 9 row) ≡ count)
-    × Checking (rulesOf tag limit (split 9 row)) row count levels₀ tables₀ held₀ listed₀ levels tables held listed i a
+    × Checking (rulesOf tag limits header (split 9 row)) row count (held levels₀ tables₀) (places held₀ listed₀) (held levels tables) (places filled listed) i a last
 
 abbrev μ-loop : tie.MeasureT-loop
-μ-loop text limit levels₀ tables₀ state at line held₀ listed₀ end tag count row i₀ a₀ levels tables held listed i a = count - i
+μ-loop text limits levels₀ tables₀ state at line held₀ listed₀ end row tag count sheet header i₀ a₀ last₀ levels tables filled listed i a last = count - i
 
 abbrev Inv-lines : tie.InvT-lines
-Inv-lines text limit levels₀ tables₀ state₀ at₀ line₀ held₀ listed₀ levels tables state at line held listed = Reading limit text levels₀ tables₀ levels tables state at line held listed
+Inv-lines text limits levels₀ tables₀ state₀ at₀ line₀ held₀ listed₀ levels tables state at line filled listed = Reading limits text (held levels₀ tables₀) (held levels tables) state at line (places filled listed)
 
 abbrev μ-lines : tie.MeasureT-lines
-μ-lines text limit levels₀ tables₀ state₀ at₀ line₀ held₀ listed₀ levels tables state at line held listed = length text - at
+μ-lines text limits levels₀ tables₀ state₀ at₀ line₀ held₀ listed₀ levels tables state at line filled listed = length text - at
 
 returns : tie.Need-returns Inv-loop μ-loop Inv-lines μ-lines
-returns c = walk-limit _ _ _ _ (sym (c .before .is-limit .ensures) ∙ not-true (c .before .is-limit .result) (c .if1 .taken))
+returns c = walk-limit _ _ _ (sym (c .before .are-allowed .ensures) ∙ not-true (c .before .are-allowed .result) (c .if1 .taken))
 
 lines-holds : tie.Need-lines-holds Inv-loop μ-loop Inv-lines μ-lines
-lines-holds c = read-begin _ _ _ _ _ (sym (c .before .before .is-limit .ensures) ∙ not-false (c .before .before .is-limit .result) (c .before .if1 .left)) (c .nothing .ensures)
+lines-holds c = read-begin _ _ _ _ (sym (c .before .before .are-allowed .ensures) ∙ not-false (c .before .before .are-allowed .result) (c .before .if1 .left)) (c .nothing .ensures)
 
 line-at-requires : tie.Need-line-at-requires Inv-loop μ-loop Inv-lines μ-lines
 line-at-requires c κs = c .lines .inv .inside
@@ -39,24 +39,23 @@ sub-if2 : tie.Need-sub-if2 Inv-loop μ-loop Inv-lines μ-lines
 sub-if2 c = omega (arith, c .line-at .ensures .end)
 
 sub-row : tie.Need-sub-row Inv-loop μ-loop Inv-lines μ-lines
-sub-row c = omega (arith, c .before .before .before .before .before .before .line-at .ensures .end)
+sub-row c = omega (arith, c .before .before .line-at .ensures .end)
 
 part-row-start : tie.Need-part-row-start Inv-loop μ-loop Inv-lines μ-lines
-part-row-start c = omega (arith, c .before .before .before .before .before .before .line-at .ensures .end)
+part-row-start c = omega (arith, c .before .before .line-at .ensures .end)
 
 part-row-end : tie.Need-part-row-end Inv-loop μ-loop Inv-lines μ-lines
-part-row-end c = end-inside (c .before .before .before .before .before .before .before .lines .inv) (c .before .before .before .before .before .before .line-at .ensures)
+part-row-end c = end-inside (c .before .before .before .lines .inv) (c .before .before .line-at .ensures)
 
 loop-holds : tie.Need-loop-holds Inv-loop μ-loop Inv-lines μ-lines
 loop-holds c =
-    let o = c .before .before .before .before .before .before .before .before in
-    let w = on-line (o .lines .inv) (c .before .before .before .before .before .before .before .line-at .ensures) (c .before .before .before .before .before .before .if2 .left) (c .before .before .before .before .before .if3 .left) (c .before .before .before .before .expected .ensures) (c .before .before .before .field-count .ensures) in (w, row-count (o .lines .inv) w (c .before .before .before .before .before .before .before .line-at .ensures) (c .before .if4 .left), check-begin _ _ _ _ _ _ _)
+    let w = on-line (c .before .before .before .before .before .before .before .before .before .before .lines .inv) (c .before .before .before .before .before .before .before .before .before .line-at .ensures) (c .before .before .before .before .before .before .before .before .if2 .left) (c .before .before .before .before .before .before .before .if3 .left) (c .before .before .before .before .before .expected .ensures) (c .before .before .before .before .field-count .ensures) in (w, row-count (c .before .before .before .before .before .before .before .before .before .before .lines .inv) w (c .before .before .before .before .before .before .before .before .before .line-at .ensures) (c .before .before .if4 .left), check-begin _ _ _ _ _)
 
 field-end-requires : tie.Need-field-end-requires Inv-loop μ-loop Inv-lines μ-lines
 field-end-requires c κs = check-at (c .before .loop .inv .2) (c .loop-test .taken)
 
 rule-at-requires : tie.Need-rule-at-requires Inv-loop μ-loop Inv-lines μ-lines
-rule-at-requires c κs = omega (arith, c .before .before .before .before .before .before .field-count .ensures, c .before .loop-test .taken)
+rule-at-requires c κs = (omega (arith, c .before .before .before .before .before .before .before .field-count .ensures, c .before .loop-test .taken), c .before .before .loop .inv .2 .said)
 
 sub-read-field : tie.Need-sub-read-field Inv-loop μ-loop Inv-lines μ-lines
 sub-read-field c = omega (arith, c .before .field-end .ensures)
@@ -69,63 +68,49 @@ part-read-field-end c = check-in (c .before .before .before .loop .inv .2) (c .b
 
 put-level-requires : tie.Need-put-level-requires Inv-loop μ-loop Inv-lines μ-lines
 put-level-requires c κs =
-    let l = c .before .before .before .before .before .before .before in
-    let o = l .before .before .before .before .before .before .before .before .before in
-    level-room (o .lines .inv) (l .loop .inv .0) (l .loop .inv .1) (o .before .before .before .before .before .before .good .0 .0) (c .before .before .before .before .before .before .loop-test .taken) (l .loop .inv .2 .held)
+    level-room (c .before .before .before .before .before .before .before .before .before .before .before .before .before .before .before .before .before .before .lines .inv) (c .before .before .before .before .before .before .before .loop .inv .0) (c .before .before .before .before .before .before .before .loop .inv .1) (c .before .before .before .before .before .before .before .before .before .before .before .before .before .before .before .before .before .before .before .before .before .before .before .before .good .0 .0) (c .before .before .before .before .before .before .loop-test .taken) (c .before .before .before .before .before .before .before .loop .inv .2 .held-most)
 
 put-quantiser-requires : tie.Need-put-quantiser-requires Inv-loop μ-loop Inv-lines μ-lines
 put-quantiser-requires c κs =
-    let f = c .before .before .before .before .before in
-    let l = f .before .before .before .before .before in
-    let o = l .before .before .before .before .before .before .before .before .before in
-    table-room (o .lines .inv) (l .loop .inv .0) (l .loop .inv .1) (o .before .before .before .before .before .before .good .0 .0) (f .before .before .before .before .loop-test .taken) (l .loop .inv .2 .listed)
+    table-room (c .before .before .before .before .before .before .before .before .before .before .before .before .before .before .before .before .before .before .before .before .before .lines .inv) (c .before .before .before .before .before .before .before .before .before .before .loop .inv .0) (c .before .before .before .before .before .before .before .before .before .before .loop .inv .1) (c .before .before .before .before .before .before .before .before .before .before .before .before .before .before .before .before .before .before .before .before .before .before .before .before .before .before .before .good .0 .0) (c .before .before .before .before .before .before .before .before .before .loop-test .taken) (c .before .before .before .before .before .before .before .before .before .before .loop .inv .2 .listed-most)
 
 add-a : tie.Need-add-a Inv-loop μ-loop Inv-lines μ-lines
 add-a c =
-    let f = c .before .before .before .before .before .before .before .before in
-    let l = f .before .before .before .before .before in
-    omega (arith, check-in (l .loop .inv .2) (f .before .before .before .before .loop-test .taken) (f .before .before .before .field-end .ensures), l .loop .inv .0 .size, l .loop .inv .0 .ended, l .before .before .before .before .before .before .before .before .before .before .before .before .before .before .before .good .0 .0)
+    omega (arith, check-in (c .before .before .before .before .before .before .before .before .before .before .before .before .before .loop .inv .2) (c .before .before .before .before .before .before .before .before .before .before .before .before .loop-test .taken) (c .before .before .before .before .before .before .before .before .before .before .before .field-end .ensures), c .before .before .before .before .before .before .before .before .before .before .before .before .before .loop .inv .0 .size, c .before .before .before .before .before .before .before .before .before .before .before .before .before .loop .inv .0 .ended, c .before .before .before .before .before .before .before .before .before .before .before .before .before .before .before .before .before .before .before .before .before .before .before .before .before .before .before .before .before .before .good .0 .0)
 
 loop-again : tie.Need-loop-again Inv-loop μ-loop Inv-lines μ-lines
-loop-again c =
-    let f = c .before .before .before .before .before .before .before .before in
-    let l = f .before .before .before .before .before in (
-      l .loop .inv .0,
-      l .loop .inv .1,
-      check-step (l .loop .inv .2) (f .before .before .before .before .loop-test .taken) (f .before .before .before .field-end .ensures) (rules-count (l .before .before .before .before .before .before .before .before .before .lines .inv) (l .loop .inv .0)) (l .loop .inv .1) (f .before .before .rule-at .ensures) (f .read-field .ensures)
-          (good-field (f .read-field .result) (c .before .before .before .before .before .before .before .match .keys2)) (c .before .before .before .before .before .put-level .ensures) (c .before .before .put-quantiser .ensures),
-    )
+loop-again c = (
+  c .before .before .before .before .before .before .before .before .before .before .before .before .before .loop .inv .0,
+  c .before .before .before .before .before .before .before .before .before .before .before .before .before .loop .inv .1,
+  check-step (c .before .before .before .before .before .before .before .before .before .before .before .before .before .loop .inv .2) (c .before .before .before .before .before .before .before .before .before .before .before .before .loop-test .taken) (c .before .before .before .before .before .before .before .before .before .before .before .field-end .ensures) (rules-count (c .before .before .before .before .before .before .before .before .before .before .before .before .before .before .before .before .before .before .before .before .before .before .before .before .lines .inv) (c .before .before .before .before .before .before .before .before .before .before .before .before .before .loop .inv .0)) (c .before .before .before .before .before .before .before .before .before .before .before .before .before .loop .inv .1) (c .before .before .before .before .before .before .before .before .before .before .rule-at .ensures) (c .before .before .before .before .before .before .before .before .read-field .ensures)
+      (good-field (c .before .before .before .before .before .before .before .before .read-field .result) (c .before .before .before .before .before .before .before .match .keys2)) (c .before .before .before .before .before .put-level .ensures) (c .before .before .put-quantiser .ensures),
+)
 
 add-if6 : tie.Need-add-if6 Inv-loop μ-loop Inv-lines μ-lines
-add-if6 c = omega (arith, c .before .before .loop .inv .0 .ended, c .before .before .before .before .before .before .before .before .before .before .before .before .before .before .before .before .before .good .0 .0)
+add-if6 c = omega (arith, c .before .before .loop .inv .0 .ended, c .before .before .before .before .before .before .before .before .before .before .before .before .before .before .before .before .before .before .before .good .0 .0)
 
 add-next : tie.Need-add-next Inv-loop μ-loop Inv-lines μ-lines
 add-next c =
-    let o = c .before .before .before .before .before .before .before .before .before .before .before .before in
-    omega (arith, o .lines .inv .lines, o .lines .inv .inside, o .before .before .before .before .before .before .good .0)
+    omega (arith, c .before .before .before .before .before .before .before .before .before .before .before .before .before .before .lines .inv .lines, c .before .before .before .before .before .before .before .before .before .before .before .before .before .before .lines .inv .inside, c .before .before .before .before .before .before .before .before .before .before .before .before .before .before .before .before .before .before .before .before .good .0)
 
 take-record-requires : tie.Need-take-record-requires Inv-loop μ-loop Inv-lines μ-lines
-take-record-requires c κs = due _ _ (c .before .before .before .before .before .before .before .before .expected .ensures) (c .before .if5 .left) _ _ (c .record-of .ensures)
+take-record-requires c κs = due _ _ _ (c .before .before .before .before .before .before .before .before .before .expected .ensures) (c .before .if5 .left) _ (c .record-of .ensures)
 
 add-at : tie.Need-add-at Inv-loop μ-loop Inv-lines μ-lines
 add-at c =
-    let l = c .before .before .before .before .before .before .before in
-    omega (arith, l .loop .inv .0 .ended, l .before .before .before .before .before .before .before .before .before .before .before .before .before .before .before .good .0 .0)
+    omega (arith, c .before .before .before .before .before .before .before .loop .inv .0 .ended, c .before .before .before .before .before .before .before .before .before .before .before .before .before .before .before .before .before .before .before .before .before .before .before .before .good .0 .0)
 
 add-line : tie.Need-add-line Inv-loop μ-loop Inv-lines μ-lines
 add-line c =
-    let o = c .before .before .before .before .before .before .before .before .before .before .before .before .before .before .before .before in
-    omega (arith, o .lines .inv .lines, o .lines .inv .inside, o .before .before .before .before .before .before .good .0)
+    omega (arith, c .before .before .before .before .before .before .before .before .before .before .before .before .before .before .before .before .before .before .lines .inv .lines, c .before .before .before .before .before .before .before .before .before .before .before .before .before .before .before .before .before .before .lines .inv .inside, c .before .before .before .before .before .before .before .before .before .before .before .before .before .before .before .before .before .before .before .before .before .before .before .before .good .0)
 
 lines-less : tie.Need-lines-less Inv-loop μ-loop Inv-lines μ-lines
 lines-less c =
-    let l = c .before .before .before .before .before .before .before in
-    omega (arith, l .loop .inv .0 .ended, l .loop .inv .0 .ordered)
+    omega (arith, c .before .before .before .before .before .before .before .loop .inv .0 .ended, c .before .before .before .before .before .before .before .loop .inv .0 .ordered)
 
 lines-again : tie.Need-lines-again Inv-loop μ-loop Inv-lines μ-lines
 lines-again c =
-    let l = c .before .before .before .before .before .before .before in
-    walk-next (l .before .before .before .before .before .before .before .before .before .lines .inv) (l .loop .inv .0) (l .loop .inv .1) (l .loop .inv .2) (c .before .before .before .before .before .before .loop-test .left) (c .before .before .before .before .before .if5 .left) (c .before .before .before .before .record-of .ensures) (c .before .before .before .take-record .ensures) (c .before .next .given .1)
+    walk-next (c .before .before .before .before .before .before .before .before .before .before .before .before .before .before .before .before .before .before .lines .inv) (c .before .before .before .before .before .before .before .loop .inv .0) (c .before .before .before .before .before .before .before .loop .inv .1) (c .before .before .before .before .before .before .before .loop .inv .2) (c .before .before .before .before .before .before .loop-test .left) (c .before .before .before .before .before .if5 .left) (c .before .before .before .before .record-of .ensures) (c .before .before .before .take-record .ensures) (c .before .next .given .1)
 
 same-length : tie.Need-same-length Inv-loop μ-loop Inv-lines μ-lines
 same-length c = same-levels (c .before .before .lines .inv)
@@ -146,84 +131,69 @@ returns-3 : tie.Need-returns-3 Inv-loop μ-loop Inv-lines μ-lines
 returns-3 c = walk-cut (c .before .before .before .lines .inv) (c .before .before .line-at .ensures) (c .before .if2 .left) (c .if3 .taken)
 
 same-length-5 : tie.Need-same-length-5 Inv-loop μ-loop Inv-lines μ-lines
-same-length-5 c = same-levels (c .before .before .before .before .before .before .before .lines .inv)
+same-length-5 c = same-levels (c .before .before .before .before .before .before .before .before .lines .inv)
 
 same-length-6 : tie.Need-same-length-6 Inv-loop μ-loop Inv-lines μ-lines
-same-length-6 c = same-tables (c .before .before .before .before .before .before .before .lines .inv)
+same-length-6 c = same-tables (c .before .before .before .before .before .before .before .before .lines .inv)
 
 returns-4 : tie.Need-returns-4 Inv-loop μ-loop Inv-lines μ-lines
 returns-4 c =
-    let o = c .before .before .before .before .before .before .before in
-    walk-count (o .lines .inv) (on-line (o .lines .inv) (c .before .before .before .before .before .before .line-at .ensures) (c .before .before .before .before .before .if2 .left) (c .before .before .before .before .if3 .left) (c .before .before .before .expected .ensures) (c .before .before .field-count .ensures)) (c .before .before .before .before .before .before .line-at .ensures) (c .if4 .taken)
+    walk-count (c .before .before .before .before .before .before .before .before .lines .inv) (on-line (c .before .before .before .before .before .before .before .before .lines .inv) (c .before .before .before .before .before .before .before .line-at .ensures) (c .before .before .before .before .before .before .if2 .left) (c .before .before .before .before .before .if3 .left) (c .before .before .before .expected .ensures) (c .before .before .field-count .ensures)) (c .before .before .before .before .before .before .before .line-at .ensures) (c .if4 .taken)
 
 same-length-7 : tie.Need-same-length-7 Inv-loop μ-loop Inv-lines μ-lines
 same-length-7 c =
-    let l = c .before .before .before .before .before .before .before .before in
-    check-levels (l .loop .inv .2) ∙ same-levels (l .before .before .before .before .before .before .before .before .before .lines .inv)
+    check-levels (c .before .before .before .before .before .before .before .before .loop .inv .2) ∙ same-levels (c .before .before .before .before .before .before .before .before .before .before .before .before .before .before .before .before .before .before .before .lines .inv)
 
 same-length-8 : tie.Need-same-length-8 Inv-loop μ-loop Inv-lines μ-lines
 same-length-8 c =
-    let l = c .before .before .before .before .before .before .before .before in
-    check-tables (l .loop .inv .2) ∙ same-tables (l .before .before .before .before .before .before .before .before .before .lines .inv)
+    check-tables (c .before .before .before .before .before .before .before .before .loop .inv .2) ∙ same-tables (c .before .before .before .before .before .before .before .before .before .before .before .before .before .before .before .before .before .before .before .lines .inv)
 
 returns-5 : tie.Need-returns-5 Inv-loop μ-loop Inv-lines μ-lines
 returns-5 c =
-    let f = c .before .before .before in
-    let l = f .before .before .before .before .before in
-    let o = l .before .before .before .before .before .before .before .before .before in
-    walk-fault (o .lines .inv) (l .loop .inv .0) (l .loop .inv .1)
-    (check-bad (l .loop .inv .2) (f .before .before .before .before .loop-test .taken) (f .before .before .before .field-end .ensures) (rules-count (o .lines .inv) (l .loop .inv .0)) (l .loop .inv .1) (f .before .before .rule-at .ensures) (f .read-field .ensures) _ (c .before .f .given .1))
+    walk-fault (c .before .before .before .before .before .before .before .before .before .before .before .before .before .before .before .before .before .before .before .lines .inv) (c .before .before .before .before .before .before .before .before .loop .inv .0) (c .before .before .before .before .before .before .before .before .loop .inv .1)
+    (check-bad (c .before .before .before .before .before .before .before .before .loop .inv .2) (c .before .before .before .before .before .before .before .loop-test .taken) (c .before .before .before .before .before .before .field-end .ensures) (rules-count (c .before .before .before .before .before .before .before .before .before .before .before .before .before .before .before .before .before .before .before .lines .inv) (c .before .before .before .before .before .before .before .before .loop .inv .0)) (c .before .before .before .before .before .before .before .before .loop .inv .1) (c .before .before .before .before .before .rule-at .ensures) (c .before .before .before .read-field .ensures) _ (c .before .f .given .1))
 
 same-length-9 : tie.Need-same-length-9 Inv-loop μ-loop Inv-lines μ-lines
 same-length-9 c =
-    let l = c .before .before .before .before in
-    check-levels (l .loop .inv .2) ∙ same-levels (l .before .before .before .before .before .before .before .before .before .lines .inv)
+    check-levels (c .before .before .before .loop .inv .2) ∙ same-levels (c .before .before .before .before .before .before .before .before .before .before .before .before .before .before .lines .inv)
 
 same-length-10 : tie.Need-same-length-10 Inv-loop μ-loop Inv-lines μ-lines
 same-length-10 c =
-    let l = c .before .before .before .before in
-    check-tables (l .loop .inv .2) ∙ same-tables (l .before .before .before .before .before .before .before .before .before .lines .inv)
+    check-tables (c .before .before .before .loop .inv .2) ∙ same-tables (c .before .before .before .before .before .before .before .before .before .before .before .before .before .before .lines .inv)
 
 returns-6 : tie.Need-returns-6 Inv-loop μ-loop Inv-lines μ-lines
 returns-6 c =
-    let l = c .before .before .before .before in
-    walk-end (l .before .before .before .before .before .before .before .before .before .lines .inv) (l .loop .inv .0) (l .loop .inv .1) (l .loop .inv .2) (c .before .before .before .loop-test .left) (c .before .before .if5 .taken) (c .before .if6 .taken)
+    walk-end (c .before .before .before .before .before .before .before .before .before .before .before .before .before .before .lines .inv) (c .before .before .before .loop .inv .0) (c .before .before .before .loop .inv .1) (c .before .before .before .loop .inv .2) (c .before .before .loop-test .left) (c .before .if5 .taken) (c .if6 .taken)
 
 same-length-11 : tie.Need-same-length-11 Inv-loop μ-loop Inv-lines μ-lines
 same-length-11 c =
-    let l = c .before .before .before in
-    check-levels (l .loop .inv .2) ∙ same-levels (l .before .before .before .before .before .before .before .before .before .lines .inv)
+    check-levels (c .before .before .before .loop .inv .2) ∙ same-levels (c .before .before .before .before .before .before .before .before .before .before .before .before .before .before .lines .inv)
 
 same-length-12 : tie.Need-same-length-12 Inv-loop μ-loop Inv-lines μ-lines
 same-length-12 c =
-    let l = c .before .before .before in
-    check-tables (l .loop .inv .2) ∙ same-tables (l .before .before .before .before .before .before .before .before .before .lines .inv)
+    check-tables (c .before .before .before .loop .inv .2) ∙ same-tables (c .before .before .before .before .before .before .before .before .before .before .before .before .before .before .lines .inv)
 
 returns-7 : tie.Need-returns-7 Inv-loop μ-loop Inv-lines μ-lines
 returns-7 c =
-    let l = c .before .before .before in
-    walk-after (l .before .before .before .before .before .before .before .before .before .lines .inv) (l .loop .inv .0) (l .loop .inv .1) (l .loop .inv .2) (c .before .before .loop-test .left) (c .before .if5 .taken) (c .if6 .left)
+    walk-after (c .before .before .before .before .before .before .before .before .before .before .before .before .before .before .lines .inv) (c .before .before .before .loop .inv .0) (c .before .before .before .loop .inv .1) (c .before .before .before .loop .inv .2) (c .before .before .loop-test .left) (c .before .if5 .taken) (c .if6 .left)
 
 same-length-13 : tie.Need-same-length-13 Inv-loop μ-loop Inv-lines μ-lines
 same-length-13 c =
-    let l = c .before .before .before .before .before .before .before in
-    check-levels (l .loop .inv .2) ∙ same-levels (l .before .before .before .before .before .before .before .before .before .lines .inv)
+    check-levels (c .before .before .before .before .before .before .before .loop .inv .2) ∙ same-levels (c .before .before .before .before .before .before .before .before .before .before .before .before .before .before .before .before .before .before .lines .inv)
 
 same-length-14 : tie.Need-same-length-14 Inv-loop μ-loop Inv-lines μ-lines
 same-length-14 c =
-    let l = c .before .before .before .before .before .before .before in
-    check-tables (l .loop .inv .2) ∙ same-tables (l .before .before .before .before .before .before .before .before .before .lines .inv)
+    check-tables (c .before .before .before .before .before .before .before .loop .inv .2) ∙ same-tables (c .before .before .before .before .before .before .before .before .before .before .before .before .before .before .before .before .before .before .lines .inv)
 
 returns-8 : tie.Need-returns-8 Inv-loop μ-loop Inv-lines μ-lines
 returns-8 c =
-    let l = c .before .before .before .before .before .before .before in
-    walk-bad (l .before .before .before .before .before .before .before .before .before .lines .inv) (l .loop .inv .0) (l .loop .inv .1) (l .loop .inv .2) (c .before .before .before .before .before .before .loop-test .left) (c .before .before .before .before .before .if5 .left) (c .before .before .before .before .record-of .ensures) (c .before .before .before .take-record .ensures) (c .before .number .given .1)
+    walk-bad (c .before .before .before .before .before .before .before .before .before .before .before .before .before .before .before .before .before .before .lines .inv) (c .before .before .before .before .before .before .before .loop .inv .0) (c .before .before .before .before .before .before .before .loop .inv .1) (c .before .before .before .before .before .before .before .loop .inv .2) (c .before .before .before .before .before .before .loop-test .left) (c .before .before .before .before .before .if5 .left) (c .before .before .before .before .record-of .ensures) (c .before .before .before .take-record .ensures) (c .before .number .given .1)
 
 pub walk-spec : {M : Type 1} → statement M
 walk-spec =
     tie.close
     (tie.spec Inv-loop μ-loop Inv-lines μ-lines (λ c κs. search needs) returns (λ c κs. search needs) lines-holds
-    line-at-requires sub-if2 (λ c κs. search needs) (λ c κs. search needs) sub-row part-row-start part-row-end
+    line-at-requires sub-if2 sub-row part-row-start part-row-end (λ c κs. search needs) (λ c κs. search needs)
     loop-holds field-end-requires rule-at-requires sub-read-field part-read-field-start part-read-field-end
     (λ c κs. search needs) (λ c. search needs) put-level-requires put-quantiser-requires add-a (λ c. omega arith)
     (λ c. omega arith) loop-again add-if6 add-next (λ c κs. search needs) take-record-requires (λ c. search needs)

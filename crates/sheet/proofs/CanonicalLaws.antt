@@ -1,0 +1,307 @@
+-- An accepted text is the written text of its contents.
+use Prim.Native.Nat.{ℕ, zero, suc, _+_, _-_, _*_, _/_, _<_, _≤_}
+use mathlib.Core.Path.{_≡_, refl, sym, ap, _∙_}
+use mathlib.Core.List.{List, [], _∷_, _++_, map, append-nil, append-assoc}
+use mathlib.Core.Bool.{Bool, true, false, cond}
+use mathlib.Core.Option.{none}
+use native.Mathlib.Omega.{arith}
+use lib.ListN.{length, getD, take, drop, replicate, length-drop, drop-of-length-le}
+use lib.Seq.{drop-cons, drop-drop, take-append-seam, drop-append-seam}
+use lib.IntN.{ℤ}
+use Rattle.text.specs.declared.field.Rule.the-variants as rule
+use Rattle.text.specs.Pieces.{split}
+use Rattle.text.specs.Numbers.{numberAt}
+use Rattle.text.specs.Weights.{weightAt}
+use Rattle.text.specs.Fields.{fieldOf, faultIn}
+use Rattle.text.specs.Written.{decimal, levelText, joined}
+use Rattle.text.proofs.GoodLaws.{quantiser-good, level-good}
+use Rattle.text.proofs.JoinLaws.{joined-split, ended-split}
+use Rattle.text.proofs.SizeLaws.{tag-as, range-as, side-as, channels-as, letters-as, weight-as, quantiser-as, level-as}
+use Rattle.sheet.specs.declared.Limits.{Limits}
+use Rattle.sheet.specs.declared.Header.{Header}
+use Rattle.sheet.specs.declared.Channel.{Channel}
+use Rattle.sheet.specs.declared.Sheet.{Sheet}
+use Rattle.sheet.specs.declared.state.State.{State}
+use Rattle.sheet.specs.declared.state.Taken.the-variants as taken
+use Rattle.sheet.specs.Lines.{headerRules, channelRules, blockRules, endRules, rulesOf, firstFault, lineLevels, lineTables, Held, held, headerOf, channelOf, recordOf}
+use Rattle.sheet.specs.Reading.{Contents, contents, headed, blank, lineTag, placed, opened, covers, takenOf, nothingLeft, onTaken, readFrom, allowed, readText}
+use Rattle.sheet.specs.Reading.Outcome.{Gives, Refused}
+use Rattle.sheet.specs.Written.{headerFields, channelFields, blockFields, endFields, blockLines, channelLines, channelsOf, written}
+use Rattle.sheet.specs.Accepts.{Accepts}
+use Rattle.sheet.proofs.StateLaws.{Stands, stands, unbegun}
+use Rattle.sheet.proofs.StateLaws.Stands.{Header-line, Block-line, Channel-line, End-line}
+use Rattle.sheet.proofs.GoodLines.{or-left, or-right, fault-at, fault-drop, tables-without, levels-without, channel-tables, block-levels, all-quantisers, all-levels}
+use Rattle.sheet.proofs.LegalLaws.{header-is-legal, channel-is-legal, few, blocks, line-is, refusal, legal}
+use Rattle.sheet.proofs.RoundTrip.{during, placedAll, round-trip}
+use Rattle.sheet.proofs.PrefixLaws.{not-unended}
+
+-- Good lines are written so
+
+-- field i, and those after it
+field-at : (fs : List (List ℕ)) (i : ℕ) (g : List ℕ) (gs : List (List ℕ)) → i < length fs → g ≡ getD fs i [] → gs ≡ drop (suc i) fs → g ∷ gs ≡ drop i fs
+field-at fs i g gs h e q = rw (e, q, drop-cons fs i [] h)
+
+no-more : (fs : List (List ℕ)) (i : ℕ) → length fs ≤ i → [] ≡ drop i fs
+no-more fs i h = sym (drop-of-length-le fs {i = i} h)
+
+header-as : (limits : Limits) (fs : List (List ℕ)) → length fs ≡ 16 → firstFault (headerRules limits fs) fs ≡ none → headerFields (headerOf fs) ≡ fs
+unfolding headerOf numberAt weightAt
+header-as limits fs n e =
+    field-at fs 0 _ _ (omega arith) (tag-as (getD fs 0 []) 83 (at 0 (omega arith)))
+    (field-at fs 1 _ _ (omega arith) (side-as (getD fs 1 []) (limits .side) (at 1 (omega arith)))
+    (field-at fs 2 _ _ (omega arith) (side-as (getD fs 2 []) (limits .side) (at 2 (omega arith)))
+    (field-at fs 3 _ _ (omega arith) (range-as (getD fs 3 []) 2 1 (numberAt fs 1) (at 3 (omega arith)))
+    (field-at fs 4 _ _ (omega arith) (range-as (getD fs 4 []) 2 1 (numberAt fs 2) (at 4 (omega arith)))
+    (field-at fs 5 _ _ (omega arith) (channels-as (getD fs 5 []) (at 5 (omega arith)))
+    (field-at fs 6 _ _ (omega arith) (letters-as (getD fs 6 []) 106 115 (at 6 (omega arith)))
+    (field-at fs 7 _ _ (omega arith) (range-as (getD fs 7 []) 2 0 1000 (at 7 (omega arith)))
+    (field-at fs 8 _ _ (omega arith) (range-as (getD fs 8 []) 2 0 1000 (at 8 (omega arith)))
+    (field-at fs 9 _ _ (omega arith) (range-as (getD fs 9 []) 2 0 1000 (at 9 (omega arith)))
+    (field-at fs 10 _ _ (omega arith) (weight-as (getD fs 10 []) (at 10 (omega arith)))
+    (field-at fs 11 _ _ (omega arith) (weight-as (getD fs 11 []) (at 11 (omega arith)))
+    (field-at fs 12 _ _ (omega arith) (weight-as (getD fs 12 []) (at 12 (omega arith)))
+    (field-at fs 13 _ _ (omega arith) (weight-as (getD fs 13 []) (at 13 (omega arith)))
+    (field-at fs 14 _ _ (omega arith) (weight-as (getD fs 14 []) (at 14 (omega arith)))
+    (field-at fs 15 _ _ (omega arith) (weight-as (getD fs 15 []) (at 15 (omega arith))) (no-more fs 16 (omega arith)))))))))))))))))
+  where
+    at : (i : ℕ) → i < 16 → faultIn (fieldOf (getD (headerRules limits fs) i (rule.Tag 0)) (getD fs i [])) ≡ none
+    at i h = fault-at (headerRules limits fs) fs i e h (omega arith)
+
+quantisers-as : (n : ℕ) (fs : List (List ℕ)) → length fs ≡ n → firstFault (replicate n rule.Quantiser) fs ≡ none → map decimal (lineTables (replicate n rule.Quantiser) fs) ≡ fs
+quantisers-as zero [] h e = refl
+quantisers-as zero (f ∷ fs) h e = let y : ⊥ = omega arith in absurd y
+quantisers-as (suc n) [] h e = let y : ⊥ = omega arith in absurd y
+quantisers-as (suc n) (f ∷ fs) h e =
+    let g = quantiser-good f (or-left (faultIn (fieldOf rule.Quantiser f)) (firstFault (replicate n rule.Quantiser) fs) e) in
+    let a = quantiser-as f (g .0) (g .1) in
+    let b = quantisers-as n fs (omega arith) (or-right (faultIn (fieldOf rule.Quantiser f)) (firstFault (replicate n rule.Quantiser) fs) e) in
+    rw (g .1) (λ i. a i ∷ b i)
+
+channel-as : (fs : List (List ℕ)) → length fs ≡ 69 → firstFault channelRules fs ≡ none → channelFields (channelOf fs) (lineTables (replicate 64 rule.Quantiser) (drop 5 fs)) ≡ fs
+unfolding channelOf numberAt
+channel-as fs n e =
+    field-at fs 0 _ _ (omega arith) (tag-as (getD fs 0 []) 67 (at 0 (omega arith)))
+    (field-at fs 1 _ _ (omega arith) (side-as (getD fs 1 []) 999999 (at 1 (omega arith)))
+    (field-at fs 2 _ _ (omega arith) (side-as (getD fs 2 []) 999999 (at 2 (omega arith)))
+    (field-at fs 3 _ _ (omega arith) (range-as (getD fs 3 []) 3 1 4 (at 3 (omega arith)))
+    (field-at fs 4 _ _ (omega arith) (range-as (getD fs 4 []) 3 1 4 (at 4 (omega arith)))
+    (quantisers-as 64 (drop 5 fs) (length-drop 5 fs ∙ omega arith) (fault-drop 5 channelRules fs e))))))
+  where
+    at : (i : ℕ) → i < 69 → faultIn (fieldOf (getD channelRules i (rule.Tag 0)) (getD fs i [])) ≡ none
+    at i h = fault-at channelRules fs i e h (omega arith)
+
+levels-as : (n : ℕ) (fs : List (List ℕ)) → length fs ≡ n → firstFault (replicate n rule.Level) fs ≡ none → map levelText (lineLevels (replicate n rule.Level) fs) ≡ fs
+levels-as zero [] h e = refl
+levels-as zero (f ∷ fs) h e = let y : ⊥ = omega arith in absurd y
+levels-as (suc n) [] h e = let y : ⊥ = omega arith in absurd y
+levels-as (suc n) (f ∷ fs) h e =
+    let g = level-good f (or-left (faultIn (fieldOf rule.Level f)) (firstFault (replicate n rule.Level) fs) e) in
+    let a = level-as f (g .0) (g .1) in
+    let b = levels-as n fs (omega arith) (or-right (faultIn (fieldOf rule.Level f)) (firstFault (replicate n rule.Level) fs) e) in
+    rw (g .1) (λ i. a i ∷ b i)
+
+block-as : (fs : List (List ℕ)) → length fs ≡ 65 → firstFault blockRules fs ≡ none → blockFields (lineLevels (replicate 64 rule.Level) (drop 1 fs)) ≡ fs
+block-as fs n e =
+    field-at fs 0 _ _ (omega arith) (tag-as (getD fs 0 []) 66 (fault-at blockRules fs 0 e (omega arith) (omega arith)))
+    (levels-as 64 (drop 1 fs) (length-drop 1 fs ∙ omega arith) (fault-drop 1 blockRules fs e))
+
+end-as : (fs : List (List ℕ)) → length fs ≡ 1 → firstFault (rule.Tag 69 ∷ []) fs ≡ none → endFields ≡ fs
+end-as fs n e = field-at fs 0 _ _ (omega arith) (tag-as (getD fs 0 []) 69 (fault-at (rule.Tag 69 ∷ []) fs 0 e (omega arith) (omega arith))) (no-more fs 1 (omega arith))
+
+-- a line by its fields
+row-as : (p : List ℕ) (fs : List (List ℕ)) → fs ≡ split 9 p → joined fs ≡ p
+row-as p fs e = ap joined e ∙ joined-split p
+
+-- The lines that are still to come: n blocks, then the channels cs, with these levels and tables
+abbrev rows : ℕ → List Channel → List ℤ → List ℕ → List (List ℕ)
+rows n cs zs us = blockLines n zs ++ (channelLines cs (held (drop (64 * n) zs) us) ++ joined endFields ∷ [] ∷ [])
+
+one-block : (n : ℕ) (cs : List Channel) (vs zs : List ℤ) (us : List ℕ) → length vs ≡ 64 → rows (suc n) cs (vs ++ zs) us ≡ joined (blockFields vs) ∷ rows n cs zs us
+one-block n cs vs zs us e =
+    let a : take 64 (vs ++ zs) ≡ vs = ap (λ (k : ℕ). take k (vs ++ zs)) (sym e) ∙ take-append-seam vs zs in
+    let b : drop 64 (vs ++ zs) ≡ zs = ap (λ (k : ℕ). drop k (vs ++ zs)) (sym e) ∙ drop-append-seam vs zs in
+    let m : 64 * suc n ≡ 64 + 64 * n = omega arith in
+    let d : drop (64 * suc n) (vs ++ zs) ≡ drop (64 * n) zs = ap (λ (k : ℕ). drop k (vs ++ zs)) m ∙ sym (drop-drop (64 * n) 64 (vs ++ zs)) ∙ ap (λ (l : List ℤ). drop (64 * n) l) b in
+    rw (d, a, b)
+
+one-channel : (c : Channel) (cs : List Channel) (zs : List ℤ) (qs us : List ℕ) → 64 * (c .width * c .height / 64) ≡ c .width * c .height → length qs ≡ 64
+    → rows 0 (c ∷ cs) zs (qs ++ us) ≡ joined (channelFields c qs) ∷ rows (c .width * c .height / 64) cs zs us
+one-channel c cs zs qs us w e =
+    let a : take 64 (qs ++ us) ≡ qs = ap (λ (k : ℕ). take k (qs ++ us)) (sym e) ∙ take-append-seam qs us in
+    let b : drop 64 (qs ++ us) ≡ us = ap (λ (k : ℕ). drop k (qs ++ us)) (sym e) ∙ drop-append-seam qs us in
+    rw (a, b, w)
+    (ap (λ (l : List (List ℕ)). joined (channelFields c qs) ∷ l)
+    (append-assoc (blockLines (c .width * c .height / 64) zs) (channelLines cs (held (drop (c .width * c .height) zs) us)) (joined endFields ∷ [] ∷ [])))
+
+-- What is left of an accepted text: the lines ps say the rest of the contents C after the state s with what it holds
+record Rest (s : State) (H : Held) (ps : List (List ℕ)) (C : Contents) : Type 0 where
+  cs : List Channel
+  zs : List ℤ
+  us : List ℕ
+  lines : ps ≡ rows (s .left) cs zs us
+  sheet : placedAll (s .sheet) (s .read) cs ≡ C .sheet
+  count : s .read + length cs ≡ s .sheet .header .channels
+  levels : H .levels ++ zs ≡ C .held .levels
+  tables : H .tables ++ us ≡ C .held .tables
+
+record Under (s : State) : Type 0 where
+  begun : s .begun ≡ true
+  upto : s .read ≤ s .sheet .header .channels
+
+module _ (limits : Limits) (p : List ℕ) (rest : List (List ℕ)) (C : Contents)
+    (ih : (s : State) (H : Held) (k : ℕ) → Under s → readFrom limits s H k rest ≡ Gives C → Rest s H rest C) (s : State) (H : Held) (k : ℕ) (b : Under s) where
+  fs : List (List ℕ)
+  fs = split 9 p
+
+  block-rest : 0 < s .left → lineTag s (split 9 p) ≡ 66 → readFrom limits s H k (p ∷ rest) ≡ Gives C → Rest s H (p ∷ rest) C
+  unfolding rulesOf takenOf recordOf fs
+  block-rest u g e =
+      let l = line-is blockRules k p rest _ C (rw g at e) in
+      let vs = lineLevels (replicate 64 rule.Level) (drop 1 fs) in
+      let a = all-levels 64 (drop 1 fs) (length-drop 1 fs ∙ omega (arith, l .count)) (fault-drop 1 blockRules fs (l .fault)) in
+      let r =
+      ih (record { begun = s .begun; sheet = s .sheet; read = s .read; left = s .left - 1 }) (held (H .levels ++ vs) (H .tables)) (k + 1) (record { begun = b .begun; upto = b .upto })
+      (rw (block-levels fs, tables-without blockRules fs refl, append-nil (H .tables)) at (l .more)) in
+      let n : suc (s .left - 1) ≡ s .left = omega arith in
+      record {
+        cs = r .cs;
+        zs = vs ++ r .zs;
+        us = r .us;
+        lines =
+            (λ i. sym (row-as p (blockFields vs) (block-as fs (l .count) (l .fault))) i ∷ r .lines i)
+            ∙ sym (one-block (s .left - 1) (r .cs) vs (r .zs) (r .us) (a .1)) ∙ ap (λ (m : ℕ). rows m (r .cs) (vs ++ r .zs) (r .us)) n;
+        sheet = r .sheet;
+        count = r .count;
+        levels = sym (append-assoc (H .levels) vs (r .zs)) ∙ r .levels;
+        tables = r .tables;
+      }
+
+  channel-rest : s .left ≤ 0 → s .read < s .sheet .header .channels → lineTag s (split 9 p) ≡ 67 → readFrom limits s H k (p ∷ rest) ≡ Gives C → Rest s H (p ∷ rest) C
+  unfolding rulesOf takenOf recordOf fs
+  channel-rest u v g e =
+      let l = line-is channelRules k p rest _ C (rw g at e) in
+      covered (covers (s .sheet .header) (channelOf fs)) refl (l .count) (l .fault) (rw (channel-tables fs, levels-without channelRules fs refl, append-nil (H .levels)) at (l .more))
+    where
+      c : Channel
+      c = channelOf (split 9 p)
+
+      qs : List ℕ
+      qs = lineTables (replicate 64 rule.Quantiser) (drop 5 (split 9 p))
+
+      covered : (x : Bool) → covers (s .sheet .header) c ≡ x → length (split 9 p) ≡ 69 → firstFault channelRules (split 9 p) ≡ none
+          → onTaken (cond x (taken.Good (opened s c)) (taken.Bad 2)) k (λ t. readFrom limits t (held (H .levels) (H .tables ++ qs)) (k + 1) rest) ≡ Gives C
+          → Rest s H (p ∷ rest) C
+      covered false i n f o = refusal 2 k C o
+      covered true i n f o =
+          let good = channel-is-legal (s .sheet .header) (split 9 p) n f i in
+          let a = all-quantisers 64 (drop 5 (split 9 p)) (length-drop 5 (split 9 p) ∙ omega arith) (fault-drop 5 channelRules (split 9 p) f) in
+          let r = ih (opened s c) (held (H .levels) (H .tables ++ qs)) (k + 1) (record { begun = refl; upto = omega arith }) o in
+          let z : 0 ≡ s .left = omega arith in
+          record {
+            cs = c ∷ r .cs;
+            zs = r .zs;
+            us = qs ++ r .us;
+            lines =
+                (λ i. sym (row-as p (channelFields c qs) (channel-as (split 9 p) n f)) i ∷ r .lines i)
+                ∙ sym (one-channel c (r .cs) (r .zs) qs (r .us) (blocks (c .width) (c .height) (good .width .whole) (good .height .whole)) (a .1))
+                ∙ ap (λ (m : ℕ). rows m (c ∷ r .cs) (r .zs) (qs ++ r .us)) z;
+            sheet = r .sheet;
+            count = omega (arith, r .count);
+            levels = r .levels;
+            tables = sym (append-assoc (H .tables) qs (r .us)) ∙ r .tables;
+          }
+
+  end-rest : s .left ≤ 0 → s .sheet .header .channels ≤ s .read → lineTag s (split 9 p) ≡ 69 → readFrom limits s H k (p ∷ rest) ≡ Gives C → Rest s H (p ∷ rest) C
+  unfolding rulesOf
+  end-rest u v g e =
+      let l = line-is endRules k p rest _ C (rw g at e) in
+      last rest (λ (q : rest ≡ []). not-unended limits s H k p C (ap (λ (ps : List (List ℕ)). readFrom limits s H k (p ∷ ps)) (sym q) ∙ e)) (l .more) refl
+      (row-as p endFields (end-as (split 9 p) (l .count) (l .fault)))
+    where
+      last : (ps : List (List ℕ)) → (ps ≡ [] → ⊥) → cond (nothingLeft ps) (contents (s .sheet) H) (Refused 7 (k + 1)) ≡ Gives C → rest ≡ ps → joined endFields ≡ p → Rest s H (p ∷ rest) C
+      last [] w o q f = absurd (w refl)
+      last ([] ∷ []) w o q f =
+          let z : 0 ≡ s .left = omega arith in
+          let x : s .sheet ≡ C .sheet = cc in
+          let y : H ≡ C .held = cc in
+          record {
+            cs = [];
+            zs = [];
+            us = [];
+            lines = (λ i. sym f i ∷ q i) ∙ ap (λ (m : ℕ). rows m [] [] []) z;
+            sheet = x;
+            count = omega (arith, b .upto);
+            levels = append-nil (H .levels) ∙ ap (λ (h : Held). h .levels) y;
+            tables = append-nil (H .tables) ∙ ap (λ (h : Held). h .tables) y;
+          }
+      last ([] ∷ (r ∷ ps)) w o q f = refusal 7 (k + 1) C o
+      last ((x ∷ r) ∷ ps) w o q f = refusal 7 (k + 1) C o
+
+  any-rest : readFrom limits s H k (p ∷ rest) ≡ Gives C → Rest s H (p ∷ rest) C
+  any-rest e = by (stands s (split 9 p) (lineTag s (split 9 p)) refl)
+    where
+      by : Stands s (lineTag s (split 9 p)) → Rest s H (p ∷ rest) C
+      by (Header-line q g) = unbegun s (b .begun) q
+      by (Block-line q u g) = block-rest u g e
+      by (Channel-line q u v g) = channel-rest u v g e
+      by (End-line q u v g) = end-rest u v g e
+
+rest-from : (limits : Limits) (ps : List (List ℕ)) (C : Contents) (s : State) (H : Held) (k : ℕ) → Under s → readFrom limits s H k ps ≡ Gives C → Rest s H ps C
+rest-from limits [] C s H k b e = refusal 7 k C e
+rest-from limits (p ∷ rest) C s H k b e = any-rest limits p rest C (rest-from limits rest C) s H k b e
+
+-- The header's line, and the whole text
+
+header-kept : (s : Sheet) (j : ℕ) (cs : List Channel) → placedAll s j cs .header ≡ s .header
+header-kept s j [] = refl
+header-kept s j (c ∷ cs) = header-kept (placed s j c) (j + 1) cs
+
+in-use : (h : Header) (cs : List Channel) → length cs ≡ h .channels → h .channels ≤ 3 → channelsOf (placedAll (headed h) 0 cs) ≡ cs
+in-use h [] e k = rw (← e)
+in-use h (a ∷ []) e k = rw (← e)
+in-use h (a ∷ (b ∷ [])) e k = rw (← e)
+in-use h (a ∷ (b ∷ (c ∷ []))) e k = rw (← e)
+in-use h (a ∷ (b ∷ (c ∷ (d ∷ cs)))) e k = let y : ⊥ = omega arith in absurd y
+
+-- the pieces of a text with these contents
+abbrev Pieces : Contents → List (List ℕ) → Type 0
+Pieces C ps = ps ≡ joined (headerFields (C .sheet .header)) ∷ (channelLines (channelsOf (C .sheet)) (C .held) ++ joined endFields ∷ [] ∷ [])
+
+pieces-are : (limits : Limits) (ps : List (List ℕ)) (C : Contents) → readFrom limits blank (held [] []) 1 ps ≡ Gives C → Pieces C ps
+unfolding blank lineTag rulesOf takenOf recordOf
+pieces-are limits [] C e = refusal 7 1 C e
+pieces-are limits (p ∷ rest) C e =
+    let l = line-is (headerRules limits (split 9 p)) 1 p rest _ C e in
+    let fs = split 9 p in
+    let h = headerOf fs in
+    let r = rest-from limits rest C (during (headed h) 0 0) (held [] []) 2 (record { begun = refl; upto = omega arith })
+    (rw (levels-without (headerRules limits fs) fs refl, tables-without (headerRules limits fs) fs refl) at (l .more)) in
+    let same : C .sheet .header ≡ h = ap (λ (s : Sheet). s .header) (sym (r .sheet)) ∙ header-kept (headed h) 0 (r .cs) in
+    let used : channelsOf (C .sheet) ≡ r .cs = ap channelsOf (sym (r .sheet)) ∙ in-use h (r .cs) (omega (arith, r .count)) (few limits h (header-is-legal limits fs (l .count) (l .fault))) in
+    let kept : C .held ≡ held (r .zs) (r .us) = λ i. held (sym (r .levels) i) (sym (r .tables) i) in
+    (λ i. sym (row-as p (headerFields h) (header-as limits fs (l .count) (l .fault))) i ∷ r .lines i)
+    ∙ sym (λ i. joined (headerFields (same i)) ∷ (channelLines (used i) (kept i) ++ joined endFields ∷ [] ∷ []))
+
+-- An accepted text is the written text of its contents
+pub canonical : (limits : Limits) (text : List ℕ) (s : Sheet) (H : Held) → readText limits text ≡ contents s H → text ≡ written s H
+unfolding readText written
+canonical limits text s H e = two (allowed limits) e
+  where
+    by : readFrom limits blank (held [] []) 1 (split 10 text) ≡ contents s H → text ≡ written s H
+    by o =
+        let cs = channelLines (channelsOf s) H in
+        sym (ended-split text (joined (headerFields (s .header)) ∷ (cs ++ joined endFields ∷ []))
+        (pieces-are limits (split 10 text) (record { sheet = s; held = H }) o
+        ∙ ap (λ (q : List (List ℕ)). joined (headerFields (s .header)) ∷ q) (sym (append-assoc cs (joined endFields ∷ []) ([] ∷ [])))))
+
+    two : (b : Bool) → cond b (readFrom limits blank (held [] []) 1 (split 10 text)) (Refused 2 0) ≡ contents s H → text ≡ written s H
+    two true o = by o
+    two false o = refusal 2 0 (record { sheet = s; held = H }) o
+
+-- A text is accepted exactly when it is the written text of a legal sheet
+pub accepts : (limits : Limits) (text : List ℕ) (s : Sheet) (H : Held) → Accepts limits text s H
+accepts limits text s H =
+    record {
+      only = λ e. record { as-written = canonical limits text s H e; legal = legal limits text s H e };
+      all = λ t. ap (readText limits) (t .as-written) ∙ round-trip limits s H (t .legal);
+    }
