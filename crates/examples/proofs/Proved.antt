@@ -9,14 +9,23 @@ use Rattle.examples.specs.Table.{Table}
 
 pub table : Table
 table = record {
-  from-minus-8 = interval.examples .0;
-  to-8 = interval.examples .1;
-  kept-8 = interval.examples .2;
-  moved-8½ = interval.examples .3;
-  from-minus-35 = interval.examples .4;
-  to-minus-25 = interval.examples .5;
-  from-521857½ = interval.examples .6;
-  to-522112½ = interval.examples .7;
+  exact-from-minus-8 = interval.exact .0;
+  exact-to-8 = interval.exact .1;
+  holds-minus-8 = interval.holds .0;
+  holds-8 = interval.holds .1;
+  not-8½ = interval.holds .2;
+  from-minus-8 = interval.ends .0;
+  to-8 = interval.ends .1;
+  kept-8 = interval.ends .2;
+  moved-8½ = interval.ends .3;
+  exact-from-minus-35 = interval.exact .2;
+  exact-to-minus-25 = interval.exact .3;
+  from-minus-35 = interval.ends .4;
+  to-minus-25 = interval.ends .5;
+  exact-from-521857½ = interval.exact .4;
+  exact-to-522112½ = interval.exact .5;
+  from-521857½ = interval.ends .6;
+  to-522112½ = interval.ends .7;
   fused-once = float.fused-once;
   rounded-twice = float.rounded-twice;
   root-2 = float.root-two;

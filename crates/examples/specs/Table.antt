@@ -8,7 +8,7 @@ use lib.IntN.{pos, negsuc}
 use lib.Ieee.{Float, fin, binary32, toBits, neg, ofBits}
 use Rattle.float.specs.Ops.{mulAdd, fused, midpoint, root, clamp}
 use Rattle.float.specs.Names.{f0, f1, float}
-use Rattle.interval.specs.Interval.{lowest, highest}
+use Rattle.interval.specs.Interval.{InInterval, lowEnd, highEnd, lowest, highest}
 use Rattle.utils.specs.Dct.{idct8x8}
 use Rattle.steps.specs.Solve.{pushed}
 use Rattle.gradients.specs.Tv.{Terms, tvGradient}
@@ -35,16 +35,26 @@ rows f =
 abbrev pub slope : Terms
 slope = tvGradient 8 8 1 (rows (λ y. float (y * 2))) (record { gradient = replicate 64 f0; across = replicate 64 f0; down = replicate 64 f0 })
 
+-- The rows on intervals speak of the exact interval, whose ends are taken twice, and of the f32 ends, which the clamp uses.
 pub record Table : Type 0 where
   -- "d 0, q 16: interval −8 to 8; 8 kept, 8.5 gives 8"
+  pub exact-from-minus-8 : lowEnd (pos 0) 16 ≡ negsuc 15
+  pub exact-to-8 : highEnd (pos 0) 16 ≡ pos 16
+  pub holds-minus-8 : InInterval (pos 0) (pos 0) 16 (fin true 1 (pos 3))
+  pub holds-8 : InInterval (pos 0) (pos 0) 16 (fin false 1 (pos 3))
+  pub not-8½ : InInterval (pos 0) (pos 0) 16 (fin false 17 (negsuc 0)) → ⊥
   pub from-minus-8 : lowest (pos 0) 16 ≡ fin true 1 (pos 3)
   pub to-8 : highest (pos 0) 16 ≡ fin false 1 (pos 3)
   pub kept-8 : clamp (fin false 1 (pos 3)) (lowest (pos 0) 16) (highest (pos 0) 16) ≡ fin false 1 (pos 3)
   pub moved-8½ : clamp (fin false 17 (negsuc 0)) (lowest (pos 0) 16) (highest (pos 0) 16) ≡ fin false 1 (pos 3)
   -- "d −3, q 10: −35 to −25"
+  pub exact-from-minus-35 : lowEnd (negsuc 2) 10 ≡ negsuc 69
+  pub exact-to-minus-25 : highEnd (negsuc 2) 10 ≡ negsuc 49
   pub from-minus-35 : lowest (negsuc 2) 10 ≡ fin true 35 (pos 0)
   pub to-minus-25 : highest (negsuc 2) 10 ≡ fin true 25 (pos 0)
   -- "d 2,047, q 255: 521,857.5 to 522,112.5"
+  pub exact-from-521857½ : lowEnd (pos 2047) 255 ≡ pos 1043715
+  pub exact-to-522112½ : highEnd (pos 2047) 255 ≡ pos 1044225
   pub from-521857½ : lowest (pos 2047) 255 ≡ fin false 1043715 (negsuc 0)
   pub to-522112½ : highest (pos 2047) 255 ≡ fin false 1044225 (negsuc 0)
   -- "a = 1 + 2⁻²³, b = 1 − 2⁻²³, c = −1: fused −2⁻⁴⁶, `mul_add!` 0"
