@@ -1,10 +1,8 @@
 // Places in flat buffers of n planes, and the changes of the gradient at such a place.
 ghost use mathlib.Core.Path.{_≡_};
 ghost use mathlib.Core.Bool.{false};
-ghost use Prim.Native.Nat.{_*_, _<_, _≤_, _^_};
+ghost use Prim.Native.Nat.{_*_, _<_, _^_};
 ghost use lib.ListN.{length};
-ghost use Rattle.float.specs.Ops.{root};
-ghost use Rattle.float.specs.Names.{float};
 ghost use Rattle.gradients.specs.Tv.{pxIdx, bump, bumpUnless, difference};
 ghost use Rattle.gradients.specs.Grid.{Inside, Fills};
 
@@ -84,12 +82,4 @@ pub fn bump_unless(
         return;
     }
     bump(gradient, g, c, y, x, alpha, v, norm);
-}
-
-// √n, of a number of channels.
-pub fn root_of(n: usize) -> f32
-    requires { ⌜ n ≤ 3 ⌝ }
-    ensures { λ r. ⌜ r ≡ root (float n) ⌝ }
-{
-    float::sqrt(std::num::nearest_u32_to_f32(n as u32))
 }

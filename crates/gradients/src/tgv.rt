@@ -9,13 +9,13 @@ ghost use lib.Ieee.{neg};
 ghost use Rattle.float.specs.Ops.{mulAdd, square};
 ghost use Rattle.float.specs.Names.{_⊗_, f2};
 ghost use Rattle.gradients.specs.Grid.{Inside, Fills};
-ghost use Rattle.gradients.specs.Tgv.{second, norm2Of, tgvBeside, tgvUpDown, tgvCorners, tgvChanges, tgvSpread, tgvGradientPx, tgvAlpha, tgvGradient};
+ghost use Rattle.gradients.specs.Tgv.{tgvDifferences, g2NormOf, tgvBeside, tgvUpDown, tgvCorners, tgvChannelDerivatives, tgvDerivatives, tgvGradientPx, tgvAlpha, tgvGradient};
 
 // g_xxs, g_xy_syms and g_yys: a pixel's differences of differences, by channel.
 pub struct Second {
-    pub xxs: [f32; 3],
-    pub xys: [f32; 3],
-    pub yys: [f32; 3],
+    pub g_xxs: [f32; 3],
+    pub g_xy_syms: [f32; 3],
+    pub g_yys: [f32; 3],
 }
 
 // The place before k, and 0 for 0.
@@ -37,55 +37,59 @@ fn either(a: bool, b: bool) -> bool
 // The backward differences of the differences at (x, y).
 fn differences(across: &[f32], down: &[f32], g: Grid, y: usize, x: usize) -> Second
     requires { ⌜ (g .n ≤ 3) × Inside g y x × Fills g (length (now across)) × Fills g (length (now down)) ⌝ }
-    ensures { λ r. ⌜ r ≡ second (g .w) (g .h) (g .n) (now (across .entry)) (now (down .entry)) y x ⌝ }
+    ensures { λ r. ⌜ r ≡ tgvDifferences (g .w) (g .h) (g .n) (now (across .entry)) (now (down .entry)) y x ⌝ }
 {
     let n = g.n;
     let left = prev(x);
     let above = prev(y);
-    let mut xxs = [0.0f32; 3];
-    let mut xys = [0.0f32; 3];
-    let mut yys = [0.0f32; 3];
+    let mut g_xxs = [0.0f32; 3];
+    let mut g_xy_syms = [0.0f32; 3];
+    let mut g_yys = [0.0f32; 3];
     for c in 0..n {
-        xxs[c] = grid::difference(x == 0, across, g, c, y, x, y, left);
-        let gyx = grid::difference(x == 0, down, g, c, y, x, y, left);
-        yys[c] = grid::difference(y == 0, down, g, c, y, x, above, x);
-        let gxy = grid::difference(y == 0, across, g, c, y, x, above, x);
-        xys[c] = float::midpoint(gxy, gyx);
+        g_xxs[c] = grid::difference(x == 0, across, g, c, y, x, y, left);
+        let g_yx = grid::difference(x == 0, down, g, c, y, x, y, left);
+        g_yys[c] = grid::difference(y == 0, down, g, c, y, x, above, x);
+        let g_xy = grid::difference(y == 0, across, g, c, y, x, above, x);
+        g_xy_syms[c] = float::midpoint(g_xy, g_yx);
     }
-    Second { xxs, xys, yys }
+    Second {
+        g_xxs,
+        g_xy_syms,
+        g_yys,
+    }
 }
 
 // One channel's part of the square of the norm.
-fn square_of(xx: f32, xy: f32, yy: f32) -> f32
-    ensures { λ r. ⌜ r ≡ mulAdd yy yy (mulAdd f2 (square xy) (square xx)) ⌝ }
+fn square_of(g_xx: f32, g_xy_sym: f32, g_yy: f32) -> f32
+    ensures { λ r. ⌜ r ≡ mulAdd «g_yy» «g_yy» (mulAdd f2 (square «g_xy_sym») (square «g_xx»)) ⌝ }
 {
     float::mul_add_rounded(
-        yy,
-        yy,
-        float::mul_add_rounded(2.0, float::powi2(xy), float::powi2(xx)),
+        g_yy,
+        g_yy,
+        float::mul_add_rounded(2.0, float::powi2(g_xy_sym), float::powi2(g_xx)),
     )
 }
 
 // g2_norm.
-fn norm_of(n: usize, d: Second) -> f32
+fn g2_norm_of(n: usize, d: Second) -> f32
     requires { ⌜ n ≤ 3 ⌝ }
-    ensures { λ r. ⌜ r ≡ norm2Of n d ⌝ }
+    ensures { λ r. ⌜ r ≡ g2NormOf n d ⌝ }
 {
-    let xxs = d.xxs;
-    let xys = d.xys;
-    let yys = d.yys;
-    let mut t = 0.0f32;
+    let g_xxs = d.g_xxs;
+    let g_xy_syms = d.g_xy_syms;
+    let g_yys = d.g_yys;
+    let mut g2_norm = 0.0f32;
     for c in 0..n {
-        t += square_of(xxs[c], xys[c], yys[c]);
+        g2_norm += square_of(g_xxs[c], g_xy_syms[c], g_yys[c]);
     }
-    float::sqrt(t)
+    float::sqrt(g2_norm)
 }
 
 // The derivative at the pixel's own place, but for the norm.
-fn middle(xx: f32, xy: f32, yy: f32) -> f32
-    ensures { λ r. ⌜ r ≡ neg (mulAdd f2 yy (mulAdd f2 xx (f2 ⊗ xy))) ⌝ }
+fn middle(g_xx: f32, g_xy_sym: f32, g_yy: f32) -> f32
+    ensures { λ r. ⌜ r ≡ neg (mulAdd f2 «g_yy» (mulAdd f2 «g_xx» (f2 ⊗ «g_xy_sym»))) ⌝ }
 {
-    -float::mul_add_rounded(2.0, yy, float::mul_add_rounded(2.0, xx, 2.0 * xy))
+    -float::mul_add_rounded(2.0, g_yy, float::mul_add_rounded(2.0, g_xx, 2.0 * g_xy_sym))
 }
 
 // Own place, left, right.
@@ -93,23 +97,43 @@ fn beside(
     gradient: &mut [f32],
     g: Grid,
     alpha: f32,
-    norm: f32,
-    xx: f32,
-    xy: f32,
-    yy: f32,
+    g2_norm: f32,
+    g_xx: f32,
+    g_xy_sym: f32,
+    g_yy: f32,
     y: usize,
     x: usize,
     c: usize,
 )
     requires { ⌜ (c < g .n) × Inside g y x × Fills g (length (now gradient)) ⌝ }
-    ensures { λ _. ⌜ now (gradient .exit) ≡ tgvBeside (g .w) (g .h) alpha norm xx xy yy y x c (now (gradient .entry)) ⌝ }
+    ensures { λ _. ⌜ now (gradient .exit) ≡ tgvBeside (g .w) (g .h) alpha «g2_norm» «g_xx» «g_xy_sym» «g_yy» y x c (now (gradient .entry)) ⌝ }
 {
     let w = g.w;
     let left = prev(x);
-    let own = middle(xx, xy, yy);
-    grid::bump(gradient, g, c, y, x, alpha, own, norm);
-    grid::bump_unless(x == 0, gradient, g, c, y, left, alpha, xy + xx, norm);
-    grid::bump_unless(x >= w - 1, gradient, g, c, y, x + 1, alpha, xy + xx, norm);
+    let own = middle(g_xx, g_xy_sym, g_yy);
+    grid::bump(gradient, g, c, y, x, alpha, own, g2_norm);
+    grid::bump_unless(
+        x == 0,
+        gradient,
+        g,
+        c,
+        y,
+        left,
+        alpha,
+        g_xy_sym + g_xx,
+        g2_norm,
+    );
+    grid::bump_unless(
+        x >= w - 1,
+        gradient,
+        g,
+        c,
+        y,
+        x + 1,
+        alpha,
+        g_xy_sym + g_xx,
+        g2_norm,
+    );
 }
 
 // Above, below.
@@ -117,20 +141,40 @@ fn up_down(
     gradient: &mut [f32],
     g: Grid,
     alpha: f32,
-    norm: f32,
-    xy: f32,
-    yy: f32,
+    g2_norm: f32,
+    g_xy_sym: f32,
+    g_yy: f32,
     y: usize,
     x: usize,
     c: usize,
 )
     requires { ⌜ (c < g .n) × Inside g y x × Fills g (length (now gradient)) ⌝ }
-    ensures { λ _. ⌜ now (gradient .exit) ≡ tgvUpDown (g .w) (g .h) alpha norm xy yy y x c (now (gradient .entry)) ⌝ }
+    ensures { λ _. ⌜ now (gradient .exit) ≡ tgvUpDown (g .w) (g .h) alpha «g2_norm» «g_xy_sym» «g_yy» y x c (now (gradient .entry)) ⌝ }
 {
     let h = g.h;
     let above = prev(y);
-    grid::bump_unless(y == 0, gradient, g, c, above, x, alpha, yy + xy, norm);
-    grid::bump_unless(y >= h - 1, gradient, g, c, y + 1, x, alpha, yy + xy, norm);
+    grid::bump_unless(
+        y == 0,
+        gradient,
+        g,
+        c,
+        above,
+        x,
+        alpha,
+        g_yy + g_xy_sym,
+        g2_norm,
+    );
+    grid::bump_unless(
+        y >= h - 1,
+        gradient,
+        g,
+        c,
+        y + 1,
+        x,
+        alpha,
+        g_yy + g_xy_sym,
+        g2_norm,
+    );
 }
 
 // Above right, below left.
@@ -138,14 +182,14 @@ fn corners(
     gradient: &mut [f32],
     g: Grid,
     alpha: f32,
-    norm: f32,
-    xy: f32,
+    g2_norm: f32,
+    g_xy_sym: f32,
     y: usize,
     x: usize,
     c: usize,
 )
     requires { ⌜ (c < g .n) × Inside g y x × Fills g (length (now gradient)) ⌝ }
-    ensures { λ _. ⌜ now (gradient .exit) ≡ tgvCorners (g .w) (g .h) alpha norm xy y x c (now (gradient .entry)) ⌝ }
+    ensures { λ _. ⌜ now (gradient .exit) ≡ tgvCorners (g .w) (g .h) alpha «g2_norm» «g_xy_sym» y x c (now (gradient .entry)) ⌝ }
 {
     let w = g.w;
     let h = g.h;
@@ -153,7 +197,17 @@ fn corners(
     let left = prev(x);
     let right_or_top = either(x >= w - 1, y == 0);
     let left_or_bottom = either(x == 0, y >= h - 1);
-    grid::bump_unless(right_or_top, gradient, g, c, above, x + 1, alpha, -xy, norm);
+    grid::bump_unless(
+        right_or_top,
+        gradient,
+        g,
+        c,
+        above,
+        x + 1,
+        alpha,
+        -g_xy_sym,
+        g2_norm,
+    );
     grid::bump_unless(
         left_or_bottom,
         gradient,
@@ -162,46 +216,65 @@ fn corners(
         y + 1,
         left,
         alpha,
-        -xy,
-        norm,
+        -g_xy_sym,
+        g2_norm,
     );
 }
 
 // The derivatives of the pixel (x, y) in channel c.
-fn spread_at(
+fn channel_derivatives(
     gradient: &mut [f32],
     g: Grid,
     alpha: f32,
-    norm: f32,
-    xx: f32,
-    xy: f32,
-    yy: f32,
+    g2_norm: f32,
+    g_xx: f32,
+    g_xy_sym: f32,
+    g_yy: f32,
     y: usize,
     x: usize,
     c: usize,
 )
     requires { ⌜ (c < g .n) × Inside g y x × Fills g (length (now gradient)) ⌝ }
-    ensures { λ _. ⌜ now (gradient .exit) ≡ tgvChanges (g .w) (g .h) alpha norm xx xy yy y x c (now (gradient .entry)) ⌝ }
+    ensures { λ _. ⌜ now (gradient .exit) ≡ tgvChannelDerivatives (g .w) (g .h) alpha «g2_norm» «g_xx» «g_xy_sym» «g_yy» y x c (now (gradient .entry)) ⌝ }
 {
-    beside(gradient, g, alpha, norm, xx, xy, yy, y, x, c);
-    up_down(gradient, g, alpha, norm, xy, yy, y, x, c);
-    corners(gradient, g, alpha, norm, xy, y, x, c);
+    beside(gradient, g, alpha, g2_norm, g_xx, g_xy_sym, g_yy, y, x, c);
+    up_down(gradient, g, alpha, g2_norm, g_xy_sym, g_yy, y, x, c);
+    corners(gradient, g, alpha, g2_norm, g_xy_sym, y, x, c);
 }
 
 // The same in each channel, unless the norm is 0.
-fn spread(gradient: &mut [f32], g: Grid, alpha: f32, norm: f32, d: Second, y: usize, x: usize)
+fn derivatives(
+    gradient: &mut [f32],
+    g: Grid,
+    alpha: f32,
+    g2_norm: f32,
+    d: Second,
+    y: usize,
+    x: usize,
+)
     requires { ⌜ (g .n ≤ 3) × Inside g y x × Fills g (length (now gradient)) ⌝ }
-    ensures { λ _. ⌜ now (gradient .exit) ≡ tgvSpread (g .w) (g .h) (g .n) alpha norm d y x (now (gradient .entry)) ⌝ }
+    ensures { λ _. ⌜ now (gradient .exit) ≡ tgvDerivatives (g .w) (g .h) (g .n) alpha «g2_norm» d y x (now (gradient .entry)) ⌝ }
 {
     let n = g.n;
-    let xxs = d.xxs;
-    let xys = d.xys;
-    let yys = d.yys;
-    if norm == 0.0 {
+    let g_xxs = d.g_xxs;
+    let g_xy_syms = d.g_xy_syms;
+    let g_yys = d.g_yys;
+    if g2_norm == 0.0 {
         return;
     }
     for c in 0..n {
-        spread_at(gradient, g, alpha, norm, xxs[c], xys[c], yys[c], y, x, c);
+        channel_derivatives(
+            gradient,
+            g,
+            alpha,
+            g2_norm,
+            g_xxs[c],
+            g_xy_syms[c],
+            g_yys[c],
+            y,
+            x,
+            c,
+        );
     }
 }
 
@@ -221,8 +294,8 @@ fn tgv_gradient_px(
 {
     let n = g.n;
     let d = differences(across, down, g, y, x);
-    let norm = norm_of(n, d);
-    spread(gradient, g, alpha, norm, d, y, x);
+    let g2_norm = g2_norm_of(n, d);
+    derivatives(gradient, g, alpha, g2_norm, d, y, x);
 }
 
 // alpha / √n.
@@ -230,7 +303,7 @@ fn alpha_of(n: usize, alpha: f32) -> f32
     requires { ⌜ n ≤ 3 ⌝ }
     ensures { λ r. ⌜ r ≡ tgvAlpha n alpha ⌝ }
 {
-    alpha / grid::root_of(n)
+    alpha / steps::solve::root_of(n as u32)
 }
 
 // The second-order term: every pixel, row by row.
@@ -242,10 +315,10 @@ pub fn tgv_gradient(across: &[f32], down: &[f32], gradient: &mut [f32], g: Grid,
     let n = g.n;
     let w = g.w;
     let h = g.h;
-    let part = alpha_of(n, alpha);
+    let alpha_over_root = alpha_of(n, alpha);
     for y in 0..h {
         for x in 0..w {
-            tgv_gradient_px(across, down, gradient, g, part, y, x);
+            tgv_gradient_px(across, down, gradient, g, alpha_over_root, y, x);
         }
     }
 }

@@ -5,81 +5,89 @@ ghost use mathlib.Core.Path.{_≡_};
 ghost use Prim.Native.Nat.{_<_, _≤_};
 ghost use lib.ListN.{length};
 ghost use Rattle.gradients.specs.Grid.{Inside, Fills};
-ghost use Rattle.gradients.specs.Tv.{forward, normOf, tvChanges, tvSpread, store, tvGradientPx, tvAlpha, tvGradient};
+ghost use Rattle.gradients.specs.Tv.{tvDifferences, gNormOf, tvChannelDerivatives, tvDerivatives, store, tvGradientPx, tvAlpha, tvGradient};
 
 // g_xs and g_ys: a pixel's forward differences, by channel.
 pub struct Forward {
-    pub xs: [f32; 3],
-    pub ys: [f32; 3],
+    pub g_xs: [f32; 3],
+    pub g_ys: [f32; 3],
 }
 
 // The forward differences at (x, y).
 fn differences(plane: &[f32], g: Grid, y: usize, x: usize) -> Forward
     requires { ⌜ (g .n ≤ 3) × Inside g y x × Fills g (length (now plane)) ⌝ }
-    ensures { λ r. ⌜ r ≡ forward (g .w) (g .h) (g .n) (now (plane .entry)) y x ⌝ }
+    ensures { λ r. ⌜ r ≡ tvDifferences (g .w) (g .h) (g .n) (now (plane .entry)) y x ⌝ }
 {
     let n = g.n;
     let w = g.w;
     let h = g.h;
     let right = x >= w - 1;
     let bottom = y >= h - 1;
-    let mut xs = [0.0f32; 3];
-    let mut ys = [0.0f32; 3];
+    let mut g_xs = [0.0f32; 3];
+    let mut g_ys = [0.0f32; 3];
     for c in 0..n {
-        xs[c] = grid::difference(right, plane, g, c, y, x + 1, y, x);
-        ys[c] = grid::difference(bottom, plane, g, c, y + 1, x, y, x);
+        g_xs[c] = grid::difference(right, plane, g, c, y, x + 1, y, x);
+        g_ys[c] = grid::difference(bottom, plane, g, c, y + 1, x, y, x);
     }
-    Forward { xs, ys }
+    Forward { g_xs, g_ys }
 }
 
 // g_norm.
-fn norm_of(n: usize, d: Forward) -> f32
+fn g_norm_of(n: usize, d: Forward) -> f32
     requires { ⌜ n ≤ 3 ⌝ }
-    ensures { λ r. ⌜ r ≡ normOf n d ⌝ }
+    ensures { λ r. ⌜ r ≡ gNormOf n d ⌝ }
 {
-    let xs = d.xs;
-    let ys = d.ys;
-    let mut t = 0.0f32;
+    let g_xs = d.g_xs;
+    let g_ys = d.g_ys;
+    let mut g_norm = 0.0f32;
     for c in 0..n {
-        t += float::powi2(xs[c]);
-        t += float::powi2(ys[c]);
+        g_norm += float::powi2(g_xs[c]);
+        g_norm += float::powi2(g_ys[c]);
     }
-    float::sqrt(t)
+    float::sqrt(g_norm)
 }
 
 // The derivatives of the pixel (x, y) in channel c: own place, right, below.
-fn spread_at(
+fn channel_derivatives(
     gradient: &mut [f32],
     g: Grid,
     alpha: f32,
-    norm: f32,
-    gx: f32,
-    gy: f32,
+    g_norm: f32,
+    g_x: f32,
+    g_y: f32,
     y: usize,
     x: usize,
     c: usize,
 )
     requires { ⌜ (c < g .n) × Inside g y x × Fills g (length (now gradient)) ⌝ }
-    ensures { λ _. ⌜ now (gradient .exit) ≡ tvChanges (g .w) (g .h) alpha norm gx gy y x c (now (gradient .entry)) ⌝ }
+    ensures { λ _. ⌜ now (gradient .exit) ≡ tvChannelDerivatives (g .w) (g .h) alpha «g_norm» «g_x» «g_y» y x c (now (gradient .entry)) ⌝ }
 {
     let w = g.w;
     let h = g.h;
-    grid::bump(gradient, g, c, y, x, alpha, -(gx + gy), norm);
-    grid::bump_unless(x >= w - 1, gradient, g, c, y, x + 1, alpha, gx, norm);
-    grid::bump_unless(y >= h - 1, gradient, g, c, y + 1, x, alpha, gy, norm);
+    grid::bump(gradient, g, c, y, x, alpha, -(g_x + g_y), g_norm);
+    grid::bump_unless(x >= w - 1, gradient, g, c, y, x + 1, alpha, g_x, g_norm);
+    grid::bump_unless(y >= h - 1, gradient, g, c, y + 1, x, alpha, g_y, g_norm);
 }
 
 // The same in each channel, unless the norm is 0.
-fn spread(gradient: &mut [f32], g: Grid, alpha: f32, norm: f32, d: Forward, y: usize, x: usize)
+fn derivatives(
+    gradient: &mut [f32],
+    g: Grid,
+    alpha: f32,
+    g_norm: f32,
+    d: Forward,
+    y: usize,
+    x: usize,
+)
     requires { ⌜ (g .n ≤ 3) × Inside g y x × Fills g (length (now gradient)) ⌝ }
-    ensures { λ _. ⌜ now (gradient .exit) ≡ tvSpread (g .w) (g .h) (g .n) alpha norm d y x (now (gradient .entry)) ⌝ }
+    ensures { λ _. ⌜ now (gradient .exit) ≡ tvDerivatives (g .w) (g .h) (g .n) alpha «g_norm» d y x (now (gradient .entry)) ⌝ }
 {
     let n = g.n;
-    let xs = d.xs;
-    let ys = d.ys;
-    if norm != 0.0 {
+    let g_xs = d.g_xs;
+    let g_ys = d.g_ys;
+    if g_norm != 0.0 {
         for c in 0..n {
-            spread_at(gradient, g, alpha, norm, xs[c], ys[c], y, x, c);
+            channel_derivatives(gradient, g, alpha, g_norm, g_xs[c], g_ys[c], y, x, c);
         }
     }
 }
@@ -115,12 +123,12 @@ fn tv_gradient_px(
 {
     let d = differences(plane, g, y, x);
     let n = g.n;
-    let norm = norm_of(n, d);
-    spread(gradient, g, alpha, norm, d, y, x);
-    let xs = d.xs;
-    let ys = d.ys;
-    store(across, g, xs, y, x);
-    store(down, g, ys, y, x);
+    let g_norm = g_norm_of(n, d);
+    derivatives(gradient, g, alpha, g_norm, d, y, x);
+    let g_xs = d.g_xs;
+    let g_ys = d.g_ys;
+    store(across, g, g_xs, y, x);
+    store(down, g, g_ys, y, x);
 }
 
 // alpha = 1 / √n.
@@ -128,7 +136,7 @@ fn alpha_of(n: usize) -> f32
     requires { ⌜ n ≤ 3 ⌝ }
     ensures { λ r. ⌜ r ≡ tvAlpha n ⌝ }
 {
-    1.0 / grid::root_of(n)
+    1.0 / steps::solve::root_of(n as u32)
 }
 
 // The first-order term: every pixel, row by row.

@@ -160,7 +160,7 @@ pub extern "C" fn probe_move(
     step: u32,
 )
     requires { ⌜ (w ≤ 512) × (h ≤ 512) × (length (now plane) ≡ length (now gradient)) ⌝ }
-    ensures { λ _. ⌜ now (plane .exit) ≡ moved (constants w h iterations weight step .step) (now (gradient .entry)) (now (plane .entry)) ⌝ }
+    ensures { λ _. ⌜ now (plane .exit) ≡ moved (constants w h iterations weight step .«step_size») (now (gradient .entry)) (now (plane .entry)) ⌝ }
 {
     let k = step_constants(w, h, iterations, weight, step);
     steps::step::move_plane(plane, gradient, k);

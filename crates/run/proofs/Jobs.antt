@@ -37,12 +37,12 @@ module _ (n c : ℕ) (o : Buffers) (k : Constants) where
 
   pub move-buffers : (plane gradient : List Float)
       → putChannel n c (forMove o plane gradient) (moving k (channel n c (forMove o plane gradient)))
-      ≡ forMove o (movedPart (k .step) (c * n) (c * n + n) gradient plane) gradient
+      ≡ forMove o (movedPart (k .«step_size») (c * n) (c * n + n) gradient plane) gradient
   unfolding channel putChannel moving
   move-buffers plane gradient =
       λ i.
       record {
-        plane = movedPart (k .step) (c * n) (c * n + n) gradient plane;
+        plane = movedPart (k .«step_size») (c * n) (c * n + n) gradient plane;
         prior = put-part n c (o .prior) i;
         gradient = put-part n c gradient i;
         across = put-part n c (o .across) i;

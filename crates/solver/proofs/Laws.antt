@@ -80,7 +80,7 @@ pub moving-sized : (n : ℕ) (k : Constants) (b : Buffers) → Sized n b → Siz
 unfolding moving
 moving-sized n k b z =
     record {
-      plane-long = moved-length (k .step) (b .gradient) (b .plane) ∙ z .plane-long;
+      plane-long = moved-length (k .«step_size») (b .gradient) (b .plane) ∙ z .plane-long;
       prior-long = z .prior-long;
       gradient-long = z .gradient-long;
       across-long = z .across-long;

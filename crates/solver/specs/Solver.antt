@@ -43,7 +43,7 @@ blending W H n k B =
 -- 4, move
 unfoldable pub moving : Constants → Buffers → Buffers
 moving k b =
-    let p = moved (k .step) (b .gradient) (b .plane) in
+    let p = moved (k .«step_size») (b .gradient) (b .plane) in
     record { plane = p; prior = b .prior; gradient = b .gradient; across = b .across; down = b .down; saved = b .saved }
 
 -- 5, project

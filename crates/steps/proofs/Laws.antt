@@ -31,12 +31,12 @@ pub push-prior-length : (factor : Float) (s : Planes) → length (pushed factor 
 unfolding pushed pushAt
 push-prior-length factor s = upto-keeps (λ s. length (s .prior)) (pushAt factor) (λ k t. simp length-set) (length (s .plane)) s
 
-pub moved-length : (size : Float) (g plane : List Float) → length (moved size g plane) ≡ length plane
+pub moved-length : (step-size : Float) (g plane : List Float) → length (moved step-size g plane) ≡ length plane
 unfolding moved movedBy
-moved-length size g plane =
+moved-length step-size g plane =
     let norm = gradientNorm g in
-    length-cond (ne norm f0) (upto (moveAt size norm g) (length plane) plane) plane (length plane)
-    (upto-keeps length (moveAt size norm g) (λ k a. simp length-set) (length plane) plane) refl
+    length-cond (ne norm f0) (upto (moveAt step-size norm g) (length plane) plane) plane (length plane)
+    (upto-keeps length (moveAt step-size norm g) (λ k a. simp length-set) (length plane) plane) refl
 
 -- ---- push, place by place
 

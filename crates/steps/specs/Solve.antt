@@ -26,7 +26,7 @@ constants W H N weight step =
     record {
       term = termOf step;
       factor = (termOf step ⊖ f1) ⊘ nextTerm (termOf step);
-      step = (root (float (W * H)) ⊘ f2) ⊘ root (f1 ⊕ float N);
+      «step_size» = (root (float (W * H)) ⊘ f2) ⊘ root (f1 ⊕ float N);
       second = weight ⊘ root f2;
     }
 

@@ -22,14 +22,14 @@ gradientNorm g = root (upto (squareAt g) (length g) f0)
 
 -- plane[k] = step_size.mul_add(-(gradient[k] / norm), plane[k]), if the norm isn't 0
 abbrev pub moveAt : Float → Float → List Float → ℕ → List Float → List Float
-moveAt size norm g k plane = set plane k (fused size (neg (val g k ⊘ norm)) (val plane k))
+moveAt step-size norm g k plane = set plane k (fused step-size (neg (val g k ⊘ norm)) (val plane k))
 
 unfoldable pub movedBy : Float → Float → List Float → List Float → List Float
-movedBy size norm g plane = cond (ne norm f0) (upto (moveAt size norm g) (length plane) plane) plane
+movedBy step-size norm g plane = cond (ne norm f0) (upto (moveAt step-size norm g) (length plane) plane) plane
 
 unfoldable pub moved : Float → List Float → List Float → List Float
-moved size g plane = movedBy size (gradientNorm g) g plane
+moved step-size g plane = movedBy step-size (gradientNorm g) g plane
 
 -- the same of the parts from a to e
 abbrev pub movedPart : Float → ℕ → ℕ → List Float → List Float → List Float
-movedPart size a e g plane = splice plane a e (moved size (part g a e) (part plane a e))
+movedPart step-size a e g plane = splice plane a e (moved step-size (part g a e) (part plane a e))

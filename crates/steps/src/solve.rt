@@ -10,7 +10,7 @@ ghost use Rattle.steps.specs.Solve.{nextTerm, termOf, constants, pushed,
 pub struct Constants {
     pub term: f32,
     pub factor: f32,
-    pub step: f32,
+    pub step_size: f32,
     pub second: f32,
 }
 
@@ -36,7 +36,7 @@ fn term_of(step: u32) -> f32
 }
 
 // √n of a whole number.
-fn root_of(n: u32) -> f32
+pub fn root_of(n: u32) -> f32
     ensures { λ r. ⌜ r ≡ root (float n) ⌝ }
 {
     float::sqrt(std::num::nearest_u32_to_f32(n))
@@ -53,7 +53,7 @@ pub fn step_constants(w: u32, h: u32, iterations: u32, weight: f32, step: u32) -
     Constants {
         term: term,
         factor: (term - 1.0) / next_term(term),
-        step: radius / rest,
+        step_size: radius / rest,
         second: weight / float::sqrt(2.0),
     }
 }

@@ -28,13 +28,13 @@ fn gradient_norm(gradient: &[f32]) -> f32
 // Rules out: a move up the gradient, and a NaN norm taken for 0.
 pub fn move_plane(plane: &mut [f32], gradient: &[f32], k: Constants)
     requires { ⌜ length (now plane) ≡ length (now gradient) ⌝ }
-    ensures { λ _. ⌜ now (plane .exit) ≡ moved (k .step) (now (gradient .entry)) (now (plane .entry)) ⌝ }
+    ensures { λ _. ⌜ now (plane .exit) ≡ moved (k .«step_size») (now (gradient .entry)) (now (plane .entry)) ⌝ }
 {
-    let size = k.step;
+    let step_size = k.step_size;
     let norm = gradient_norm(gradient);
     if norm != 0.0 {
         for i in 0..plane.len() {
-            plane[i] = float::mul_add(size, -(gradient[i] / norm), plane[i]);
+            plane[i] = float::mul_add(step_size, -(gradient[i] / norm), plane[i]);
         }
     }
 }
@@ -42,7 +42,7 @@ pub fn move_plane(plane: &mut [f32], gradient: &[f32], k: Constants)
 // Job 4 on the part of channel c, of n values.
 pub fn move_channel(plane: &mut [f32], gradient: &[f32], k: Constants, c: usize, n: usize)
     requires { ⌜ (c * n + n ≤ length (now plane)) × (length (now plane) ≡ length (now gradient)) ⌝ }
-    ensures { λ _. ⌜ now (plane .exit) ≡ movedPart (k .step) (c * n) (c * n + n) (now (gradient .entry)) (now (plane .entry)) ⌝ }
+    ensures { λ _. ⌜ now (plane .exit) ≡ movedPart (k .«step_size») (c * n) (c * n + n) (now (gradient .entry)) (now (plane .entry)) ⌝ }
 {
     let from = c * n;
     let to = from + n;

@@ -5,22 +5,21 @@ use mathlib.Core.Path.{_≡_}
 use native.Mathlib.Omega.{arith}
 use Rattle.fold.proofs.Loops.{upto-call, upto-end}
 use Rattle.fold.specs.Fold.{upto}
-use Rattle.fold.specs.Part.{part}
 use Rattle.gradients.specs.Tgv.{tgvGradient, tgvGradientPx, tgvGradientRow}
 use Rattle.gradients.proofs.tgv.tgv_gradient.Statement.{statement}
 use Rattle.gradients.proofs.tgv.tgv_gradient.Tie as tie
 
 abbrev Inv-loop2 : tie.InvT-loop2
-Inv-loop2 across down gradient₀ g alpha n w h part y x₀ gradient x = (x ≤ w) × (length gradient ≡ length gradient₀) × (gradient ≡ upto (tgvGradientPx (g .w) (g .h) (g .n) part across down y) x gradient₀)
+Inv-loop2 across down gradient₀ g alpha n w h alpha-over-root y x₀ gradient x = (x ≤ w) × (length gradient ≡ length gradient₀) × (gradient ≡ upto (tgvGradientPx (g .w) (g .h) (g .n) alpha-over-root across down y) x gradient₀)
 
 abbrev μ-loop2 : tie.MeasureT-loop2
-μ-loop2 across down gradient₀ g alpha n w h part y x₀ gradient x = w - x
+μ-loop2 across down gradient₀ g alpha n w h alpha-over-root y x₀ gradient x = w - x
 
 abbrev Inv-loop : tie.InvT-loop
-Inv-loop across down gradient₀ g alpha n w h part y₀ gradient y = (y ≤ h) × (length gradient ≡ length gradient₀) × (gradient ≡ upto (tgvGradientRow (g .w) (g .h) (g .n) part across down) y gradient₀)
+Inv-loop across down gradient₀ g alpha n w h alpha-over-root y₀ gradient y = (y ≤ h) × (length gradient ≡ length gradient₀) × (gradient ≡ upto (tgvGradientRow (g .w) (g .h) (g .n) alpha-over-root across down) y gradient₀)
 
 abbrev μ-loop : tie.MeasureT-loop
-μ-loop across down gradient₀ g alpha n w h part y₀ gradient y = h - y
+μ-loop across down gradient₀ g alpha n w h alpha-over-root y₀ gradient y = h - y
 
 loop-holds : tie.Need-loop-holds Inv-loop2 μ-loop2 Inv-loop μ-loop
 unfolding upto

@@ -10,10 +10,10 @@ use Rattle.steps.proofs.step.move_plane.Statement.{statement}
 use Rattle.steps.proofs.step.move_plane.Tie as tie
 
 abbrev Inv-loop : tie.InvT-loop
-Inv-loop plane₀ gradient size norm i₀ i-end plane i = (i ≤ i-end) × (length plane ≡ length plane₀) × (plane ≡ upto (moveAt size norm gradient) i plane₀)
+Inv-loop plane₀ gradient step-size norm i₀ i-end plane i = (i ≤ i-end) × (length plane ≡ length plane₀) × (plane ≡ upto (moveAt step-size norm gradient) i plane₀)
 
 abbrev μ-loop : tie.MeasureT-loop
-μ-loop plane₀ gradient size norm i₀ i-end plane i = i-end - i
+μ-loop plane₀ gradient step-size norm i₀ i-end plane i = i-end - i
 
 loop-holds : tie.Need-loop-holds Inv-loop μ-loop
 unfolding upto
