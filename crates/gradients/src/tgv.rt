@@ -1,4 +1,5 @@
-// tgv.rs: the second-order term.
+// scalar/tgv.rs, `tgv_gradient` and `tgv_gradient_px`: the second-order term. The buffers have document 01's names: gradient is obj_gradient,
+// across and down are pixel_diff.x and pixel_diff.y.
 use crate::grid;
 use crate::grid::Grid;
 ghost use mathlib.Core.Path.{_≡_};
@@ -34,7 +35,7 @@ fn either(a: bool, b: bool) -> bool
     a || b
 }
 
-// The backward differences of the differences at (x, y).
+// The backward differences x and y of the differences at (x, y), and their mixed one made symmetric, of each channel.
 fn differences(across: &[f32], down: &[f32], g: Grid, y: usize, x: usize) -> Second
     requires { ⌜ (g .n ≤ 3) × Inside g y x × Fills g (length (now across)) × Fills g (length (now down)) ⌝ }
     ensures { λ r. ⌜ r ≡ tgvDifferences (g .w) (g .h) (g .n) (now (across .entry)) (now (down .entry)) y x ⌝ }
@@ -59,7 +60,7 @@ fn differences(across: &[f32], down: &[f32], g: Grid, y: usize, x: usize) -> Sec
     }
 }
 
-// One channel's part of the square of the norm.
+// What a channel adds to g2_norm.
 fn square_of(g_xx: f32, g_xy_sym: f32, g_yy: f32) -> f32
     ensures { λ r. ⌜ r ≡ mulAdd «g_yy» «g_yy» (mulAdd f2 (square «g_xy_sym») (square «g_xx»)) ⌝ }
 {
@@ -70,7 +71,7 @@ fn square_of(g_xx: f32, g_xy_sym: f32, g_yy: f32) -> f32
     )
 }
 
-// g2_norm.
+// g2_norm: √ of what each channel adds.
 fn g2_norm_of(n: usize, d: Second) -> f32
     requires { ⌜ n ≤ 3 ⌝ }
     ensures { λ r. ⌜ r ≡ g2NormOf n d ⌝ }
@@ -85,14 +86,14 @@ fn g2_norm_of(n: usize, d: Second) -> f32
     float::sqrt(g2_norm)
 }
 
-// The derivative at the pixel's own place, but for the norm.
+// The derivative at the pixel's own place, before it is divided by g2_norm.
 fn middle(g_xx: f32, g_xy_sym: f32, g_yy: f32) -> f32
     ensures { λ r. ⌜ r ≡ neg (mulAdd f2 «g_yy» (mulAdd f2 «g_xx» (f2 ⊗ «g_xy_sym»))) ⌝ }
 {
     -float::mul_add_rounded(2.0, g_yy, float::mul_add_rounded(2.0, g_xx, 2.0 * g_xy_sym))
 }
 
-// Own place, left, right.
+// "compute derivatives" of channel c: own place, left, right.
 fn beside(
     gradient: &mut [f32],
     g: Grid,
@@ -221,7 +222,7 @@ fn corners(
     );
 }
 
-// The derivatives of the pixel (x, y) in channel c.
+// "compute derivatives" of channel c: all seven, in this order.
 fn channel_derivatives(
     gradient: &mut [f32],
     g: Grid,
@@ -242,7 +243,7 @@ fn channel_derivatives(
     corners(gradient, g, alpha, g2_norm, g_xy_sym, y, x, c);
 }
 
-// The same in each channel, unless the norm is 0.
+// "compute derivatives": each channel's, unless g2_norm is 0.
 fn derivatives(
     gradient: &mut [f32],
     g: Grid,
@@ -278,7 +279,7 @@ fn derivatives(
     }
 }
 
-// One pixel: every channel's gradient.
+// tgv_gradient_px: every channel's gradient.
 fn tgv_gradient_px(
     across: &[f32],
     down: &[f32],
@@ -298,7 +299,7 @@ fn tgv_gradient_px(
     derivatives(gradient, g, alpha, g2_norm, d, y, x);
 }
 
-// alpha / √n.
+// alpha /= (nchannel as f32).sqrt(), the same in each pixel.
 fn alpha_of(n: usize, alpha: f32) -> f32
     requires { ⌜ n ≤ 3 ⌝ }
     ensures { λ r. ⌜ r ≡ tgvAlpha n alpha ⌝ }
@@ -306,7 +307,7 @@ fn alpha_of(n: usize, alpha: f32) -> f32
     alpha / steps::solve::root_of(n as u32)
 }
 
-// The second-order term: every pixel, row by row.
+// tgv_gradient: every pixel, row by row.
 pub fn tgv_gradient(across: &[f32], down: &[f32], gradient: &mut [f32], g: Grid, alpha: f32)
     requires { ⌜ (g .n ≤ 3) × Fills g (length (now across)) × Fills g (length (now down)) × Fills g (length (now gradient)) ⌝ }
     ensures { λ _. ⌜ now (gradient .exit)

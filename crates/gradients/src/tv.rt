@@ -1,4 +1,5 @@
-// tv.rs: the first-order term.
+// scalar/tv.rs, `tv_gradient` and `tv_gradient_px`: the first-order term. The buffers have document 01's names: plane is fdata, gradient is obj_gradient,
+// across and down are pixel_diff.x and pixel_diff.y.
 use crate::grid;
 use crate::grid::Grid;
 ghost use mathlib.Core.Path.{_≡_};
@@ -13,7 +14,7 @@ pub struct Forward {
     pub g_ys: [f32; 3],
 }
 
-// The forward differences at (x, y).
+// The forward differences at (x, y) of each channel.
 fn differences(plane: &[f32], g: Grid, y: usize, x: usize) -> Forward
     requires { ⌜ (g .n ≤ 3) × Inside g y x × Fills g (length (now plane)) ⌝ }
     ensures { λ r. ⌜ r ≡ tvDifferences (g .w) (g .h) (g .n) (now (plane .entry)) y x ⌝ }
@@ -32,7 +33,7 @@ fn differences(plane: &[f32], g: Grid, y: usize, x: usize) -> Forward
     Forward { g_xs, g_ys }
 }
 
-// g_norm.
+// g_norm: √ of the squares of both differences, added channel by channel.
 fn g_norm_of(n: usize, d: Forward) -> f32
     requires { ⌜ n ≤ 3 ⌝ }
     ensures { λ r. ⌜ r ≡ gNormOf n d ⌝ }
@@ -47,7 +48,7 @@ fn g_norm_of(n: usize, d: Forward) -> f32
     float::sqrt(g_norm)
 }
 
-// The derivatives of the pixel (x, y) in channel c: own place, right, below.
+// "compute derivatives" of channel c, whose differences are g_x and g_y: own place, right, below.
 fn channel_derivatives(
     gradient: &mut [f32],
     g: Grid,
@@ -69,7 +70,7 @@ fn channel_derivatives(
     grid::bump_unless(y >= h - 1, gradient, g, c, y + 1, x, alpha, g_y, g_norm);
 }
 
-// The same in each channel, unless the norm is 0.
+// "compute derivatives": each channel's, if g_norm isn't 0.
 fn derivatives(
     gradient: &mut [f32],
     g: Grid,
@@ -92,7 +93,7 @@ fn derivatives(
     }
 }
 
-// The differences of (x, y) are kept for the second-order term.
+// "store for the second-order TGV pass": one of the two differences of (x, y), each channel's.
 fn store(buffer: &mut [f32], g: Grid, vs: [f32; 3], y: usize, x: usize)
     requires { ⌜ (g .n ≤ 3) × Inside g y x × Fills g (length (now buffer)) ⌝ }
     ensures { λ _. ⌜ now (buffer .exit) ≡ store (g .w) (g .h) (g .n) vs y x (now (buffer .entry)) ⌝ }
@@ -104,7 +105,7 @@ fn store(buffer: &mut [f32], g: Grid, vs: [f32; 3], y: usize, x: usize)
     }
 }
 
-// One pixel: every channel's gradient and differences.
+// tv_gradient_px: every channel's gradient and differences.
 fn tv_gradient_px(
     plane: &[f32],
     gradient: &mut [f32],
@@ -131,7 +132,7 @@ fn tv_gradient_px(
     store(down, g, g_ys, y, x);
 }
 
-// alpha = 1 / √n.
+// alpha = 1.0 / (nchannel as f32).sqrt(), the same in each pixel.
 fn alpha_of(n: usize) -> f32
     requires { ⌜ n ≤ 3 ⌝ }
     ensures { λ r. ⌜ r ≡ tvAlpha n ⌝ }
@@ -139,7 +140,7 @@ fn alpha_of(n: usize) -> f32
     1.0 / steps::solve::root_of(n as u32)
 }
 
-// The first-order term: every pixel, row by row.
+// tv_gradient: every pixel, row by row.
 pub fn tv_gradient(
     plane: &[f32],
     gradient: &mut [f32],

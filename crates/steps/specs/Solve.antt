@@ -11,11 +11,11 @@ use Rattle.steps.specs.declared.solve.Constants.{Constants}
 
 -- next_term = f32::midpoint(1, √(mul_add!(4, term.powi(2), 1)))
 unfoldable pub nextTerm : Float → Float
-nextTerm t = midpoint f1 (root (mulAdd f4 (square t) f1))
+nextTerm term = midpoint f1 (root (mulAdd f4 (square term) f1))
 
 -- term as the step starts, steps counted from 0: 1, and next after each step
 abbrev pub termAt : ℕ → Float → Float
-termAt k t = nextTerm t
+termAt k term = nextTerm term
 
 unfoldable pub termOf : ℕ → Float
 termOf step = upto termAt step f1

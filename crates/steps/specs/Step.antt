@@ -1,4 +1,4 @@
--- step.rs, `solver_step`: the weight of the data term, and job 4, move.
+-- scalar/step.rs, `solver_step`: the weight of the data term, and job 4, move.
 use mathlib.Core.Bool.{cond}
 use mathlib.Core.List.{List}
 use Prim.Native.Nat.{ℕ}

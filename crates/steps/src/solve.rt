@@ -14,13 +14,13 @@ pub struct Constants {
     pub second: f32,
 }
 
-// The term of the next step.
-fn next_term(t: f32) -> f32
-    ensures { λ r. ⌜ r ≡ nextTerm t ⌝ }
+// next_term = f32::midpoint(1.0, mul_add!(4.0, term.powi(2), 1.0).sqrt()).
+fn next_term(term: f32) -> f32
+    ensures { λ r. ⌜ r ≡ nextTerm term ⌝ }
 {
     float::midpoint(
         1.0,
-        float::sqrt(float::mul_add_rounded(4.0, float::powi2(t), 1.0)),
+        float::sqrt(float::mul_add_rounded(4.0, float::powi2(term), 1.0)),
     )
 }
 
@@ -28,11 +28,11 @@ fn next_term(t: f32) -> f32
 fn term_of(step: u32) -> f32
     ensures { λ r. ⌜ r ≡ termOf step ⌝ }
 {
-    let mut t = 1.0f32;
+    let mut term = 1.0f32;
     for k in 0..step {
-        t = next_term(t);
+        term = next_term(term);
     }
-    t
+    term
 }
 
 // √n of a whole number.

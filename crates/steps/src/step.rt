@@ -1,18 +1,18 @@
-// step.rs, `solver_step`: the weight of the data term, the gradient's norm, and the move along it.
+// scalar/step.rs, `solver_step`: the weight of the data term, the gradient's norm, and the move along it.
 use crate::solve::Constants;
 ghost use mathlib.Core.Path.{_≡_};
 ghost use Prim.Native.Nat.{_+_, _*_, _≤_};
 ghost use lib.ListN.{length};
 ghost use Rattle.steps.specs.Step.{dataAlpha, gradientNorm, moved, movedPart};
 
-// The data term's alpha: weight * 2 * 255 * √2.
+// The data term's alpha: pweight * 2.0 * 255.0 * 2.0_f32.sqrt().
 pub fn data_alpha(weight: f32) -> f32
     ensures { λ r. ⌜ r ≡ dataAlpha weight ⌝ }
 {
     weight * 2.0 * 255.0 * float::sqrt(2.0)
 }
 
-// The Euclidean norm of the gradient.
+// The Euclidean norm of the objective gradient.
 fn gradient_norm(gradient: &[f32]) -> f32
     ensures { λ r. ⌜ r ≡ gradientNorm (now (gradient .entry)) ⌝ }
 {
@@ -24,7 +24,7 @@ fn gradient_norm(gradient: &[f32]) -> f32
     float::sqrt(acc)
 }
 
-// Job 4: plane = step size.mul_add(-(gradient / norm), plane), unless the norm is 0.
+// Job 4: plane = step_size.mul_add(-(gradient / norm), plane), if the norm isn't 0.
 // Rules out: a move up the gradient, and a NaN norm taken for 0.
 pub fn move_plane(plane: &mut [f32], gradient: &[f32], k: Constants)
     requires { ⌜ length (now plane) ≡ length (now gradient) ⌝ }

@@ -9,10 +9,10 @@ use Rattle.steps.proofs.solve.term_of.Statement.{statement}
 use Rattle.steps.proofs.solve.term_of.Tie as tie
 
 abbrev Inv-loop : tie.InvT-loop
-Inv-loop step t₀ k₀ t k = (k ≤ step) × (t ≡ upto termAt k t₀)
+Inv-loop step term₀ k₀ term k = (k ≤ step) × (term ≡ upto termAt k term₀)
 
 abbrev μ-loop : tie.MeasureT-loop
-μ-loop step t₀ k₀ t k = step - k
+μ-loop step term₀ k₀ term k = step - k
 
 loop-holds : tie.Need-loop-holds Inv-loop μ-loop
 unfolding upto
