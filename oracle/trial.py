@@ -75,8 +75,8 @@ USES = {
     'Rattle.interval.specs.Interval': 'lowest highest dequantised',
     'Rattle.steps.specs.Solve': 'nextTerm termOf constants pushAt pushed',
     'Rattle.steps.specs.Step': 'dataAlpha gradientNorm movedBy moved',
-    'Rattle.gradients.specs.Tv': 'difference bump bumpUnless forwardAt forward normOf tvChanges tvSpread store tvGradientPx tvAlpha tvGradient',
-    'Rattle.gradients.specs.Tgv': 'secondAt second norm2Of tgvBeside tgvUpDown tgvCorners tgvChanges tgvSpread tgvGradientPx tgvAlpha tgvGradient',
+    'Rattle.gradients.specs.Tv': 'difference bump bumpUnless tvDifferencesAt tvDifferences gNormOf tvChannelDerivatives tvDerivatives store tvGradientPx tvAlpha tvGradient',
+    'Rattle.gradients.specs.Tgv': 'tgvDifferencesAt tgvDifferences g2NormOf tgvBeside tgvUpDown tgvCorners tgvChannelDerivatives tgvDerivatives tgvGradientPx tgvAlpha tgvGradient',
     'Rattle.gradients.specs.Blend': 'blended',
     'Rattle.scalar.specs.Coef': 'dequantise imageBlock imageData initDctTarget',
     'Rattle.scalar.specs.Auxiliary': 'initPixels auxInit',
@@ -121,7 +121,7 @@ def main(name):
         o.append('unfoldable pub c%d : Coef\nc%d =\n    record {\n      own = record { width = %d; height = %d; across = %d; down = %d };\n      levels = %s;\n      table = %s;\n    }\n' % (
             c, c, k['w'], k['h'], k['across'], k['down'], items(whole(v) for b in k['blocks'] for v in b), items(k['table'])))
     for step, k in sorted(constants.items()):
-        values = '; '.join('%s = ofBits binary32 %d' % (f, v) for f, v in zip(['term', 'factor', 'step', 'second'], k))
+        values = '; '.join('%s = ofBits binary32 %d' % (f, v) for f, v in zip(['term', 'factor', '«step_size»', 'second'], k))
         o.append('unfoldable pub k%d : Constants\nk%d = record { %s }\n' % (step, step, values))
         o.append('pub constants-%d : constants %d %d %d (ofBits binary32 %d) %d ≡ k%d\nunfolding k%d %s\nconstants-%d = refl\n' % (
             step, W, H, N, bits(smoothing), step, step, step, UNFOLD, step))
