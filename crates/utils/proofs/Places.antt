@@ -1,4 +1,5 @@
 -- Where the rows of the blocks lie, in block order and in the raster.
+use mathlib.Core.Bool.{Bool, true, false, cond}
 use mathlib.Core.Path.{_≡_}
 use Prim.Native.Nat.{ℕ, _+_, _-_, _*_, _<_, _≤_, min}
 use native.Mathlib.Nat.{mul-comm, mul-mul-mul-comm, le-mul-of-pos-right, min-le-right}
@@ -21,6 +22,11 @@ placed w h bw bh by bx y e f k l m =
     let turn-blocks = mul-comm bw bh in
     let tall : h ≤ h * w = le-mul-of-pos-right h (omega arith) in
     record { start = omega arith; index = omega arith; row = omega arith }
+
+-- eight values from either of two places on
+pub either-in : (b : Bool) (x y n : ℕ) → x + 8 ≤ n → y + 8 ≤ n → cond b x y + 8 ≤ n
+either-in true x y n h l = h
+either-in false x y n h l = l
 
 -- the sample and the pixel of `upsample_pixels`
 pub record Sampled (w h W H cy cx y x : ℕ) : Type 0 where

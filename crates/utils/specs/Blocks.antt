@@ -1,4 +1,5 @@
 -- blocks.rs: block order and raster order, and what is done to one block of block order.
+use mathlib.Core.Bool.{Bool, cond}
 use mathlib.Core.List.{List}
 use Prim.Native.Nat.{ℕ, _+_, _*_, _/_, _%_}
 use lib.ListN.{set}
@@ -52,6 +53,10 @@ fromBlocks w bw bh input output = moveLines (rowIndex bw) (rowStart w) input bw 
 unfoldable pub toBlocks : ℕ → ℕ → ℕ → List Float → List Float → List Float
 unfolding upto
 toBlocks w bw bh input output = moveLines (rowStart w) (rowIndex bw) input bw bh output
+
+-- both: `to_blocks` where back is true
+abbrev pub moveBlocks : Bool → ℕ → ℕ → ℕ → List Float → List Float → List Float
+moveBlocks back w bw bh input output = cond back (toBlocks w bw bh input output) (fromBlocks w bw bh input output)
 
 -- T.81's placement as a map of places and its inverse. Place i of block order is row i % 64 / 8 and column i % 8 of block i / 64;
 -- place p of the raster is row p / w and column p % w.

@@ -1,5 +1,6 @@
 -- dct.rs: Ooura's transforms of a block of 8 by 8 values. A `let` of the same name again is the Rust's assignment, and `mulAdd` is
 -- `mul_add!`. An `unfolding` line lets a theorem that unfolds the definition below it compute.
+use mathlib.Core.Bool.{Bool, cond}
 use mathlib.Core.List.{List}
 use Prim.Native.Nat.{ℕ, _+_, _*_}
 use lib.ListN.{set}
@@ -67,7 +68,7 @@ idct8 a =
       a1 = x2i ⊕ x3r;
     }
 
--- The body of both loops of `dct8x8`; here too all are read before the first is stored. b0 to b7 are what is stored.
+-- The body of both loops of `dct8x8`; here too all are read before the first is stored.
 unfoldable pub dct8 : Eight → Eight
 unfolding add sub mul neg mulAdd ofBits
 dct8 a =
@@ -81,23 +82,27 @@ dct8 a =
     let x3i = a .a6 ⊖ a .a1 in
     let xr = x0r ⊕ x2r in
     let xi = x0i ⊕ x2i in
-    let b0 = C8_4R ⊗ (xr ⊕ xi) in
-    let b4 = C8_4R ⊗ (xr ⊖ xi) in
+    let a0 = C8_4R ⊗ (xr ⊕ xi) in
+    let a4 = C8_4R ⊗ (xr ⊖ xi) in
     let xr = x0r ⊖ x2r in
     let xi = x0i ⊖ x2i in
-    let b2 = mulAdd C8_2R xr (neg (C8_2I ⊗ xi)) in
-    let b6 = mulAdd C8_2R xi (C8_2I ⊗ xr) in
+    let a2 = mulAdd C8_2R xr (neg (C8_2I ⊗ xi)) in
+    let a6 = mulAdd C8_2R xi (C8_2I ⊗ xr) in
     let xr = W8_4R ⊗ (x1i ⊖ x3i) in
     let x1i = W8_4R ⊗ (x1i ⊕ x3i) in
     let x3i = x1i ⊖ x3r in
     let x1i = x1i ⊕ x3r in
     let x3r = x1r ⊖ xr in
     let x1r = x1r ⊕ xr in
-    let b1 = mulAdd C8_1R x1r (neg (C8_1I ⊗ x1i)) in
-    let b7 = mulAdd C8_1R x1i (C8_1I ⊗ x1r) in
-    let b3 = mulAdd C8_3R x3r (neg (C8_3I ⊗ x3i)) in
-    let b5 = mulAdd C8_3R x3i (C8_3I ⊗ x3r) in
-    record { a0 = b0; a1 = b1; a2 = b2; a3 = b3; a4 = b4; a5 = b5; a6 = b6; a7 = b7 }
+    let a1 = mulAdd C8_1R x1r (neg (C8_1I ⊗ x1i)) in
+    let a7 = mulAdd C8_1R x1i (C8_1I ⊗ x1r) in
+    let a3 = mulAdd C8_3R x3r (neg (C8_3I ⊗ x3i)) in
+    let a5 = mulAdd C8_3R x3i (C8_3I ⊗ x3r) in
+    record { a0 = a0; a1 = a1; a2 = a2; a3 = a3; a4 = a4; a5 = a5; a6 = a6; a7 = a7 }
+
+-- either of the two: the inverse where the flag says so
+abbrev pub transform8 : Bool → Eight → Eight
+transform8 inverse = cond inverse idct8 dct8
 
 -- The eight values of s at the places `at 0` to `at 7`, and s with those of v there. The places differ, so the order of the stores
 -- does not show.
@@ -142,3 +147,6 @@ idct8x8 s = columnsRows idct8 s
 unfoldable pub dct8x8 : List Float → List Float
 unfolding upto onLine dct8
 dct8x8 s = columnsRows dct8 s
+
+abbrev pub transform8x8 : Bool → List Float → List Float
+transform8x8 inverse = cond inverse idct8x8 dct8x8

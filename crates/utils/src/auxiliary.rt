@@ -1,4 +1,4 @@
-// The upsampling of a channel's samples to the full plane.
+// auxiliary.rs: the upsampling of a channel's samples to the full plane.
 ghost use mathlib.Core.Path.{_≡_};
 ghost use Prim.Native.Nat.{_*_, _<_, _≤_, min};
 ghost use lib.ListN.{length};

@@ -1,10 +1,10 @@
-// Ooura's transforms of a block of 8 by 8 values, in the Rust's order.
+// dct.rs: Ooura's transforms of a block of 8 by 8 values, in the Rust's order.
 ghost use mathlib.Core.Path.{_≡_};
 ghost use Prim.Native.Nat.{_+_, _*_, _<_, _≤_};
 ghost use lib.ListN.{length};
 ghost use Rattle.fold.specs.Fold.{upto};
 ghost use Rattle.utils.specs.Blocks.{onBlock};
-ghost use Rattle.utils.specs.Dct.{dct8, dct8x8, idct8, idct8x8, line, onLine, setLine};
+ghost use Rattle.utils.specs.Dct.{dct8, dct8x8, transform8, idct8, idct8x8, line, onLine, setLine, transform8x8};
 
 const C8_1R: f32 = 0.490_392_640_201_615_224_56;
 
@@ -142,24 +142,57 @@ fn write_line(a: &mut [f32], b: usize, d: usize, v: Eight)
     a[7 * d + b] = v.a7;
 }
 
+// One of the two transforms of eight values.
+fn transform8(v: Eight, inverse: bool) -> Eight
+    ensures { λ r. ⌜ r ≡ transform8 inverse v ⌝ }
+{
+    if inverse {
+        return idct8(v);
+    }
+    dct8(v)
+}
+
 // One column or row, the line that starts at b and goes by d.
-fn idct_line(a: &mut [f32], b: usize, d: usize)
+fn transform_line(a: &mut [f32], b: usize, d: usize, inverse: bool)
     requires { ⌜ (7 * d + b < length (now a)) × (length (now a) ≡ 64) ⌝ }
-    ensures { λ _. ⌜ now (a .exit) ≡ onLine idct8 b d (now (a .entry)) ⌝ }
+    ensures { λ _. ⌜ now (a .exit) ≡ onLine (transform8 inverse) b d (now (a .entry)) ⌝ }
 {
     let v = read_line(&a[..], b, d);
-    let r = idct8(v);
+    let r = transform8(v, inverse);
     write_line(a, b, d, r);
 }
 
-// The same for the forward transform.
-fn dct_line(a: &mut [f32], b: usize, d: usize)
-    requires { ⌜ (7 * d + b < length (now a)) × (length (now a) ≡ 64) ⌝ }
-    ensures { λ _. ⌜ now (a .exit) ≡ onLine dct8 b d (now (a .entry)) ⌝ }
+// The eight columns, and then the eight rows.
+fn transform8x8(a: &mut [f32], inverse: bool)
+    requires { ⌜ length (now a) ≡ 64 ⌝ }
+    ensures { λ _. ⌜ now (a .exit) ≡ transform8x8 inverse (now (a .entry)) ⌝ }
 {
-    let v = read_line(&a[..], b, d);
-    let r = dct8(v);
-    write_line(a, b, d, r);
+    for j in 0..8 {
+        transform_line(a, j, 8, inverse);
+    }
+    for j in 0..8 {
+        transform_line(a, j * 8, 1, inverse);
+    }
+}
+
+// Block i: a part that starts at 64 times i is passed on.
+fn transform_block(xs: &mut [f32], i: usize, inverse: bool)
+    requires { ⌜ i * 64 + 64 ≤ length (now xs) ⌝ }
+    ensures { λ _. ⌜ now (xs .exit) ≡ onBlock (transform8x8 inverse) i (now (xs .entry)) ⌝ }
+{
+    let at = i * 64;
+    let end = at + 64;
+    transform8x8(&mut xs[at..end], inverse);
+}
+
+// Each of the first n blocks.
+fn transform_blocks(xs: &mut [f32], n: usize, inverse: bool)
+    requires { ⌜ n * 64 ≤ length (now xs) ⌝ }
+    ensures { λ _. ⌜ now (xs .exit) ≡ upto (onBlock (transform8x8 inverse)) n (now (xs .entry)) ⌝ }
+{
+    for i in 0..n {
+        transform_block(xs, i, inverse);
+    }
 }
 
 // The inverse transform of the 64 values of a block.
@@ -168,12 +201,7 @@ pub fn idct8x8(a: &mut [f32])
     requires { ⌜ length (now a) ≡ 64 ⌝ }
     ensures { λ _. ⌜ now (a .exit) ≡ idct8x8 (now (a .entry)) ⌝ }
 {
-    for j in 0..8 {
-        idct_line(a, j, 8);
-    }
-    for j in 0..8 {
-        idct_line(a, j * 8, 1);
-    }
+    transform8x8(a, true);
 }
 
 // The transform of the 64 values of a block.
@@ -182,23 +210,16 @@ pub fn dct8x8(a: &mut [f32])
     requires { ⌜ length (now a) ≡ 64 ⌝ }
     ensures { λ _. ⌜ now (a .exit) ≡ dct8x8 (now (a .entry)) ⌝ }
 {
-    for j in 0..8 {
-        dct_line(a, j, 8);
-    }
-    for j in 0..8 {
-        dct_line(a, j * 8, 1);
-    }
+    transform8x8(a, false);
 }
 
-// The inverse transform of block i: a part that starts at 64 times i is passed to it.
+// The inverse transform of block i.
 // Ruled out: the block after it; and a value of another block changed.
 pub fn idct_block(xs: &mut [f32], i: usize)
     requires { ⌜ i * 64 + 64 ≤ length (now xs) ⌝ }
     ensures { λ _. ⌜ now (xs .exit) ≡ onBlock idct8x8 i (now (xs .entry)) ⌝ }
 {
-    let at = i * 64;
-    let end = at + 64;
-    idct8x8(&mut xs[at..end]);
+    transform_block(xs, i, true);
 }
 
 // The transform of block i.
@@ -207,9 +228,7 @@ pub fn dct_block(xs: &mut [f32], i: usize)
     requires { ⌜ i * 64 + 64 ≤ length (now xs) ⌝ }
     ensures { λ _. ⌜ now (xs .exit) ≡ onBlock dct8x8 i (now (xs .entry)) ⌝ }
 {
-    let at = i * 64;
-    let end = at + 64;
-    dct8x8(&mut xs[at..end]);
+    transform_block(xs, i, false);
 }
 
 // The inverse transform of each of the first n blocks.
@@ -218,9 +237,7 @@ pub fn idct_blocks(xs: &mut [f32], n: usize)
     requires { ⌜ n * 64 ≤ length (now xs) ⌝ }
     ensures { λ _. ⌜ now (xs .exit) ≡ upto (onBlock idct8x8) n (now (xs .entry)) ⌝ }
 {
-    for i in 0..n {
-        idct_block(xs, i);
-    }
+    transform_blocks(xs, n, true);
 }
 
 // The transform of each of the first n blocks.
@@ -229,7 +246,5 @@ pub fn dct_blocks(xs: &mut [f32], n: usize)
     requires { ⌜ n * 64 ≤ length (now xs) ⌝ }
     ensures { λ _. ⌜ now (xs .exit) ≡ upto (onBlock dct8x8) n (now (xs .entry)) ⌝ }
 {
-    for i in 0..n {
-        dct_block(xs, i);
-    }
+    transform_blocks(xs, n, false);
 }

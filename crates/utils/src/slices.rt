@@ -1,4 +1,4 @@
-// Whole slices of f32: what the Rust's `clone`, `copy_from_slice`, `mem::swap` and `zeros` need here.
+// aligned.rs: whole slices of f32, what the Rust's `clone`, `copy_from_slice`, `mem::swap` and `zeros` need here.
 ghost use mathlib.Core.Path.{_≡_};
 ghost use lib.ListN.{length, replicate};
 ghost use lib.Ieee.{binary32, ofBits};
