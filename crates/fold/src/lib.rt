@@ -1,2 +1,3 @@
-// Counted loops, parts of a list and places of a grid, for contracts to cite. The definitions are in specs/ and their laws
-// in proofs/: there is no code here.
+// Counted loops, parts of a list and places of a grid, for contracts to cite: the definitions are in specs/ and their laws in proofs/.
+// And two flags as one, in code.
+pub mod flags;

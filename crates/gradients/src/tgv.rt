@@ -2,8 +2,8 @@
 // across and down are pixel_diff.x and pixel_diff.y.
 use crate::grid;
 use crate::grid::Grid;
+use fold::flags::either;
 ghost use mathlib.Core.Path.{_≡_};
-ghost use mathlib.Core.Bool.{_||_};
 ghost use Prim.Native.Nat.{_-_, _*_, _<_, _≤_};
 ghost use lib.ListN.{length};
 ghost use lib.Ieee.{neg};
@@ -27,12 +27,6 @@ fn prev(k: usize) -> usize
         return 0;
     }
     k - 1
-}
-
-fn either(a: bool, b: bool) -> bool
-    ensures { λ r. ⌜ r ≡ (a || b) ⌝ }
-{
-    a || b
 }
 
 // The backward differences x and y of the differences at (x, y), and their mixed one made symmetric, of each channel.

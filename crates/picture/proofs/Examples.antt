@@ -6,7 +6,8 @@ use lib.ListN.{replicate}
 use lib.Ieee.{Float, nan, inf, binary32, ofBits, ofInt}
 use mathlib.Core.Bool.{false}
 use Rattle.float.specs.Names.{f0, float}
-use Rattle.picture.specs.Finish.{pixel, joinUpto, finishing, done, refused}
+use Rattle.fold.specs.Join.{joinUpto}
+use Rattle.picture.specs.Finish.{pixel, finishing, done, refused}
 
 -- 100.0, 0.875
 abbrev pub f100 : Float

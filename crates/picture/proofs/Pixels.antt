@@ -11,7 +11,7 @@ use lib.ListN.{length, getD}
 use lib.Ieee.{Float}
 use Rattle.float.specs.Names.{val, _⊕_}
 use Rattle.picture.specs.Finish.{shade, colour, grey, pixel, row, picture, f128, legal, finishing, done}
-use Rattle.picture.proofs.Joins.{join-length, join-at}
+use Rattle.fold.proofs.Joins.{join-length, join-at}
 
 -- ---- one channel gives three equal bytes, three give the colours of a place's three values
 pub one-channel : (n : ℕ) (planes : List Float) (at : ℕ) → let v = shade (val planes at ⊕ f128) in pixel 1 n planes at ≡ v ∷ v ∷ v ∷ []

@@ -6,6 +6,7 @@ use lib.Dec.{leb, eqb}
 use lib.ListN.{length}
 use lib.Ieee.{Float, binary32, add, neg, ofBits, toUnsigned}
 use Rattle.fold.specs.Fold.{upto}
+use Rattle.fold.specs.Join.{joinUpto}
 use Rattle.float.specs.Ops.{mulAdd, clamp}
 use Rattle.float.specs.Names.{_⊕_, f0, f255, val}
 use Rattle.picture.specs.declared.Answer.{Answer}
@@ -61,11 +62,6 @@ pixel channels n planes at =
     cond (eqb channels 3) (colour y (val planes (n + at)) (val planes (2 * n + at))) (grey y)
 
 -- ---- the picture
-
-module _ {A : Type 0} where
-  -- f 0, f 1, .., f (n - 1), one after the other
-  abbrev pub joinUpto : (ℕ → List A) → ℕ → List A
-  joinUpto f n = upto (λ k xs. xs ++ f k) n []
 
 -- the pixels of a row whose first is that of place `from`
 abbrev pub row : ℕ → ℕ → List Float → ℕ → ℕ → List ℕ

@@ -1,25 +1,15 @@
 // Legal records: refusal 13 is for any other.
 use crate::Channel;
 use crate::Run;
+use fold::flags::both;
+use fold::flags::either;
 ghost use mathlib.Core.Path.{_≡_};
-ghost use mathlib.Core.Bool.{_&&_, _||_, not};
+ghost use mathlib.Core.Bool.{not};
 ghost use Prim.Native.Nat.{ℕ, _+_, _/_, _≤_};
 ghost use lib.ListN.{getD};
 ghost use lib.Dec.{eqb};
 ghost use Rattle.calls.specs.Run.{Sheet, legal, side, fullSide, factor, weight, own, ownOk, place, placeOk, headerOk, placesOk, every, blendsIn};
 ghost use Rattle.record.specs.Model.{ownOf, placeOf, sheetOf, placesOf};
-
-pub fn both(a: bool, b: bool) -> bool
-    ensures { λ r. ⌜ r ≡ (a && b) ⌝ }
-{
-    if a { b } else { false }
-}
-
-pub fn either(a: bool, b: bool) -> bool
-    ensures { λ r. ⌜ r ≡ (a || b) ⌝ }
-{
-    if a { true } else { b }
-}
 
 // A multiple of 8, at least 8.
 fn side_ok(x: u32) -> bool

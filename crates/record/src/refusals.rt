@@ -1,11 +1,11 @@
 // What each call refuses, in the table's order: 13, 8, 4, 5, 12, 10, 11, 9. An answer 0 is no refusal.
 use crate::Run;
-use crate::legal::both;
-use crate::legal::either;
 use crate::legal::legal;
 use crate::scans::all_equal;
 use crate::scans::levels_fault;
 use crate::scans::tables_ok;
+use fold::flags::both;
+use fold::flags::either;
 ghost use mathlib.Core.Path.{_≡_};
 ghost use mathlib.Core.List.{List};
 ghost use mathlib.Core.Bool.{true, false};

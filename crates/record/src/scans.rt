@@ -1,5 +1,5 @@
 // Tests of every value of what is lent: lengths (8), quantisers (4), levels (5).
-use crate::legal::both;
+use fold::flags::both;
 ghost use mathlib.Core.Path.{_≡_};
 ghost use lib.Dec.{eqb};
 ghost use Rattle.calls.specs.Calls.{all, tableOk, levelOk, levelFault, levelsFault};

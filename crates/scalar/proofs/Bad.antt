@@ -10,7 +10,7 @@ use lib.Seq.{take-suc}
 use lib.Ieee.{Float, nan, inf, fin}
 use lib.Ieee.Scale.{finite}
 use Rattle.float.specs.Names.{val}
-use Rattle.steps.proofs.Flags.{neither}
+use Rattle.fold.proofs.Choice.{neither}
 use Rattle.scalar.specs.Blown.{bad, anyBad}
 
 pub bad-is : (x : Float) → not (finite x) ≡ bad x

@@ -13,7 +13,7 @@ use Rattle.utils.specs.Blocks.{fromBlocks, onBlock, toBlocks}
 use Rattle.utils.specs.Dct.{dct8x8, idct8x8}
 use Rattle.utils.proofs.Lengths.{blocks-length, dct-length, fromBlocks-length, idct-length, toBlocks-length, upsample-length}
 use Rattle.steps.specs.Step.{dataAlpha}
-use Rattle.steps.proofs.Laws.{length-cond}
+use Rattle.fold.proofs.Choice.{length-cond}
 use Rattle.scalar.specs.declared.coef.Own.{Own}
 use Rattle.scalar.specs.Coef.{Coef, blockCount, blockH, blockW, dequantise, dequantiseAt, imageData, initDctTarget, pxCount}
 use Rattle.scalar.specs.Auxiliary.{initPixels}

@@ -1,6 +1,6 @@
 // The condition of job 5.
+use fold::flags::either;
 ghost use mathlib.Core.Path.{_≡_};
-ghost use mathlib.Core.Bool.{_||_};
 ghost use Prim.Native.Nat.{_≤_};
 ghost use lib.ListN.{length};
 ghost use Rattle.scalar.specs.Blown.{bad, anyBad, isBlown};
@@ -10,12 +10,6 @@ fn bad(x: f32) -> bool
     ensures { λ r. ⌜ r ≡ bad x ⌝ }
 {
     !float::parts::is_finite(x)
-}
-
-fn either(a: bool, b: bool) -> bool
-    ensures { λ r. ⌜ r ≡ (a || b) ⌝ }
-{
-    a || b
 }
 
 fn any_bad(xs: &[f32]) -> bool

@@ -25,7 +25,7 @@ pub fn all_jobs(jobs: &[u8]) -> bool
 {
     let mut ok = true;
     for k in 0..jobs.len() {
-        ok = record::legal::both(ok, jobs[k] < 5);
+        ok = fold::flags::both(ok, jobs[k] < 5);
     }
     ok
 }
@@ -47,7 +47,7 @@ pub fn serve_refusal(
         return 13;
     }
     let n = jobs.len();
-    let long = record::legal::both(channels == n, answers == n);
+    let long = fold::flags::both(channels == n, answers == n);
     if !long {
         return 8;
     }

@@ -1,6 +1,6 @@
 // The runs of a sheet in both modes, and what solve refuses.
+use fold::flags::both;
 use record::Run;
-use record::legal::both;
 use record::legal::legal;
 use sheet::Header;
 use sheet::Sheet;

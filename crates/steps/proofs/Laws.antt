@@ -1,6 +1,6 @@
 -- What push and move do at each place, and that they keep lengths.
 use mathlib.Core.Path.{_≡_, refl, ap, sym}
-use mathlib.Core.Bool.{Bool, true, false, cond}
+use mathlib.Core.Bool.{Bool, cond}
 use mathlib.Core.List.{List}
 use Prim.Native.Nat.{ℕ, _<_}
 use native.Mathlib.Nat.{le-refl}
@@ -10,6 +10,7 @@ use lib.Seq.{getD-set-same, getD-set-other, ext-getD}
 use lib.Ieee.{Float, nan, ne}
 use Rattle.fold.specs.Fold.{upto}
 use Rattle.fold.proofs.Loops.{upto-keeps, upto-ok}
+use Rattle.fold.proofs.Choice.{length-cond}
 use Rattle.fold.proofs.Local.{local-at}
 use Rattle.float.specs.Ops.{mulAdd}
 use Rattle.float.specs.Names.{_⊖_, f0, val}
@@ -17,11 +18,6 @@ use Rattle.steps.specs.Solve.{Planes, pushAt, pushed}
 use Rattle.steps.specs.Step.{moveAt, moved, movedBy, gradientNorm}
 
 -- ---- lengths
-
--- of either of two lists
-pub length-cond : (b : Bool) (x y : List Float) (n : ℕ) → length x ≡ n → length y ≡ n → length (cond b x y) ≡ n
-length-cond true x y n h k = h
-length-cond false x y n h k = k
 
 pub push-plane-length : (factor : Float) (s : Planes) → length (pushed factor s .plane) ≡ length (s .plane)
 unfolding pushed pushAt

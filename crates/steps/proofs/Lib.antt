@@ -1,4 +1,3 @@
 -- Laws for the crates above.
-pub mod Flags
 pub mod Laws
 pub mod Examples

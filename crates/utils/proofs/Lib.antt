@@ -1,8 +1,6 @@
 -- Laws of the definitions.
-pub mod Divided
 pub mod Opened
 pub mod Places
-pub mod Scatter
 pub mod Moves
 pub mod Lengths
 pub mod Blockwise

@@ -12,11 +12,11 @@ use Rattle.fold.specs.Fold.{upto}
 use Rattle.fold.proofs.Loops.{upto-ext, upto-nest}
 use Rattle.float.specs.Names.{val}
 use Rattle.utils.specs.Blocks.{blockPlace, copyAt, fromBlocks, moveBlock, moveLine, moveLines, moveRow, rasterPlace, rowIndex, rowStart, toBlocks}
-use Rattle.utils.proofs.Divided.{column-of, row-of}
+use Rattle.fold.proofs.Grid.{column-of, row-of}
 use Rattle.utils.proofs.Lengths.{fromBlocks-length, toBlocks-length}
 use Rattle.utils.proofs.Opened.{from-is, to-is}
 use Rattle.utils.proofs.Places.{Placed, placed}
-use Rattle.utils.proofs.Scatter.{sendAt, sent-at, sent-other}
+use Rattle.fold.proofs.Scatter.{sendAt, sent-at, sent-other}
 
 -- place i of block order is column i % 8 of row i % 64 / 8 of the block (i / 64 / bw, i / 64 % bw)
 abbrev spot : (ℕ → ℕ → ℕ → ℕ) → ℕ → ℕ → ℕ

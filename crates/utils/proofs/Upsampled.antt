@@ -6,12 +6,11 @@ use native.Mathlib.Nat.{mul-comm}
 use lib.ListN.{length}
 use lib.Ieee.{Float, nan}
 use Rattle.fold.specs.Fold.{upto}
-use Rattle.fold.proofs.Grid.{in-grid}
+use Rattle.fold.proofs.Grid.{column-of, in-grid, row-of}
 use Rattle.fold.proofs.Loops.{upto-ext, upto-nest}
 use Rattle.fold.proofs.Stores.{storeAt, stored-at}
 use Rattle.float.specs.Names.{val}
 use Rattle.utils.specs.Auxiliary.{sampleOf, upsampleAt, upsamplePixels, upsampleRow}
-use Rattle.utils.proofs.Divided.{column-of, row-of}
 use Rattle.utils.proofs.Opened.{upsample-is}
 
 module _ (image : List Float) (w h across down W H : ℕ) (out : List Float) where

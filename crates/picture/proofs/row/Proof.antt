@@ -6,7 +6,7 @@ use native.Mathlib.Omega.{arith}
 use borrow.Author.Needs.{needs}
 use lib.ListN.{length, drop}
 use Rattle.picture.specs.Finish.{pixel, row}
-use Rattle.picture.proofs.Joins.{fill-none, fill-more, fill-all}
+use Rattle.fold.proofs.Joins.{fill-none, fill-more, fill-all}
 use Rattle.picture.proofs.Pixels.{pixel-length}
 use Rattle.picture.proofs.row.Statement.{statement}
 use Rattle.picture.proofs.row.Tie as tie

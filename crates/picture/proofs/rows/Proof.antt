@@ -7,7 +7,7 @@ use borrow.Author.Needs.{needs}
 use lib.ListN.{length, drop}
 use Rattle.fold.proofs.Grid.{row-end}
 use Rattle.picture.specs.Finish.{picture}
-use Rattle.picture.proofs.Joins.{fill-none, fill-more, fill-all}
+use Rattle.fold.proofs.Joins.{fill-none, fill-more, fill-all}
 use Rattle.picture.proofs.Pixels.{row-length}
 use Rattle.picture.proofs.Sizes.{product-fits, row-in}
 use Rattle.picture.proofs.rows.Statement.{statement}

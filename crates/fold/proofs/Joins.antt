@@ -8,10 +8,10 @@ use native.Mathlib.Numerals.{add-one}
 use native.Mathlib.Omega.{arith}
 use lib.ListN.{length, drop, getD, length-append, drop-of-length-le, List·getD-append}
 use lib.Seq.{getD-append-add, take-at, drop-at, drop-drop}
 use Rattle.fold.specs.Fold.{upto}
 use Rattle.fold.specs.Part.{splice}
 use Rattle.fold.proofs.Grid.{in-grid}
-use Rattle.picture.specs.Finish.{joinUpto}
+use Rattle.fold.specs.Join.{joinUpto}
 
 module _ {A : Type 0} (f : ℕ → List A) (m : ℕ) (each : (k : ℕ) → length (f k) ≡ m) where
   pub join-length : (n : ℕ) → length (joinUpto f n) ≡ n * m
