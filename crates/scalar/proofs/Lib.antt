@@ -1,5 +1,0 @@
--- Laws that the proofs of several functions and the crates above use.
-pub mod Cover
-pub mod Bad
-pub mod Lengths
-pub mod Writes
