@@ -78,11 +78,11 @@ USES = {
     'Rattle.gradients.specs.Tv': 'difference bump bumpUnless tvDifferencesAt tvDifferences gNormOf tvChannelDerivatives tvDerivatives store tvGradientPx tvAlpha tvGradient',
     'Rattle.gradients.specs.Tgv': 'tgvDifferencesAt tgvDifferences g2NormOf tgvBeside tgvUpDown tgvCorners tgvChannelDerivatives tgvDerivatives tgvGradientPx tgvAlpha tgvGradient',
     'Rattle.gradients.specs.Blend': 'blended',
-    'Rattle.scalar.specs.Coef': 'dequantise imageBlock imageData initDctTarget',
-    'Rattle.scalar.specs.Auxiliary': 'initPixels auxInit',
-    'Rattle.scalar.specs.DctGradient': 'cosbOf cosbsOf spread spreadBlock gradientBlock dctGradient dataGradient',
-    'Rattle.scalar.specs.Projection': 'meanOf change splitAt split clampAt clampBlock clamped keep ontoBox back projectFull projectMeans projectOntoBox',
-    'Rattle.scalar.specs.Blown': 'isBlown',
+    'Rattle.start.specs.Coef': 'dequantise imageBlock imageData initDctTarget',
+    'Rattle.start.specs.Auxiliary': 'initPixels auxInit',
+    'Rattle.fidelity.specs.DctGradient': 'cosbOf cosbsOf spread spreadBlock gradientBlock dctGradient dataGradient',
+    'Rattle.projection.specs.Projection': 'meanOf change splitAt split clampAt clampBlock clamped keep ontoBox back projectFull projectMeans projectOntoBox',
+    'Rattle.projection.specs.Blown': 'isBlown',
     'Rattle.solver.specs.Solver': 'pushing fitting blending moving projecting',
 }
 OTHER = '''use mathlib.Core.Path.{_≡_, refl}
@@ -90,8 +90,8 @@ use mathlib.Core.Bool.{true, false}
 use mathlib.Core.List.{List, [], _∷_, _++_, map}
 use lib.IntN.{ℤ, pos, negsuc}
 use Rattle.steps.specs.declared.solve.Constants.{Constants}
-use Rattle.scalar.specs.Buffers.{Buffers}
-use Rattle.scalar.specs.Coef.{Coef}
+use Rattle.start.specs.Buffers.{Buffers}
+use Rattle.start.specs.Coef.{Coef}
 use Rattle.solver.specs.Solver.{starting, blown}
 use lib.Ieee.{Float, binary32}'''
 UNFOLD = ' '.join(USES.values())

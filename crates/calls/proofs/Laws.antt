@@ -5,10 +5,10 @@ use mathlib.Core.Bool.{false}
 use lib.ListN.{getD}
 use lib.Ieee.{nan}
 use Rattle.calls.specs.Run.{Given, count, area, coefs}
-use Rattle.scalar.specs.Buffers.{Buffers}
+use Rattle.start.specs.Buffers.{Buffers}
 use Rattle.calls.specs.Buffers.{channel, Sized}
 use Rattle.calls.specs.Jobs.{Job, push, fidelity, move, project, Jobs}
-use Rattle.scalar.specs.Blown.{bad}
+use Rattle.projection.specs.Blown.{bad}
 use Rattle.calls.specs.Demand.{SavedIn}
 use Rattle.calls.specs.Between.{GivenOk, AllIn}
 

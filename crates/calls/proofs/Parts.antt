@@ -12,7 +12,7 @@ use lib.Ieee.{Float, nan}
 use Rattle.fold.specs.Part.{part, splice}
 use Rattle.fold.proofs.Grid.{row-end}
 use Rattle.fold.proofs.Parts.{part-length, splice-length, part-splice, part-before, part-after}
-use Rattle.scalar.specs.Buffers.{Buffers}
+use Rattle.start.specs.Buffers.{Buffers}
 use Rattle.calls.specs.Buffers.{Name, Plane, Prior, Gradient, Across, Down, Saved, get, make, partOf, putPart, join, channel, putChannel, joined, Sized}
 
 apart : (c d : ℕ) → c ≢ d → (c < d) ⊎ (d < c)

@@ -8,7 +8,7 @@ use lib.Dec.{T, eqb, eqb→eq, leb}
 use lib.Ieee.Fits.{and-l, and-r, and-i, eq→eqb}
 use lib.ListN.{length, getD, replicate, length-replicate, getD-replicate}
 use Rattle.calls.specs.Run.{Sheet, Place, Given, fresh, place, count, area, levelsBefore, blendsIn, sheetOk, placesOk, legal}
-use Rattle.scalar.specs.Buffers.{Buffers}
+use Rattle.start.specs.Buffers.{Buffers}
 use Rattle.calls.specs.Buffers.{channel, joined, Sized}
 use Rattle.calls.specs.Jobs.{Call, Jobs, fixed}
 use Rattle.calls.specs.Calls.{Answer, refused, done, State, Outcome, first, lendTests, allSix, lengths, startRefusal, settle, call, begin, start, answers, final, noneYet, plain, plainAnswers, plainPlaces}

@@ -13,11 +13,11 @@ use lib.ListN.{length, getD, set, take, length-map, length-set}
 use lib.Seq.{getD-take, length-take-le}
 use lib.Ieee.{Float, nan}
 use Rattle.calls.specs.Run.{Sheet, Place, Given, fresh, place, count, area, coefs, levelsBefore, sheetOk, placesOk, legal}
-use Rattle.scalar.specs.Buffers.{Buffers}
+use Rattle.start.specs.Buffers.{Buffers}
 use Rattle.calls.specs.Buffers.{Name, Saved, get, channel, putChannel, joined, Sized}
 use Rattle.calls.specs.Jobs.{Job, push, fidelity, move, project, Call, on, blend, turn, blendTurn, Jobs, next, fixed, isBlown, Seen, seen, seenAt}
-use Rattle.scalar.specs.Blown.{bad, anyBad}
-use Rattle.scalar.specs.Blown as Blown
+use Rattle.projection.specs.Blown.{bad, anyBad}
+use Rattle.projection.specs.Blown as Blown
 use Rattle.calls.specs.Calls.{Answer, refused, done, blown, State, Outcome, first, turnTests, lent, lentLevels, all, lengths, lendTests, refusal, advance, onward, reply, worked, told, accept, settle, call, Plain, plainAccept, plainSettle, plain}
 use Rattle.calls.specs.Between.{GivenOk, AllIn, Inv}
 use Rattle.calls.proofs.Laws.{Laws}

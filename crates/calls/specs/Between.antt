@@ -6,7 +6,7 @@ use mathlib.Core.List.{List}
 use lib.ListN.{length}
 use lib.Dec.{T}
 use Rattle.calls.specs.Run.{Sheet, Place, Given, place, count, area, coefs, levelsBefore, blendsIn, sheetOk}
-use Rattle.scalar.specs.Buffers.{Buffers}
+use Rattle.start.specs.Buffers.{Buffers}
 use Rattle.calls.specs.Buffers.{channel, Sized}
 use Rattle.calls.specs.Jobs.{Jobs, fixed, isBlown}
 use Rattle.calls.specs.Calls.{State, all, levelOk, tableOk}

@@ -5,7 +5,7 @@ use mathlib.Core.List.{List, [], _++_}
 use lib.ListN.{length}
 use lib.Ieee.{Float}
 use Rattle.fold.specs.Part.{part, splice}
-use Rattle.scalar.specs.Buffers.{Buffers}
+use Rattle.start.specs.Buffers.{Buffers}
 
 -- the buffers' names, to say a thing of each of the six once
 pub data Name : Type 0 where

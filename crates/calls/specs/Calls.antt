@@ -6,7 +6,7 @@ use lib.ListN.{length, set, replicate}
 use lib.Dec.{leb, ltb, eqb}
 use lib.IntN.{ℤ, natAbs}
 use Rattle.calls.specs.Run.{Sheet, Place, Given, fresh, place, count, area, levelsBefore, every, among, legal}
-use Rattle.scalar.specs.Buffers.{Buffers}
+use Rattle.start.specs.Buffers.{Buffers}
 use Rattle.calls.specs.Buffers.{Name, Plane, Prior, Gradient, Across, Down, Saved, get, channel, putChannel, joined}
 use Rattle.calls.specs.Jobs.{Job, push, fidelity, move, project, Call, on, blend, turn, blendTurn, Jobs, Seen, seen, seenAt}
 

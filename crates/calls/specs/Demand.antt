@@ -6,7 +6,7 @@ use mathlib.Core.List.{List}
 use lib.ListN.{getD}
 use lib.Ieee.{nan}
 use Rattle.calls.specs.Run.{Place, Given, place, count, area, coefs, level, quantiser}
-use Rattle.scalar.specs.Buffers.{Buffers}
+use Rattle.start.specs.Buffers.{Buffers}
 use Rattle.calls.specs.Buffers.{channel, joined}
 use Rattle.calls.specs.Jobs.{Call, Jobs, fixed}
 use Rattle.interval.specs.Interval.{InInterval}

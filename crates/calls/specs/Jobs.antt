@@ -3,8 +3,8 @@
 use Prim.Native.Nat.{ℕ, zero, suc, _*_, _/_, _%_}
 use mathlib.Core.Bool.{Bool}
 use Rattle.calls.specs.Run.{Given, count, area, coefs}
-use Rattle.scalar.specs.Buffers.{Buffers}
-use Rattle.scalar.specs.Blown as Blown
+use Rattle.start.specs.Buffers.{Buffers}
+use Rattle.projection.specs.Blown as Blown
 use Rattle.calls.specs.Buffers.{channel, joined}
 
 -- the jobs of one channel; `fidelity` is document 01's data, which is a word of antt

@@ -1,6 +1,6 @@
 -- Demand 3 of the solver: nothing is left open. Every definition that its statement leans on:
 --   `Given`, `legal` and what they hold              calls/specs/Run
---   the six buffers, a channel's part, `joined`      scalar/specs/Buffers, calls/specs/Buffers
+--   the six buffers, a channel's part, `joined`      start/specs/Buffers, calls/specs/Buffers
 --   `Job`, `Call`, `fixed`, the recursion            calls/specs/Jobs
 --   `start`, `answers`, `final`, the plain run       calls/specs/Calls
 --   `InInterval`                                     interval/specs/Interval

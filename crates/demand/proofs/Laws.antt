@@ -12,9 +12,9 @@ use lib.Seq.{getD-take, getD-drop}
 use lib.Ieee.{Float, nan}
 use Rattle.fold.specs.Part.{part}
 use Rattle.interval.specs.Interval.{InInterval}
-use Rattle.scalar.specs.Buffers.{Buffers}
-use Rattle.scalar.specs.Blown.{bad}
-use Rattle.scalar.specs.Coef.{Coef, Covers, levelAt, quantAt, pxCount}
+use Rattle.start.specs.Buffers.{Buffers}
+use Rattle.projection.specs.Blown.{bad}
+use Rattle.start.specs.Coef.{Coef, Covers, levelAt, quantAt, pxCount}
 use Rattle.solver.specs.Solver as Solver
 use Rattle.solver.specs.Solver.{starting, pushing, fitting, blending, moving, projecting}
 use Rattle.solver.proofs.Laws as Solver-laws

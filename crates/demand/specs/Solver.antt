@@ -3,8 +3,8 @@ use Prim.Native.Nat.{ℕ, _+_, _*_}
 use Rattle.fold.specs.Part.{part}
 use Rattle.steps.specs.declared.solve.Constants.{Constants}
 use Rattle.steps.specs.Solve.{constants}
-use Rattle.scalar.specs.Buffers.{Buffers}
-use Rattle.scalar.specs.Coef.{Coef, coef}
+use Rattle.start.specs.Buffers.{Buffers}
+use Rattle.start.specs.Coef.{Coef, coef}
 use Rattle.solver.specs.Solver.{starting, pushing, fitting, blending, moving, projecting}
 use Rattle.calls.specs.Run.{Sheet, Given, own, count, coefs, levelsBefore}
 use Rattle.calls.specs.Jobs.{Job, push, fidelity, move, project, Jobs}

@@ -12,8 +12,8 @@ use Rattle.float.specs.Names.{_⊘_, f0, float, val}
 use Rattle.utils.specs.Dct.{idct8x8}
 use Rattle.interval.specs.Interval.{whole}
 use Rattle.steps.specs.Step.{dataAlpha}
-use Rattle.scalar.specs.declared.coef.Own.{Own}
-use Rattle.scalar.specs.Coef.{Coef, blockW, blockH, levelAt, quantAt}
+use Rattle.start.specs.declared.coef.Own.{Own}
+use Rattle.start.specs.Coef.{Coef, blockW, blockH, levelAt, quantAt, spot}
 
 -- cosb = level.mul_add(-quantiser, cosb); cosb /= quantiser.powi(2)
 unfoldable pub cosbOf : ℤ → ℕ → Float → Float
@@ -25,10 +25,6 @@ cosbAt levels table i j cosbs = set cosbs j (cosbOf (levelAt levels (i * 64 + j)
 -- block i of the saved coefficients (cos), copied, differenced and transformed
 unfoldable pub cosbsOf : List ℤ → List ℕ → List Float → ℕ → List Float
 cosbsOf levels table cos i = idct8x8 (upto (cosbAt levels table i) 64 (part cos (i * 64) (i * 64 + 64)))
-
--- the place in the full plane, of width W, of the subsample (sx, sy) of the own sample (cx, cy)
-abbrev pub spot : Own → ℕ → ℕ → ℕ → ℕ → ℕ → ℕ
-spot o W cy cx sy sx = (cy * o .down + sy) * W + (cx * o .across + sx)
 
 -- gradient[spot] = alpha.mul_add(v, gradient[spot]), for each sx, for each sy
 abbrev pub spreadAt : Own → ℕ → Float → Float → ℕ → ℕ → ℕ → ℕ → List Float → List Float

@@ -1,11 +1,10 @@
 // dct_gradient.rs: the gradient of the distance of the saved coefficients from the quantised ones.
-use crate::auxiliary;
-use crate::coef::Own;
+use start::coef::Own;
 ghost use mathlib.Core.Path.{_≡_};
 ghost use Prim.Native.Nat.{_+_, _*_, _/_, _≤_, _<_, _^_};
 ghost use lib.ListN.{length};
-ghost use Rattle.scalar.specs.Coef.{Covers, Eights, Lent, coef};
-ghost use Rattle.scalar.specs.DctGradient.{cosbOf, cosbsOf, spot, spread, spreadBlock, dctGradient, dataGradient};
+ghost use Rattle.start.specs.Coef.{Covers, Eights, Lent, coef};
+ghost use Rattle.fidelity.specs.DctGradient.{cosbOf, cosbsOf, spread, spreadBlock, dctGradient, dataGradient};
 
 // A coefficient's difference from level × quantiser, over the quantiser's square.
 fn cosb_of(level: i16, q: u16, cosb: f32) -> f32
@@ -32,16 +31,6 @@ fn cosbs_of(cos: &[f32], levels: &[i16], table: &[u16], i: usize) -> [f32; 64]
     cosbs
 }
 
-// The place in the full plane of the subsample (sx, sy) of the own sample (cx, cy).
-pub fn spot(o: Own, w: usize, h: usize, cy: usize, cx: usize, sy: usize, sx: usize) -> usize
-    requires { ⌜ Covers o w h × (cy < o .height) × (cx < o .width) × (sy < o .down) × (sx < o .across) ⌝ }
-    ensures { λ r. ⌜ (r ≡ spot o w cy cx sy sx) × (r < w * h) ⌝ }
-{
-    let across = o.across;
-    let down = o.down;
-    (cy * down + sy) * w + (cx * across + sx)
-}
-
 // v, times alpha, is added at the places of the own sample (cx, cy).
 fn spread(
     gradient: &mut [f32],
@@ -60,7 +49,7 @@ fn spread(
     let down = o.down;
     for sy in 0..down {
         for sx in 0..across {
-            let k = spot(o, w, h, cy, cx, sy, sx);
+            let k = start::coef::spot(o, w, h, cy, cx, sy, sx);
             gradient[k] = float::mul_add(alpha, v, gradient[k]);
         }
     }
@@ -145,7 +134,7 @@ pub fn data(
     requires { ⌜ Covers o w h × Lent o (now levels) (now table) × (length (now saved) ≡ w * h) × (length (now gradient) ≡ w * h) ⌝ }
     ensures { λ _. ⌜ now (gradient .exit) ≡ dataGradient (coef o (now (levels .entry)) (now (table .entry))) w h weight (now (saved .entry)) ⌝ }
 {
-    auxiliary::zeros(gradient, w * h);
+    start::auxiliary::zeros(gradient, w * h);
     if weight != 0.0 {
         let alpha = steps::step::data_alpha(weight);
         dct_gradient(saved, gradient, o, w, h, alpha, levels, table);

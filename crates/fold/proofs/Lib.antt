@@ -7,3 +7,4 @@ pub mod Grid
 pub mod Choice
 pub mod Scatter
 pub mod Joins
+pub mod Turned

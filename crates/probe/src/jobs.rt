@@ -1,6 +1,6 @@
 // The solver's jobs on lent slices. A channel's own sides and factors are four numbers here.
 use gradients::grid::Grid;
-use scalar::coef::Own;
+use start::coef::Own;
 use steps::solve::step_constants;
 ghost use mathlib.Core.Path.{_≡_};
 ghost use mathlib.Core.Bool.{cond};
@@ -9,11 +9,11 @@ ghost use lib.ListN.{length};
 ghost use Rattle.steps.specs.Solve.{constants, pushed};
 ghost use Rattle.steps.specs.Step.{moved};
 ghost use Rattle.gradients.specs.Blend.{blended};
-ghost use Rattle.scalar.specs.Auxiliary.{auxInit};
-ghost use Rattle.scalar.specs.Blown.{isBlown};
-ghost use Rattle.scalar.specs.Coef.{Covers, Lent, coef};
-ghost use Rattle.scalar.specs.DctGradient.{dataGradient};
-ghost use Rattle.scalar.specs.Projection.{projectOntoBox};
+ghost use Rattle.start.specs.Auxiliary.{auxInit};
+ghost use Rattle.projection.specs.Blown.{isBlown};
+ghost use Rattle.start.specs.Coef.{Covers, Lent, coef};
+ghost use Rattle.fidelity.specs.DctGradient.{dataGradient};
+ghost use Rattle.projection.specs.Projection.{projectOntoBox};
 ghost use Rattle.probe.specs.Jobs.{own};
 
 // Start of one channel: own sides `width` and `height`, factors fx across and fy down, full sides w and h.
@@ -54,7 +54,7 @@ pub extern "C" fn probe_start(
         across: fx,
         down: fy,
     };
-    scalar::auxiliary::start(
+    start::auxiliary::start(
         plane,
         prior,
         gradient,
@@ -116,7 +116,7 @@ pub extern "C" fn probe_data(
         across: fx,
         down: fy,
     };
-    scalar::dct_gradient::data(saved, gradient, o, w, h, weight, levels, table);
+    fidelity::dct_gradient::data(saved, gradient, o, w, h, weight, levels, table);
 }
 
 // Job 3 of a run with n channels.
@@ -195,7 +195,7 @@ pub extern "C" fn probe_project(
         across: fx,
         down: fy,
     };
-    scalar::projection::project_onto_box(plane, across, down, saved, o, w, h, levels, table);
+    projection::projection::project_onto_box(plane, across, down, saved, o, w, h, levels, table);
 }
 
 // The condition of job 5, of the plane and the n saved coefficients: 1 where it holds, 0 where not.
@@ -204,7 +204,7 @@ pub extern "C" fn probe_blown(plane: &[f32], saved: &[f32], n: usize) -> u32
     requires { ⌜ n ≤ length (now saved) ⌝ }
     ensures { λ r. ⌜ r ≡ cond (isBlown n (now (plane .entry)) (now (saved .entry))) 1 0 ⌝ }
 {
-    if scalar::blown::is_blown(plane, saved, n) {
+    if projection::blown::is_blown(plane, saved, n) {
         return 1;
     }
     0

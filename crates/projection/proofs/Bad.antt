@@ -11,7 +11,7 @@ use lib.Ieee.{Float, nan, inf, fin}
 use lib.Ieee.Scale.{finite}
 use Rattle.float.specs.Names.{val}
 use Rattle.fold.proofs.Choice.{neither}
-use Rattle.scalar.specs.Blown.{bad, anyBad}
+use Rattle.projection.specs.Blown.{bad, anyBad}
 
 pub bad-is : (x : Float) → not (finite x) ≡ bad x
 bad-is nan = refl

@@ -2,74 +2,23 @@
 use mathlib.Core.Path.{_≡_, _∙_}
 use mathlib.Core.Bool.{Bool, true, false, cond}
 use mathlib.Core.List.{List}
-use Prim.Native.Nat.{ℕ, _*_}
+use Prim.Native.Nat.{ℕ}
 use lib.IntN.{ℤ}
-use lib.ListN.{length, replicate, length-set, length-replicate}
-use lib.Ieee.{Float, ne}
+use lib.ListN.{length, length-set}
+use lib.Ieee.{Float}
 use Rattle.fold.specs.Fold.{upto}
 use Rattle.fold.proofs.Loops.{upto-keeps}
-use Rattle.float.specs.Names.{_⊕_, _⊖_, f0}
+use Rattle.float.specs.Names.{_⊕_, _⊖_}
 use Rattle.utils.specs.Blocks.{fromBlocks, onBlock, toBlocks}
 use Rattle.utils.specs.Dct.{dct8x8, idct8x8}
-use Rattle.utils.proofs.Lengths.{blocks-length, dct-length, fromBlocks-length, idct-length, toBlocks-length, upsample-length}
-use Rattle.steps.specs.Step.{dataAlpha}
-use Rattle.fold.proofs.Choice.{length-cond}
-use Rattle.scalar.specs.declared.coef.Own.{Own}
-use Rattle.scalar.specs.Coef.{Coef, blockCount, blockH, blockW, dequantise, dequantiseAt, imageData, initDctTarget, pxCount}
-use Rattle.scalar.specs.Auxiliary.{initPixels}
-use Rattle.scalar.specs.DctGradient.{cellAt, cellRow, cosbsOf, dataGradient, dctGradient, gradientBlock, gradientLine, spread, spreadAt, spreadBlock, spreadRow}
-use Rattle.scalar.specs.Projection.{Box, Boxed, Split, back, backAt, backRow, change, changeAt, changeRow, clampAt, clampBlock, clamped, keep, keepAt, ontoBox, projectFull, projectMeans, projectOntoBox, resample, split, splitAt, splitRow}
-
--- a loop over lists
-loop : (f : ℕ → List Float → List Float) → ((k : ℕ) (a : List Float) → length (f k a) ≡ length a) → (n : ℕ) (a : List Float) → length (upto f n a) ≡ length a
-loop f h n a = upto-keeps length f h n a
-
--- ---- coef.rs, auxiliary.rs
-
-dequantise-length : (levels : List ℤ) (table : List ℕ) (i : ℕ) (out : List Float) → length (dequantise levels table i out) ≡ length out
-unfolding dequantise
-dequantise-length levels table i out = loop (dequantiseAt levels table i) (λ k a. simp length-set) 64 out
-
-pub initDctTarget-length : (C : Coef) (out : List Float) → length (initDctTarget C out) ≡ length out
-unfolding initDctTarget
-initDctTarget-length C out = loop (dequantise (C .levels) (C .table)) (dequantise-length (C .levels) (C .table)) (blockCount (C .own)) out
-
-pub initPixels-length : (C : Coef) (W H : ℕ) → length (initPixels C W H) ≡ W * H
-unfolding initPixels
-initPixels-length C W H =
-    let o = C .own in
-    upsample-length (imageData C) (o .width) (o .height) (o .across) (o .down) W H (replicate (W * H) f0) ∙ length-replicate (W * H) f0
-
--- ---- dct_gradient.rs
-
-spread-length : (o : Own) (W : ℕ) (alpha v : Float) (cy cx : ℕ) (g : List Float) → length (spread o W alpha v cy cx g) ≡ length g
-unfolding spread
-spread-length o W alpha v cy cx g =
-    loop (spreadRow o W alpha v cy cx) (λ sy a. loop (spreadAt o W alpha v cy cx sy) (λ sx b. simp length-set) (o .across) a) (o .down) g
-
-gradientBlock-length : (C : Coef) (W : ℕ) (alpha : Float) (cos : List Float) (by bx : ℕ) (g : List Float) → length (gradientBlock C W alpha cos by bx g) ≡ length g
-unfolding gradientBlock spreadBlock
-gradientBlock-length C W alpha cos by bx g =
-    let cosbs = cosbsOf (C .levels) (C .table) cos _ in
-    loop (cellRow (C .own) W alpha cosbs by bx) (λ y a. loop (cellAt (C .own) W alpha cosbs by bx y) (λ x b. spread-length (C .own) W alpha _ _ _ b) 8 a) 8 g
-
-pub dctGradient-length : (C : Coef) (W : ℕ) (alpha : Float) (cos g : List Float) → length (dctGradient C W alpha cos g) ≡ length g
-unfolding dctGradient
-dctGradient-length C W alpha cos g =
-    loop (gradientLine C W alpha cos) (λ by a. loop (gradientBlock C W alpha cos by) (gradientBlock-length C W alpha cos by) (blockW (C .own)) a) (blockH (C .own)) g
-
-pub dataGradient-length : (C : Coef) (W H : ℕ) (weight : Float) (saved : List Float) → length (dataGradient C W H weight saved) ≡ W * H
-unfolding dataGradient
-dataGradient-length C W H weight saved =
-    let zeros = replicate (W * H) f0 in
-    let n : length zeros ≡ W * H = length-replicate (W * H) f0 in
-    length-cond (ne weight f0) (dctGradient C W (dataAlpha weight) saved zeros) zeros (W * H) (dctGradient-length C W (dataAlpha weight) saved zeros ∙ n) n
-
--- ---- projection.rs
+use Rattle.utils.proofs.Lengths.{blocks-length, dct-length, fromBlocks-length, idct-length, toBlocks-length}
+use Rattle.start.specs.declared.coef.Own.{Own}
+use Rattle.start.specs.Coef.{Coef, blockCount, blockH, blockW, pxCount}
+use Rattle.projection.specs.Projection.{Box, Boxed, Split, back, backAt, backRow, change, changeAt, changeRow, clampAt, clampBlock, clamped, keep, keepAt, ontoBox, projectFull, projectMeans, projectOntoBox, resample, split, splitAt, splitRow}
 
 change-length : (f : Float → Float) (o : Own) (W cy cx : ℕ) (p : List Float) → length (change f o W cy cx p) ≡ length p
 unfolding change
-change-length f o W cy cx p = loop (changeRow f o W cy cx) (λ sy a. loop (changeAt f o W cy cx sy) (λ sx b. simp length-set) (o .across) a) (o .down) p
+change-length f o W cy cx p = upto-keeps length (changeRow f o W cy cx) (λ sy a. upto-keeps length (changeAt f o W cy cx sy) (λ sx b. simp length-set) (o .across) a) (o .down) p
 
 split-keeps : (f : Split → ℕ) (o : Own) (W : ℕ) → ((cy cx : ℕ) (s : Split) → f (splitAt o W cy cx s) ≡ f s) → (s : Split) → f (split o W s) ≡ f s
 unfolding split
@@ -85,7 +34,7 @@ split-down-length o W s = split-keeps (λ s. length (s .down)) o W (λ cy cx t. 
 
 clampBlock-length : (levels : List ℤ) (table : List ℕ) (i : ℕ) (x : List Float) → length (clampBlock levels table i x) ≡ length x
 unfolding clampBlock clampAt
-clampBlock-length levels table i x = loop (clampAt levels table i) (λ j b. simp length-set) 64 x
+clampBlock-length levels table i x = upto-keeps length (clampAt levels table i) (λ j b. simp length-set) 64 x
 
 pub dcts-length : (n : ℕ) (x : List Float) → length (upto (onBlock dct8x8) n x) ≡ length x
 dcts-length n x = blocks-length dct8x8 dct-length n x
@@ -93,16 +42,16 @@ dcts-length n x = blocks-length dct8x8 dct-length n x
 pub clamped-length : (C : Coef) (x : List Float) → length (clamped C x) ≡ length x
 unfolding clamped
 clamped-length C x =
-    loop (clampBlock (C .levels) (C .table)) (clampBlock-length (C .levels) (C .table)) (blockCount (C .own)) (upto (onBlock dct8x8) (blockCount (C .own)) x)
+    upto-keeps length (clampBlock (C .levels) (C .table)) (clampBlock-length (C .levels) (C .table)) (blockCount (C .own)) (upto (onBlock dct8x8) (blockCount (C .own)) x)
     ∙ dcts-length (blockCount (C .own)) x
 
 pub keep-length : (n : ℕ) (x saved : List Float) → length (keep n x saved) ≡ length saved
 unfolding keep
-keep-length n x saved = loop (keepAt x) (λ k a. simp length-set) n saved
+keep-length n x saved = upto-keeps length (keepAt x) (λ k a. simp length-set) n saved
 
 back-length : (o : Own) (W : ℕ) (down p : List Float) → length (back o W down p) ≡ length p
 unfolding back
-back-length o W down p = loop (backRow o W down) (λ cy a. loop (backAt o W down cy) (λ cx b. change-length (λ x. x ⊕ _) o W cy cx b) (o .width) a) (o .height) p
+back-length o W down p = upto-keeps length (backRow o W down) (λ cy a. upto-keeps length (backAt o W down cy) (λ cx b. change-length (λ x. x ⊕ _) o W cy cx b) (o .width) a) (o .height) p
 
 -- all four buffers of project
 pub record BoxLong (n : ℕ) (b : Box) : Type 0 where

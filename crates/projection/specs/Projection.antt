@@ -11,9 +11,8 @@ use Rattle.float.specs.Names.{_⊕_, _⊖_, _⊘_, f0, float, val}
 use Rattle.utils.specs.Blocks.{fromBlocks, onBlock, toBlocks}
 use Rattle.utils.specs.Dct.{dct8x8, idct8x8}
 use Rattle.interval.specs.Interval.{clampTo}
-use Rattle.scalar.specs.declared.coef.Own.{Own}
-use Rattle.scalar.specs.Coef.{Coef, blockW, blockH, blockCount, pxCount, levelAt, quantAt}
-use Rattle.scalar.specs.DctGradient.{spot}
+use Rattle.start.specs.declared.coef.Own.{Own}
+use Rattle.start.specs.Coef.{Coef, blockW, blockH, blockCount, pxCount, levelAt, quantAt, spot}
 
 -- what project works on: plane (fdata), across (pixel_diff.x), down (pixel_diff.y) and saved (cos)
 pub record Box : Type 0 where

@@ -3,7 +3,7 @@ use fold::flags::either;
 ghost use mathlib.Core.Path.{_≡_};
 ghost use Prim.Native.Nat.{_≤_};
 ghost use lib.ListN.{length};
-ghost use Rattle.scalar.specs.Blown.{bad, anyBad, isBlown};
+ghost use Rattle.projection.specs.Blown.{bad, anyBad, isBlown};
 
 // NaN or infinite.
 fn bad(x: f32) -> bool

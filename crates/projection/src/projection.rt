@@ -1,15 +1,13 @@
 // projection.rs: the projection of each block onto its coefficients' intervals.
-use crate::coef;
-use crate::coef::Own;
-use crate::dct_gradient;
+use start::coef::Own;
 ghost use mathlib.Core.Path.{_≡_};
 ghost use Prim.Native.Nat.{_+_, _*_, _/_, _≤_, _<_};
 ghost use mathlib.Core.List.{List};
 ghost use lib.ListN.{length};
 ghost use lib.Ieee.{Float};
 ghost use Rattle.float.specs.Names.{_⊕_, float};
-ghost use Rattle.scalar.specs.Coef.{Covers, Eights, Lent, coef};
-ghost use Rattle.scalar.specs.Projection.{resample, meanOf, change, splitAt, split, clampBlock, clamped, keep, ontoBox, back, projectFull, projectMeans, projectOntoBox};
+ghost use Rattle.start.specs.Coef.{Covers, Eights, Lent, coef};
+ghost use Rattle.projection.specs.Projection.{resample, meanOf, change, splitAt, split, clampBlock, clamped, keep, ontoBox, back, projectFull, projectMeans, projectOntoBox};
 
 fn resample(o: Own, w: usize, h: usize) -> bool
     ensures { λ r. ⌜ r ≡ resample o w h ⌝ }
@@ -37,7 +35,7 @@ fn mean_of(plane: &[f32], o: Own, w: usize, h: usize, cy: usize, cx: usize) -> f
     let mut mean = 0.0f32;
     for sy in 0..down {
         for sx in 0..across {
-            let k = dct_gradient::spot(o, w, h, cy, cx, sy, sx);
+            let k = start::coef::spot(o, w, h, cy, cx, sy, sx);
             mean += plane[k];
         }
     }
@@ -53,7 +51,7 @@ fn add_to(plane: &mut [f32], o: Own, w: usize, h: usize, m: f32, cy: usize, cx: 
     let down = o.down;
     for sy in 0..down {
         for sx in 0..across {
-            let k = dct_gradient::spot(o, w, h, cy, cx, sy, sx);
+            let k = start::coef::spot(o, w, h, cy, cx, sy, sx);
             plane[k] += m;
         }
     }
@@ -127,7 +125,7 @@ fn clamped(x: &mut [f32], o: Own, levels: &[i16], table: &[u16])
     requires { ⌜ Eights o × Lent o (now levels) (now table) × (o .width * o .height ≤ length (now x)) ⌝ }
     ensures { λ _. ⌜ now (x .exit) ≡ clamped (coef o (now (levels .entry)) (now (table .entry))) (now (x .entry)) ⌝ }
 {
-    let n = coef::block_count(o);
+    let n = start::coef::block_count(o);
     utils::dct::dct_blocks(x, n);
     for i in 0..n {
         clamp_block(x, levels, table, i);
@@ -158,8 +156,8 @@ fn onto_box(
     ensures { λ _. ⌜ record { across = now (across .exit); saved = now (saved .exit) }
         ≡ ontoBox (coef o (now (levels .entry)) (now (table .entry))) (record { across = now (across .entry); saved = now (saved .entry) }) ⌝ }
 {
-    let count = coef::px_count(o, w, h);
-    let n = coef::block_count(o);
+    let count = start::coef::px_count(o, w, h);
+    let n = start::coef::block_count(o);
     clamped(across, o, levels, table);
     keep(saved, &across[..], count);
     utils::dct::idct_blocks(across, n);

@@ -2,8 +2,8 @@
 use mathlib.Core.Path.{_≡_, refl, sym, ap₂, _∙_, subst}
 use Prim.Native.Nat.{ℕ, _*_}
 use lib.Dec.{lit<, lit≤}
-use Rattle.scalar.specs.declared.coef.Own.{Own}
-use Rattle.scalar.specs.Coef.{Covers}
+use Rattle.start.specs.declared.coef.Own.{Own}
+use Rattle.start.specs.Coef.{Covers}
 
 module _ (o : Own) (e : o ≡ record { width = 8; height = 8; across = 1; down = 1 }) where
   pub covers : Covers o 8 8

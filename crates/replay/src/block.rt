@@ -3,7 +3,7 @@
 use float::bits::from_bits;
 use float::bits::to_bits;
 use gradients::grid::Grid;
-use scalar::coef::Own;
+use start::coef::Own;
 use steps::solve::Constants;
 use words::next_word;
 use words::number;
@@ -83,7 +83,7 @@ fn start64(
         × (length (now down) ≡ 64) × (length (now saved) ≡ 64) × (length (now levels) ≡ 64) × (length (now table) ≡ 64) ⌝ }
 {
     let o = own();
-    scalar::auxiliary::start(
+    start::auxiliary::start(
         plane,
         prior,
         gradient,
@@ -103,7 +103,7 @@ fn data64(saved: &[f32], gradient: &mut [f32], weight: f32, levels: &[i16], tabl
     requires { ⌜ (length (now saved) ≡ 64) × (length (now gradient) ≡ 64) × (length (now levels) ≡ 64) × (length (now table) ≡ 64) ⌝ }
 {
     let o = own();
-    scalar::dct_gradient::data(saved, gradient, o, 8, 8, weight, levels, table);
+    fidelity::dct_gradient::data(saved, gradient, o, 8, 8, weight, levels, table);
 }
 
 // Job 5.
@@ -119,7 +119,7 @@ fn project64(
         × (length (now levels) ≡ 64) × (length (now table) ≡ 64) ⌝ }
 {
     let o = own();
-    scalar::projection::project_onto_box(plane, across, down, saved, o, 8, 8, levels, table);
+    projection::projection::project_onto_box(plane, across, down, saved, o, 8, 8, levels, table);
 }
 
 // Jobs 3 and 4.

@@ -7,8 +7,8 @@ use lib.IntN.{ℤ}
 use lib.ListN.{length}
 use Rattle.fold.specs.Part.{part}
 use Rattle.fold.proofs.Parts.{part-length}
-use Rattle.scalar.specs.declared.coef.Own as Sides
-use Rattle.scalar.specs.Coef.{Covers, Lent}
+use Rattle.start.specs.declared.coef.Own as Sides
+use Rattle.start.specs.Coef.{Covers, Lent}
 use Rattle.calls.specs.Run.{own, coefs, levelsBefore}
 use Rattle.demand.proofs.Laws.{covers-of}
 use Rattle.record.specs.declared.Run.{Run}

@@ -3,13 +3,13 @@ use mathlib.Core.Path.{_≡_, refl, _∙_}
 use mathlib.Core.List.{List}
 use Prim.Native.Nat.{ℕ, _+_, _*_, _<_}
 use lib.Ieee.{Float}
-use Rattle.scalar.specs.Buffers.{Buffers}
+use Rattle.start.specs.Buffers.{Buffers}
 use Rattle.steps.specs.declared.solve.Constants.{Constants}
 use Rattle.steps.specs.Solve.{Planes, pushedPart}
 use Rattle.steps.specs.Step.{movedPart}
-use Rattle.scalar.specs.Projection.{Box}
-use Rattle.scalar.specs.Blown.{isBlown}
-use Rattle.scalar.proofs.Lengths.{BoxLong, projected-long}
+use Rattle.projection.specs.Projection.{Box}
+use Rattle.projection.specs.Blown.{isBlown}
+use Rattle.projection.proofs.Lengths.{BoxLong, projected-long}
 use Rattle.calls.specs.Run.{Given, own, count, area, coefs}
 use Rattle.calls.specs.Buffers.{partOf, channel, putChannel}
 use Rattle.calls.proofs.Parts.{put-part, length-part, length-put, part-put-same}

@@ -9,7 +9,7 @@ use lib.Dec.{T, eqb, eqb→eq}
 use lib.Ieee.Fits.{and-l, and-r}
 use lib.IntN.{ℤ}
 use lib.ListN.{length, set}
-use Rattle.scalar.specs.Buffers.{Buffers}
+use Rattle.start.specs.Buffers.{Buffers}
 use Rattle.calls.specs.Run.{place}
 use Rattle.calls.specs.Buffers.{putChannel}
 use Rattle.calls.specs.Jobs.{Job, project, Call, on, blend, turn, Seen}

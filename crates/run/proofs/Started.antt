@@ -10,10 +10,10 @@ use lib.IntN.{ℤ}
 use lib.ListN.{length}
 use Rattle.fold.specs.Fold.{upto}
 use Rattle.fold.specs.Part.{part, splice}
-use Rattle.scalar.specs.Buffers.{Buffers}
-use Rattle.scalar.specs.declared.coef.Own as Sides
-use Rattle.scalar.specs.Coef.{coef}
-use Rattle.scalar.specs.Auxiliary.{auxInit}
+use Rattle.start.specs.Buffers.{Buffers}
+use Rattle.start.specs.declared.coef.Own as Sides
+use Rattle.start.specs.Coef.{coef}
+use Rattle.start.specs.Auxiliary.{auxInit}
 use Rattle.solver.proofs.Laws.{starting-sized}
 use Rattle.calls.specs.Run.{Given, fresh, count, area, coefs, levelsBefore}
 use Rattle.calls.specs.Buffers.{Plane, Prior, Gradient, Across, Down, Saved, get, channel, putChannel, joined, Sized}

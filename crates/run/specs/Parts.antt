@@ -6,10 +6,10 @@ use mathlib.Core.List.{List}
 use lib.IntN.{ℤ}
 use lib.ListN.{length}
 use lib.Ieee.{Float}
-use Rattle.scalar.specs.Buffers.{Buffers}
-use Rattle.scalar.specs.DctGradient.{dataGradient}
-use Rattle.scalar.specs.Projection.{Box, projectOntoBox}
-use Rattle.scalar.specs.Blown.{isBlown}
+use Rattle.start.specs.Buffers.{Buffers}
+use Rattle.fidelity.specs.DctGradient.{dataGradient}
+use Rattle.projection.specs.Projection.{Box, projectOntoBox}
+use Rattle.projection.specs.Blown.{isBlown}
 use Rattle.calls.specs.Run.{Given, own, area, coefs, levelsBefore}
 use Rattle.calls.specs.Buffers.{partOf, putPart, putChannel}
 use Rattle.demand.specs.Solver.{coefOf, jobs}

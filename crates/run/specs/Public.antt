@@ -5,7 +5,7 @@ use mathlib.Core.Path.{_≡_}
 use mathlib.Core.List.{List}
 use lib.IntN.{ℤ}
 use lib.Ieee.{Float}
-use Rattle.scalar.specs.Buffers.{Buffers}
+use Rattle.start.specs.Buffers.{Buffers}
 use Rattle.calls.specs.Jobs.{push, fidelity, move, project, Call, on, blend}
 use Rattle.calls.specs.Calls as Calls
 use Rattle.demand.specs.Solver.{jobs}

@@ -1,7 +1,7 @@
 // What a job of one channel is handed: its own sides, and its part of the levels and of the tables.
 use record::Run;
 use record::Seen;
-use scalar::coef::Own;
+use start::coef::Own;
 ghost use mathlib.Core.Path.{_≡_};
 ghost use Prim.Native.Nat.{_+_, _*_, _<_};
 ghost use lib.ListN.{length};
@@ -9,7 +9,7 @@ ghost use Rattle.fold.specs.Fold.{upto};
 ghost use Rattle.fold.specs.Part.{part};
 ghost use Rattle.calls.specs.Run.{own, coefs, levelsBefore};
 ghost use Rattle.calls.specs.Buffers.{partOf};
-ghost use Rattle.scalar.specs.Blown.{isBlown};
+ghost use Rattle.projection.specs.Blown.{isBlown};
 ghost use Rattle.record.specs.Model.{Legal, sheetOf, givenOf};
 ghost use Rattle.run.specs.Parts.{Fed, FedAll, Whole, fittedPart, projectedPart, blownPart, startedPart};
 
@@ -74,7 +74,7 @@ pub fn data_part(
     let ts = table_of(run, c, tables);
     let w = run.w as usize;
     let h = run.h as usize;
-    scalar::dct_gradient::data(
+    fidelity::dct_gradient::data(
         &saved[from..to],
         &mut gradient[from..to],
         o,
@@ -110,7 +110,7 @@ pub fn project_part(
     let ts = table_of(run, c, tables);
     let w = run.w as usize;
     let h = run.h as usize;
-    scalar::projection::project_onto_box(
+    projection::projection::project_onto_box(
         &mut plane[from..to],
         &mut across[from..to],
         &mut down[from..to],
@@ -133,7 +133,7 @@ pub fn blown_part(run: Run, c: u32, plane: &[f32], saved: &[f32]) -> bool
     let to = s.to;
     let x = run.channels[c as usize];
     let n = (x.width as usize) * (x.height as usize);
-    scalar::blown::is_blown(&plane[from..to], &saved[from..to], n)
+    projection::blown::is_blown(&plane[from..to], &saved[from..to], n)
 }
 
 // Job 5 on channel c's part, and what it tells of the channel.
@@ -186,7 +186,7 @@ pub fn start_part(
     let ts = table_of(run, c, tables);
     let w = run.w as usize;
     let h = run.h as usize;
-    scalar::auxiliary::start(
+    start::auxiliary::start(
         &mut plane[from..to],
         &mut prior[from..to],
         &mut gradient[from..to],

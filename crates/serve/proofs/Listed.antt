@@ -9,7 +9,7 @@ use lib.IntN.{ℤ}
 use lib.Dec.{T, ltb, ltb→lt}
 use lib.ListN.{length, getD, set, take, drop, length-map, length-set, drop-of-length-le}
 use lib.Seq.{take-all, drop-cons, take-suc-set, append-snoc}
-use Rattle.scalar.specs.Buffers.{Buffers}
+use Rattle.start.specs.Buffers.{Buffers}
 use Rattle.calls.specs.Run.{Given, Place, Sheet}
 use Rattle.calls.specs.Jobs.{Call, on, blend}
 use Rattle.calls.specs.Calls.{State, Outcome, settle, accept, refusal, lengths, lent, call, answers, final, onward}

@@ -9,7 +9,7 @@ use lib.Ieee.Fits.{and-l, and-r}
 use borrow.Author.Tests.{not-false}
 use lib.IntN.{ℤ}
 use lib.ListN.{length, length-map}
-use Rattle.scalar.specs.Buffers.{Buffers}
+use Rattle.start.specs.Buffers.{Buffers}
 use Rattle.calls.specs.Run.{Given, fresh, area}
 use Rattle.calls.specs.Buffers.{channel}
 use Rattle.calls.specs.Jobs.{Call}

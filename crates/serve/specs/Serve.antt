@@ -7,7 +7,7 @@ use mathlib.Core.List.{List, [], _∷_, map}
 use lib.Dec.{ltb, eqb}
 use lib.IntN.{ℤ}
 use lib.ListN.{length}
-use Rattle.scalar.specs.Buffers.{Buffers}
+use Rattle.start.specs.Buffers.{Buffers}
 use Rattle.calls.specs.Run.{Given, Place, place, count, area, coefs}
 use Rattle.calls.specs.Buffers.{channel, joined}
 use Rattle.calls.specs.Jobs.{push, fidelity, move, project, Call, on, blend, fixed}

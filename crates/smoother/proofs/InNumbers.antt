@@ -3,7 +3,7 @@ use mathlib.Core.Path.{_≡_, sym, ap, _∙_}
 use mathlib.Core.List.{List}
 use Prim.Native.Nat.{ℕ}
 use lib.IntN.{ℤ}
-use Rattle.scalar.specs.Buffers.{Buffers}
+use Rattle.start.specs.Buffers.{Buffers}
 use Rattle.record.specs.declared.Run.{Run}
 use Rattle.record.specs.declared.Answer.{Answer}
 use Rattle.record.specs.Model.{answerOf}

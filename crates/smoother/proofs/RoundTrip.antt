@@ -14,7 +14,7 @@ use Rattle.text.specs.declared.weight.Weight.the-variants as weight
 use Rattle.text.specs.Weights.{valueOf}
 use Rattle.sheet.specs.declared.Sheet.{Sheet}
 use Rattle.fold.specs.Part.{part}
-use Rattle.scalar.specs.Buffers.{Buffers}
+use Rattle.start.specs.Buffers.{Buffers}
 use Rattle.calls.specs.Run.{Given, levelsBefore, every, among}
 use Rattle.calls.specs.Buffers.{joined}
 use Rattle.calls.specs.Calls.{Answer, startRefusal, lengths, allSix}

@@ -12,7 +12,7 @@ use Rattle.text.specs.declared.weight.Weight.the-variants as weight
 use Rattle.sheet.specs.declared.Sheet.{Sheet}
 use Rattle.sheet.specs.declared.Header.{Header}
 use Rattle.sheet.specs.declared.Channel.{Channel}
-use Rattle.scalar.specs.Buffers.{Buffers}
+use Rattle.start.specs.Buffers.{Buffers}
 use Rattle.calls.specs.Calls.{Answer, lengths, allSix}
 use Rattle.serve.specs.Serve.{byteOf}
 use Rattle.solve.specs.Solve.{solveRefusal, wholeOf, Ends}

@@ -12,7 +12,7 @@ use lib.ListN.{length}
 use lib.Dec.{T, eqb, eqb→eq}
 use lib.IntN.{ℤ}
 use lib.Ieee.Fits.{and-l, and-r}
-use Rattle.scalar.specs.Buffers.{Buffers}
+use Rattle.start.specs.Buffers.{Buffers}
 use Rattle.calls.specs.Run.{Given, Sheet, Place, fresh, place, count, area, among, sheetOk, placesOk}
 use Rattle.calls.specs.Buffers.{Plane, Prior, Gradient, Across, Down, Saved, Sized}
 use Rattle.calls.specs.Jobs.{fixed}

@@ -7,7 +7,7 @@ use native.Mathlib.Omega.{arith}
 use lib.IntN.{ℤ}
 use lib.ListN.{length, take}
 use lib.Seq.{take-all}
-use Rattle.scalar.specs.Buffers.{Buffers}
+use Rattle.start.specs.Buffers.{Buffers}
 use Rattle.sheet.specs.declared.Sheet.{Sheet}
 use Rattle.text.specs.Weights.{valueOf}
 use Rattle.calls.specs.Run.{Given, levelsBefore, among}

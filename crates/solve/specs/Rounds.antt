@@ -6,7 +6,7 @@ use mathlib.Core.List.{List}
 use lib.IntN.{ℤ}
 use lib.Dec.{eqb, ltb}
 use lib.ListN.{length}
-use Rattle.scalar.specs.Buffers.{Buffers}
+use Rattle.start.specs.Buffers.{Buffers}
 use Rattle.calls.specs.Run.{Given, place, count, area, levelsBefore, among}
 use Rattle.calls.specs.Buffers.{Sized, channel, putChannel}
 use Rattle.calls.specs.Calls.{lengths, allSix}

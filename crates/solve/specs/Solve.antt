@@ -13,7 +13,7 @@ use Rattle.text.specs.Weights.{valueOf}
 use Rattle.sheet.specs.declared.Sheet.{Sheet}
 use Rattle.sheet.specs.declared.Channel as Line
 use Rattle.sheet.specs.Legal.{channelAt}
-use Rattle.scalar.specs.Buffers.{Buffers}
+use Rattle.start.specs.Buffers.{Buffers}
 use Rattle.calls.specs.Run.{Given, count, levelsBefore, every, among, legal}
 use Rattle.calls.specs.Buffers.{Name, get, joined}
 use Rattle.calls.specs.Jobs.{fixed, isBlown}

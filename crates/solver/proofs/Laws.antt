@@ -14,14 +14,17 @@ use Rattle.steps.specs.declared.solve.Constants.{Constants}
 use Rattle.steps.proofs.Laws.{moved-length, push-plane-length, push-prior-length}
 use Rattle.gradients.specs.Tv.{Terms}
 use Rattle.gradients.proofs.Laws.{blended-across-length, blended-down-length, blended-gradient-length}
-use Rattle.scalar.specs.Buffers.{Buffers}
-use Rattle.scalar.specs.Coef.{Coef, Covers, levelAt, pxCount, quantAt}
-use Rattle.scalar.specs.Auxiliary.{auxInit}
-use Rattle.scalar.specs.Projection.{projectOntoBox, transformed}
-use Rattle.scalar.specs.Blown.{bad}
-use Rattle.scalar.proofs.Cover.{own-fits}
-use Rattle.scalar.proofs.Lengths.{BoxLong, dataGradient-length, initDctTarget-length, initPixels-length, projected-long}
-use Rattle.scalar.proofs.Writes.{initDctTarget-at, projected-saved}
+use Rattle.start.specs.Buffers.{Buffers}
+use Rattle.start.specs.Coef.{Coef, Covers, levelAt, pxCount, quantAt}
+use Rattle.start.specs.Auxiliary.{auxInit}
+use Rattle.projection.specs.Projection.{projectOntoBox, transformed}
+use Rattle.projection.specs.Blown.{bad}
+use Rattle.start.proofs.Cover.{own-fits}
+use Rattle.projection.proofs.Lengths.{BoxLong, projected-long}
+use Rattle.fidelity.proofs.Lengths.{dataGradient-length}
+use Rattle.start.proofs.Lengths.{initDctTarget-length, initPixels-length}
+use Rattle.start.proofs.Writes.{initDctTarget-at}
+use Rattle.projection.proofs.Writes.{projected-saved}
 use Rattle.solver.specs.Solver.{AllIn, Legal, SavedIn, Sized, blending, boxOf, fitting, moving, projecting, pushing, starting}
 
 -- ---- lengths

@@ -11,12 +11,12 @@ use Rattle.steps.specs.declared.solve.Constants.{Constants}
 use Rattle.steps.specs.Solve.{pushed}
 use Rattle.steps.specs.Step.{moved}
 use Rattle.gradients.specs.Blend.{blended}
-use Rattle.scalar.specs.Buffers.{Buffers}
-use Rattle.scalar.specs.Coef.{Coef, levelAt, pxCount, quantAt}
-use Rattle.scalar.specs.Auxiliary.{auxInit}
-use Rattle.scalar.specs.DctGradient.{dataGradient}
-use Rattle.scalar.specs.Projection.{Box, projectOntoBox}
-use Rattle.scalar.specs.Blown.{isBlown}
+use Rattle.start.specs.Buffers.{Buffers}
+use Rattle.start.specs.Coef.{Coef, levelAt, pxCount, quantAt}
+use Rattle.start.specs.Auxiliary.{auxInit}
+use Rattle.fidelity.specs.DctGradient.{dataGradient}
+use Rattle.projection.specs.Projection.{Box, projectOntoBox}
+use Rattle.projection.specs.Blown.{isBlown}
 
 -- start, of a channel with the coefficients C, at full sides W and H
 abbrev pub starting : Coef → ℕ → ℕ → Buffers

@@ -4,8 +4,8 @@ use Prim.Native.Nat.{ℕ, _+_, _*_, _/_, _%_, _<_, _≤_}
 use native.Mathlib.Nat.{mul-comm, mul-mul-mul-comm, mul-le-mul, mul-le-mul-left}
 use native.Mathlib.Omega.{arith}
 use Rattle.fold.proofs.Grid.{row-end}
-use Rattle.scalar.specs.Coef.{Covers, Eights}
-use Rattle.scalar.specs.declared.coef.Own.{Own}
+use Rattle.start.specs.Coef.{Covers, Eights}
+use Rattle.start.specs.declared.coef.Own.{Own}
 
 -- the blocks fill the own plane
 pub blocks-fill : (w h : ℕ) → w % 8 ≡ 0 → h % 8 ≡ 0 → w / 8 * (h / 8) * 64 ≡ w * h

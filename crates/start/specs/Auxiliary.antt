@@ -6,8 +6,8 @@ use lib.ListN.{replicate}
 use lib.Ieee.{Float}
 use Rattle.float.specs.Names.{f0}
 use Rattle.utils.specs.Auxiliary.{upsamplePixels}
-use Rattle.scalar.specs.Buffers.{Buffers}
-use Rattle.scalar.specs.Coef.{Coef, imageData, initDctTarget}
+use Rattle.start.specs.Buffers.{Buffers}
+use Rattle.start.specs.Coef.{Coef, imageData, initDctTarget}
 
 -- init_pixels_into, onto zeros: full sides W and H
 unfoldable pub initPixels : Coef → ℕ → ℕ → List Float

@@ -10,7 +10,7 @@ use Rattle.float.specs.Names.{f0}
 use Rattle.utils.specs.Blocks.{fromBlocks, onBlock}
 use Rattle.utils.specs.Dct.{idct8x8}
 use Rattle.interval.specs.Interval.{dequantised}
-use Rattle.scalar.specs.declared.coef.Own.{Own}
+use Rattle.start.specs.declared.coef.Own.{Own}
 
 -- ScalarCoef: own sides (rounded_px_w, rounded_px_h) and factors (horizontal, vertical), levels (dct_coefs) and quantisers (quant_table) as
 -- whole numbers
@@ -60,6 +60,10 @@ imageData C = upto (imageBlock C) (blockCount (C .own)) (replicate (pxCount (C .
 -- init_dct_target_into
 unfoldable pub initDctTarget : Coef → List Float → List Float
 initDctTarget C out = upto (dequantise (C .levels) (C .table)) (blockCount (C .own)) out
+
+-- the place in the full plane, of width W, of the subsample (sx, sy) of the own sample (cx, cy)
+abbrev pub spot : Own → ℕ → ℕ → ℕ → ℕ → ℕ → ℕ
+spot o W cy cx sy sx = (cy * o .down + sy) * W + (cx * o .across + sx)
 
 -- ---- what the functions ask of a channel
 

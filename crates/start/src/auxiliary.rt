@@ -5,8 +5,8 @@ ghost use mathlib.Core.Path.{_≡_};
 ghost use Prim.Native.Nat.{_*_};
 ghost use lib.ListN.{length, replicate};
 ghost use Rattle.float.specs.Names.{f0};
-ghost use Rattle.scalar.specs.Coef.{Covers, Lent, coef, initDctTarget};
-ghost use Rattle.scalar.specs.Auxiliary.{initPixels, auxInit};
+ghost use Rattle.start.specs.Coef.{Covers, Lent, coef, initDctTarget};
+ghost use Rattle.start.specs.Auxiliary.{initPixels, auxInit};
 
 // AlignedF32::zeros(n).
 pub fn zeros(xs: &mut [f32], n: usize)

@@ -2,7 +2,7 @@
 ghost use mathlib.Core.Path.{_≡_};
 ghost use Prim.Native.Nat.{_+_, _*_, _/_, _^_, _<_, _≤_};
 ghost use lib.ListN.{length};
-ghost use Rattle.scalar.specs.Coef.{Covers, Eights, Lent, coef, dequantise, imageBlock, imageData, initDctTarget};
+ghost use Rattle.start.specs.Coef.{Covers, Eights, Lent, coef, dequantise, imageBlock, imageData, initDctTarget, spot};
 
 // A channel's own sides and its factors.
 pub struct Own {
@@ -87,4 +87,14 @@ pub fn init_dct_target(out: &mut [f32], o: Own, levels: &[i16], table: &[u16])
     for i in 0..n {
         dequantise(out, levels, table, i);
     }
+}
+
+// The place in the full plane of the subsample (sx, sy) of the own sample (cx, cy).
+pub fn spot(o: Own, w: usize, h: usize, cy: usize, cx: usize, sy: usize, sx: usize) -> usize
+    requires { ⌜ Covers o w h × (cy < o .height) × (cx < o .width) × (sy < o .down) × (sx < o .across) ⌝ }
+    ensures { λ r. ⌜ (r ≡ spot o w cy cx sy sx) × (r < w * h) ⌝ }
+{
+    let across = o.across;
+    let down = o.down;
+    (cy * down + sy) * w + (cx * across + sx)
 }

@@ -4,8 +4,8 @@ use mathlib.Core.Bool.{true, false}
 use mathlib.Core.List.{List, [], _∷_, _++_, map}
 use lib.IntN.{ℤ, pos, negsuc}
 use Rattle.steps.specs.declared.solve.Constants.{Constants}
-use Rattle.scalar.specs.Buffers.{Buffers}
-use Rattle.scalar.specs.Coef.{Coef}
+use Rattle.start.specs.Buffers.{Buffers}
+use Rattle.start.specs.Coef.{Coef}
 use Rattle.solver.specs.Solver.{starting, blown}
 use lib.Ieee.{Float, binary32}
 use lib.Count.{trailingZeros}
@@ -21,11 +21,11 @@ use Rattle.steps.specs.Step.{dataAlpha, gradientNorm, movedBy, moved}
 use Rattle.gradients.specs.Tv.{difference, bump, bumpUnless, tvDifferencesAt, tvDifferences, gNormOf, tvChannelDerivatives, tvDerivatives, store, tvGradientPx, tvAlpha, tvGradient}
 use Rattle.gradients.specs.Tgv.{tgvDifferencesAt, tgvDifferences, g2NormOf, tgvBeside, tgvUpDown, tgvCorners, tgvChannelDerivatives, tgvDerivatives, tgvGradientPx, tgvAlpha, tgvGradient}
 use Rattle.gradients.specs.Blend.{blended}
-use Rattle.scalar.specs.Coef.{dequantise, imageBlock, imageData, initDctTarget}
-use Rattle.scalar.specs.Auxiliary.{initPixels, auxInit}
-use Rattle.scalar.specs.DctGradient.{cosbOf, cosbsOf, spread, spreadBlock, gradientBlock, dctGradient, dataGradient}
-use Rattle.scalar.specs.Projection.{meanOf, change, splitAt, split, clampAt, clampBlock, clamped, keep, ontoBox, back, projectFull, projectMeans, projectOntoBox}
-use Rattle.scalar.specs.Blown.{isBlown}
+use Rattle.start.specs.Coef.{dequantise, imageBlock, imageData, initDctTarget}
+use Rattle.start.specs.Auxiliary.{initPixels, auxInit}
+use Rattle.fidelity.specs.DctGradient.{cosbOf, cosbsOf, spread, spreadBlock, gradientBlock, dctGradient, dataGradient}
+use Rattle.projection.specs.Projection.{meanOf, change, splitAt, split, clampAt, clampBlock, clamped, keep, ontoBox, back, projectFull, projectMeans, projectOntoBox}
+use Rattle.projection.specs.Blown.{isBlown}
 use Rattle.solver.specs.Solver.{pushing, fitting, blending, moving, projecting}
 
 unfoldable pub c0 : Coef

@@ -15,8 +15,8 @@ use Rattle.utils.specs.Blocks.{fromBlocks}
 use Rattle.utils.specs.Dct.{onLine, idct8, idct8x8}
 use Rattle.utils.specs.Auxiliary.{upsamplePixels}
 use Rattle.interval.specs.Interval.{dequantised}
-use Rattle.scalar.specs.Coef.{dequantise, imageBlock, imageData, initDctTarget}
-use Rattle.scalar.specs.Auxiliary.{initPixels, auxInit}
+use Rattle.start.specs.Coef.{dequantise, imageBlock, imageData, initDctTarget}
+use Rattle.start.specs.Auxiliary.{initPixels, auxInit}
 use Rattle.calls.specs.Jobs.{fixed}
 use Rattle.demand.specs.Solver.{coefOf}
 use Rattle.text.specs.declared.weight.Weight.the-variants as weight

@@ -28,7 +28,7 @@ use Rattle.sheet.specs.Reading.Outcome.{Gives, Refused}
 use Rattle.sheet.specs.Calls.{Lengths, measuredSays, answerSays, lengthsOf, measuring, fitted, sheetIn, heldAfter, Reads}
 use Rattle.sheet.proofs.LegalLaws.{legal}
 use Rattle.sheet.proofs.PrefixLaws.{decides, decisive-32}
-use Rattle.scalar.specs.Buffers.{Buffers}
+use Rattle.start.specs.Buffers.{Buffers}
 use Rattle.calls.specs.Buffers.{Name, Plane, Prior, Gradient, Across, Down, Saved, get, Sized}
 use Rattle.calls.specs.Calls.{all, allSix, lengths}
 use Rattle.record.specs.declared.Answer.{Answer}

@@ -4,8 +4,8 @@ use Prim.Native.Nat.{ℕ}
 use lib.Ieee.{binary32, ofBits}
 use Rattle.fold.specs.Part.{part}
 use Rattle.steps.specs.declared.solve.Constants.{Constants}
-use Rattle.scalar.specs.Buffers.{Buffers}
-use Rattle.scalar.specs.Coef.{Coef}
+use Rattle.start.specs.Buffers.{Buffers}
+use Rattle.start.specs.Coef.{Coef}
 use Rattle.solver.specs.Solver.{starting, pushing, fitting, blending, moving, projecting}
 use Rattle.calls.specs.Buffers.{channel, joined}
 use Rattle.calls.specs.Jobs.{fixed}

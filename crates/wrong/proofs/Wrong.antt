@@ -7,7 +7,7 @@ use Prim.Native.Nat.{ℕ}
 use native.Mathlib.Omega.{arith}
 use lib.Ieee.{Float, nan, binary32, ofBits, ofFields, eq}
 use lib.ListN.{getD, replicate, take, length}
-use Rattle.scalar.specs.Buffers.{Buffers}
+use Rattle.start.specs.Buffers.{Buffers}
 use Rattle.calls.specs.Run.{Place, place, sheetOk, headerOk, ownOk, placesOk, placeOk, weight}
 use Rattle.calls.specs.Jobs.{push, fidelity, move, project, Call, on, blend, fixed, isBlown}
 use Rattle.calls.specs.Calls.{Answer, refused, done, blown, State, start, startRefusal, noneYet, plain, plainAnswers, plainPlaces}

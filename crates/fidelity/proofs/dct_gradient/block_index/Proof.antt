@@ -1,11 +1,11 @@
 use Prim.Native.Nat.{_*_, _+_, _/_, _≤_}
 use borrow.Author.Needs.{needs}
 use native.Mathlib.Omega.{arith}
-use Rattle.scalar.proofs.Cover.{block-in}
-use Rattle.scalar.proofs.dct_gradient.block_index.Statement.{statement}
-use Rattle.scalar.proofs.dct_gradient.block_index.Tie as tie
-use Rattle.scalar.proofs.dct_gradient.block_index.Reads as reads
-use Rattle.scalar.proofs.dct_gradient.block_index.Lts as lts
+use Rattle.start.proofs.Cover.{block-in}
+use Rattle.fidelity.proofs.dct_gradient.block_index.Statement.{statement}
+use Rattle.fidelity.proofs.dct_gradient.block_index.Tie as tie
+use Rattle.fidelity.proofs.dct_gradient.block_index.Reads as reads
+use Rattle.fidelity.proofs.dct_gradient.block_index.Lts as lts
 
 -- the block's values lie within the own plane's
 here : (c : tie.Start) → let a = c .args in (a .by * (a .o .width / 8) + a .bx) * 64 + 64 ≤ a .o .width * a .o .height

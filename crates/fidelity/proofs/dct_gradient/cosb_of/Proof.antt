@@ -1,9 +1,9 @@
 use mir.Syntax.{w16}
 use mir.ValLaws.{toZ-ofZ}
-use Rattle.scalar.specs.DctGradient.{cosbOf}
+use Rattle.fidelity.specs.DctGradient.{cosbOf}
 use borrow.Author.Needs.{needs}
-use Rattle.scalar.proofs.dct_gradient.cosb_of.Statement.{statement}
-use Rattle.scalar.proofs.dct_gradient.cosb_of.Tie as tie
+use Rattle.fidelity.proofs.dct_gradient.cosb_of.Statement.{statement}
+use Rattle.fidelity.proofs.dct_gradient.cosb_of.Tie as tie
 
 returns : tie.Need-returns
 unfolding cosbOf

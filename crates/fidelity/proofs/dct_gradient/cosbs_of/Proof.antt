@@ -8,10 +8,10 @@ use mathlib.Core.Path.{_∙_, _≡_, ap}
 use native.Mathlib.Omega.{arith}
 use Rattle.fold.proofs.Loops.{upto-call, upto-end}
 use Rattle.fold.specs.Fold.{upto}
-use Rattle.scalar.specs.DctGradient.{cosbAt, cosbsOf}
+use Rattle.fidelity.specs.DctGradient.{cosbAt, cosbsOf}
 use Rattle.utils.specs.Dct.{idct8x8}
-use Rattle.scalar.proofs.dct_gradient.cosbs_of.Statement.{statement}
-use Rattle.scalar.proofs.dct_gradient.cosbs_of.Tie as tie
+use Rattle.fidelity.proofs.dct_gradient.cosbs_of.Statement.{statement}
+use Rattle.fidelity.proofs.dct_gradient.cosbs_of.Tie as tie
 
 abbrev Inv-loop : tie.InvT-loop
 Inv-loop cos levels table i at end cosbs₀ j₀ cosbs j = (j ≤ 64) × (length cosbs ≡ 64) × (cosbs ≡ upto (cosbAt levels table i) j cosbs₀)

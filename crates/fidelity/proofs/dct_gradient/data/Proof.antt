@@ -1,7 +1,7 @@
-use Rattle.scalar.specs.DctGradient.{dataGradient}
+use Rattle.fidelity.specs.DctGradient.{dataGradient}
 use borrow.Author.Needs.{needs}
-use Rattle.scalar.proofs.dct_gradient.data.Statement.{statement}
-use Rattle.scalar.proofs.dct_gradient.data.Tie as tie
+use Rattle.fidelity.proofs.dct_gradient.data.Statement.{statement}
+use Rattle.fidelity.proofs.dct_gradient.data.Tie as tie
 
 returns : tie.Need-returns
 unfolding dataGradient

@@ -5,11 +5,11 @@ use mathlib.Core.Path.{_≡_}
 use native.Mathlib.Omega.{arith}
 use Rattle.fold.proofs.Loops.{upto-call, upto-end}
 use Rattle.fold.specs.Fold.{upto}
-use Rattle.scalar.proofs.Cover.{own-fits}
-use Rattle.scalar.specs.Coef.{coef}
-use Rattle.scalar.specs.DctGradient.{dctGradient, gradientBlock, gradientLine}
-use Rattle.scalar.proofs.dct_gradient.dct_gradient.Statement.{statement}
-use Rattle.scalar.proofs.dct_gradient.dct_gradient.Tie as tie
+use Rattle.start.proofs.Cover.{own-fits}
+use Rattle.start.specs.Coef.{coef}
+use Rattle.fidelity.specs.DctGradient.{dctGradient, gradientBlock, gradientLine}
+use Rattle.fidelity.proofs.dct_gradient.dct_gradient.Statement.{statement}
+use Rattle.fidelity.proofs.dct_gradient.dct_gradient.Tie as tie
 
 abbrev Inv-loop2 : tie.InvT-loop2
 Inv-loop2 cos gradient₀ o w h alpha levels table bw bh by bx₀ gradient bx = (bx ≤ bw) × (length gradient ≡ length gradient₀) × (gradient ≡ upto (gradientBlock (coef o levels table) w alpha cos by) bx gradient₀)

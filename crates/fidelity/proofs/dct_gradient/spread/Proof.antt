@@ -5,9 +5,9 @@ use mathlib.Core.Path.{_≡_}
 use native.Mathlib.Omega.{arith}
 use Rattle.fold.proofs.Loops.{upto-call, upto-end}
 use Rattle.fold.specs.Fold.{upto}
-use Rattle.scalar.specs.DctGradient.{spread, spreadAt, spreadRow}
-use Rattle.scalar.proofs.dct_gradient.spread.Statement.{statement}
-use Rattle.scalar.proofs.dct_gradient.spread.Tie as tie
+use Rattle.fidelity.specs.DctGradient.{spread, spreadAt, spreadRow}
+use Rattle.fidelity.proofs.dct_gradient.spread.Statement.{statement}
+use Rattle.fidelity.proofs.dct_gradient.spread.Tie as tie
 
 abbrev Inv-loop2 : tie.InvT-loop2
 Inv-loop2 gradient₀ o w h alpha v cy cx across down sy sx₀ gradient sx = (sx ≤ across) × (length gradient ≡ length gradient₀) × (gradient ≡ upto (spreadAt o w alpha v cy cx sy) sx gradient₀)

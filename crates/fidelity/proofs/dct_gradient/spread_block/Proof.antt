@@ -5,9 +5,9 @@ use mathlib.Core.Path.{_≡_}
 use native.Mathlib.Omega.{arith}
 use Rattle.fold.proofs.Loops.{upto-call, upto-end}
 use Rattle.fold.specs.Fold.{upto}
-use Rattle.scalar.specs.DctGradient.{cellAt, cellRow, spreadBlock}
-use Rattle.scalar.proofs.dct_gradient.spread_block.Statement.{statement}
-use Rattle.scalar.proofs.dct_gradient.spread_block.Tie as tie
+use Rattle.fidelity.specs.DctGradient.{cellAt, cellRow, spreadBlock}
+use Rattle.fidelity.proofs.dct_gradient.spread_block.Statement.{statement}
+use Rattle.fidelity.proofs.dct_gradient.spread_block.Tie as tie
 
 abbrev Inv-loop2 : tie.InvT-loop2
 Inv-loop2 gradient₀ o w h alpha cosbs by bx y x₀ gradient x = (x ≤ 8) × (length gradient ≡ length gradient₀) × (gradient ≡ upto (cellAt o w alpha cosbs by bx y) x gradient₀)

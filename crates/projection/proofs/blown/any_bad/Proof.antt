@@ -5,10 +5,10 @@ use denote.Ref.{now}
 use lib.ListN.{length, take}
 use mathlib.Core.Path.{_∙_, _≡_, ap, sym}
 use native.Mathlib.Omega.{arith}
-use Rattle.scalar.proofs.Bad.{more-bad}
-use Rattle.scalar.specs.Blown.{anyBad}
-use Rattle.scalar.proofs.blown.any_bad.Statement.{statement}
-use Rattle.scalar.proofs.blown.any_bad.Tie as tie
+use Rattle.projection.proofs.Bad.{more-bad}
+use Rattle.projection.specs.Blown.{anyBad}
+use Rattle.projection.proofs.blown.any_bad.Statement.{statement}
+use Rattle.projection.proofs.blown.any_bad.Tie as tie
 
 abbrev Inv-loop : tie.InvT-loop
 Inv-loop xs found₀ k₀ k-end found k = (k ≤ k-end) × (found ≡ anyBad (take k xs))

@@ -1,9 +1,9 @@
 use mathlib.Core.Bool.{not}
 use mathlib.Core.Path.{_∙_, ap}
-use Rattle.scalar.proofs.Bad.{bad-is}
+use Rattle.projection.proofs.Bad.{bad-is}
 use borrow.Author.Needs.{needs}
-use Rattle.scalar.proofs.blown.bad.Statement.{statement}
-use Rattle.scalar.proofs.blown.bad.Tie as tie
+use Rattle.projection.proofs.blown.bad.Statement.{statement}
+use Rattle.projection.proofs.blown.bad.Tie as tie
 
 returns : tie.Need-returns
 returns c = ap not (c .is-finite .ensures) ∙ bad-is (c .before .args .x)

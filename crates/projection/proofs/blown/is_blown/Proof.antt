@@ -1,9 +1,9 @@
 use native.Mathlib.Nat.{sub-zero}
 use mathlib.Core.Path.{_∙_}
-use Rattle.scalar.specs.Blown.{isBlown}
+use Rattle.projection.specs.Blown.{isBlown}
 use borrow.Author.Needs.{needs}
-use Rattle.scalar.proofs.blown.is_blown.Statement.{statement}
-use Rattle.scalar.proofs.blown.is_blown.Tie as tie
+use Rattle.projection.proofs.blown.is_blown.Statement.{statement}
+use Rattle.projection.proofs.blown.is_blown.Tie as tie
 
 returns : tie.Need-returns
 unfolding isBlown

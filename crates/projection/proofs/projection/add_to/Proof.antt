@@ -6,9 +6,9 @@ use native.Mathlib.Omega.{arith}
 use Rattle.float.specs.Names.{_⊕_}
 use Rattle.fold.proofs.Loops.{upto-call, upto-end}
 use Rattle.fold.specs.Fold.{upto}
-use Rattle.scalar.specs.Projection.{change, changeAt, changeRow}
-use Rattle.scalar.proofs.projection.add_to.Statement.{statement}
-use Rattle.scalar.proofs.projection.add_to.Tie as tie
+use Rattle.projection.specs.Projection.{change, changeAt, changeRow}
+use Rattle.projection.proofs.projection.add_to.Statement.{statement}
+use Rattle.projection.proofs.projection.add_to.Tie as tie
 
 abbrev Inv-loop2 : tie.InvT-loop2
 Inv-loop2 plane₀ o w h m cy cx across down sy sx₀ plane sx = (sx ≤ across) × (length plane ≡ length plane₀) × (plane ≡ upto (changeAt (λ x. x ⊕ m) o w cy cx sy) sx plane₀)

@@ -5,9 +5,9 @@ use mathlib.Core.Path.{_≡_}
 use native.Mathlib.Omega.{arith}
 use Rattle.fold.proofs.Loops.{upto-call, upto-end}
 use Rattle.fold.specs.Fold.{upto}
-use Rattle.scalar.specs.Projection.{back, backAt, backRow}
-use Rattle.scalar.proofs.projection.back.Statement.{statement}
-use Rattle.scalar.proofs.projection.back.Tie as tie
+use Rattle.projection.specs.Projection.{back, backAt, backRow}
+use Rattle.projection.proofs.projection.back.Statement.{statement}
+use Rattle.projection.proofs.projection.back.Tie as tie
 
 abbrev Inv-loop2 : tie.InvT-loop2
 Inv-loop2 plane₀ down o w h width height cy cx₀ plane cx = (cx ≤ width) × (length plane ≡ length plane₀) × (plane ≡ upto (backAt o w down cy) cx plane₀)

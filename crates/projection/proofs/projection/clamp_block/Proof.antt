@@ -8,9 +8,9 @@ use mathlib.Core.Path.{_≡_}
 use native.Mathlib.Omega.{arith}
 use Rattle.fold.proofs.Loops.{upto-call, upto-end}
 use Rattle.fold.specs.Fold.{upto}
-use Rattle.scalar.specs.Projection.{clampAt, clampBlock}
-use Rattle.scalar.proofs.projection.clamp_block.Statement.{statement}
-use Rattle.scalar.proofs.projection.clamp_block.Tie as tie
+use Rattle.projection.specs.Projection.{clampAt, clampBlock}
+use Rattle.projection.proofs.projection.clamp_block.Statement.{statement}
+use Rattle.projection.proofs.projection.clamp_block.Tie as tie
 
 abbrev Inv-loop : tie.InvT-loop
 Inv-loop x₀ levels table i j₀ x j = (j ≤ 64) × (length x ≡ length x₀) × (x ≡ upto (clampAt levels table i) j x₀)

@@ -5,9 +5,9 @@ use mathlib.Core.Path.{_≡_}
 use native.Mathlib.Omega.{arith}
 use Rattle.fold.proofs.Loops.{upto-call, upto-end}
 use Rattle.fold.specs.Fold.{upto}
-use Rattle.scalar.specs.Projection.{clampBlock, clamped}
-use Rattle.scalar.proofs.projection.clamped.Statement.{statement}
-use Rattle.scalar.proofs.projection.clamped.Tie as tie
+use Rattle.projection.specs.Projection.{clampBlock, clamped}
+use Rattle.projection.proofs.projection.clamped.Statement.{statement}
+use Rattle.projection.proofs.projection.clamped.Tie as tie
 
 abbrev Inv-loop : tie.InvT-loop
 Inv-loop x₀ levels table n i₀ x i = (i ≤ n) × (length x ≡ length x₀) × (x ≡ upto (clampBlock levels table) i x₀)

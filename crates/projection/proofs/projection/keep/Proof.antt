@@ -5,9 +5,9 @@ use mathlib.Core.Path.{_≡_}
 use native.Mathlib.Omega.{arith}
 use Rattle.fold.proofs.Loops.{upto-end, upto-step}
 use Rattle.fold.specs.Fold.{upto}
-use Rattle.scalar.specs.Projection.{keep, keepAt}
-use Rattle.scalar.proofs.projection.keep.Statement.{statement}
-use Rattle.scalar.proofs.projection.keep.Tie as tie
+use Rattle.projection.specs.Projection.{keep, keepAt}
+use Rattle.projection.proofs.projection.keep.Statement.{statement}
+use Rattle.projection.proofs.projection.keep.Tie as tie
 
 abbrev Inv-loop : tie.InvT-loop
 Inv-loop saved₀ x n k₀ saved k = (k ≤ n) × (length saved ≡ length saved₀) × (saved ≡ upto (keepAt x) k saved₀)

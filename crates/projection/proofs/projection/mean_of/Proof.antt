@@ -6,9 +6,9 @@ use native.Mathlib.Omega.{arith}
 use Rattle.float.specs.Names.{_⊘_, float}
 use Rattle.fold.proofs.Loops.{upto-call, upto-end}
 use Rattle.fold.specs.Fold.{upto}
-use Rattle.scalar.specs.Projection.{meanOf, sumAt, sumRow}
-use Rattle.scalar.proofs.projection.mean_of.Statement.{statement}
-use Rattle.scalar.proofs.projection.mean_of.Tie as tie
+use Rattle.projection.specs.Projection.{meanOf, sumAt, sumRow}
+use Rattle.projection.proofs.projection.mean_of.Statement.{statement}
+use Rattle.projection.proofs.projection.mean_of.Tie as tie
 
 abbrev Inv-loop2 : tie.InvT-loop2
 Inv-loop2 plane o w h cy cx across down mean₀ sy sx₀ mean sx = (sx ≤ across) × (mean ≡ upto (sumAt o w plane cy cx sy) sx mean₀)

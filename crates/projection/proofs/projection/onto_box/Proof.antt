@@ -1,7 +1,7 @@
-use Rattle.scalar.specs.Projection.{ontoBox}
+use Rattle.projection.specs.Projection.{ontoBox}
 use borrow.Author.Needs.{needs}
-use Rattle.scalar.proofs.projection.onto_box.Statement.{statement}
-use Rattle.scalar.proofs.projection.onto_box.Tie as tie
+use Rattle.projection.proofs.projection.onto_box.Statement.{statement}
+use Rattle.projection.proofs.projection.onto_box.Tie as tie
 
 returns : tie.Need-returns
 unfolding ontoBox

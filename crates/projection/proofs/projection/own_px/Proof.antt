@@ -3,11 +3,11 @@ use borrow.Author.Needs.{needs}
 use native.Mathlib.Nat.{mul-comm, mul-le-mul}
 use native.Mathlib.Omega.{arith}
 use Rattle.fold.proofs.Grid.{row-end}
-use Rattle.scalar.proofs.Cover.{own-fits}
-use Rattle.scalar.proofs.projection.own_px.Statement.{statement}
-use Rattle.scalar.proofs.projection.own_px.Tie as tie
-use Rattle.scalar.proofs.projection.own_px.Reads as reads
-use Rattle.scalar.proofs.projection.own_px.Lts as lts
+use Rattle.start.proofs.Cover.{own-fits}
+use Rattle.projection.proofs.projection.own_px.Statement.{statement}
+use Rattle.projection.proofs.projection.own_px.Tie as tie
+use Rattle.projection.proofs.projection.own_px.Reads as reads
+use Rattle.projection.proofs.projection.own_px.Lts as lts
 
 -- the own sample lies within the full plane
 here : (c : tie.Start) → let a = c .args in (a .cy * a .o .width + a .o .width ≤ a .w * a .h) × (a .w * a .h ≤ 512 * 512)

@@ -1,8 +1,8 @@
 use native.Mathlib.Nat.{mul-le-mul}
 use native.Mathlib.Omega.{arith}
 use borrow.Author.Needs.{needs}
-use Rattle.scalar.proofs.projection.places.Statement.{statement}
-use Rattle.scalar.proofs.projection.places.Tie as tie
+use Rattle.projection.proofs.projection.places.Statement.{statement}
+use Rattle.projection.proofs.projection.places.Tie as tie
 
 mul-nearest-u32-to-f32 : tie.Need-mul-nearest-u32-to-f32
 mul-nearest-u32-to-f32 c = omega (arith, mul-le-mul (c .pre .0) (c .pre .1))

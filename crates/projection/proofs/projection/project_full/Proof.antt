@@ -1,9 +1,9 @@
 use native.Mathlib.Omega.{arith}
-use Rattle.scalar.proofs.Cover.{own-fits}
-use Rattle.scalar.specs.Projection.{projectFull}
+use Rattle.start.proofs.Cover.{own-fits}
+use Rattle.projection.specs.Projection.{projectFull}
 use borrow.Author.Needs.{needs}
-use Rattle.scalar.proofs.projection.project_full.Statement.{statement}
-use Rattle.scalar.proofs.projection.project_full.Tie as tie
+use Rattle.projection.proofs.projection.project_full.Statement.{statement}
+use Rattle.projection.proofs.projection.project_full.Tie as tie
 
 to-blocks-requires : tie.Need-to-blocks-requires
 to-blocks-requires c κs = let a = c .before .before .before .before .before .before .args in let p = c .before .before .before .before .before .before .pre in omega (arith, own-fits (a .o) (a .w) (a .h) (p .0), p .0 .eights, p .1, p .2, p .3)

@@ -1,7 +1,7 @@
-use Rattle.scalar.specs.Projection.{projectOntoBox}
+use Rattle.projection.specs.Projection.{projectOntoBox}
 use borrow.Author.Needs.{needs}
-use Rattle.scalar.proofs.projection.project_onto_box.Statement.{statement}
-use Rattle.scalar.proofs.projection.project_onto_box.Tie as tie
+use Rattle.projection.proofs.projection.project_onto_box.Statement.{statement}
+use Rattle.projection.proofs.projection.project_onto_box.Tie as tie
 
 returns : tie.Need-returns
 unfolding projectOntoBox

@@ -1,8 +1,8 @@
 use borrow.Author.Tests.{eq-eqb, ne-eqb}
-use Rattle.scalar.proofs.projection.resample.Statement.{statement}
-use Rattle.scalar.proofs.projection.resample.Tie as tie
-use Rattle.scalar.proofs.projection.resample.Reads as reads
-use Rattle.scalar.proofs.projection.resample.Lts as lts
+use Rattle.projection.proofs.projection.resample.Statement.{statement}
+use Rattle.projection.proofs.projection.resample.Tie as tie
+use Rattle.projection.proofs.projection.resample.Reads as reads
+use Rattle.projection.proofs.projection.resample.Lts as lts
 
 returns : tie.Need-returns
 returns c = let a = c .before .before .args in rw (ne-eqb (a .o .width) (a .w) (c .if1 .taken))

@@ -5,9 +5,9 @@ use mathlib.Core.Path.{_≡_}
 use native.Mathlib.Omega.{arith}
 use Rattle.fold.proofs.Loops.{upto-call, upto-end}
 use Rattle.fold.specs.Fold.{upto}
-use Rattle.scalar.specs.Projection.{split, splitAt, splitRow}
-use Rattle.scalar.proofs.projection.split.Statement.{statement}
-use Rattle.scalar.proofs.projection.split.Tie as tie
+use Rattle.projection.specs.Projection.{split, splitAt, splitRow}
+use Rattle.projection.proofs.projection.split.Statement.{statement}
+use Rattle.projection.proofs.projection.split.Tie as tie
 
 abbrev Inv-loop2 : tie.InvT-loop2
 Inv-loop2 plane₀ down₀ o w h width height cy cx₀ plane down cx = (cx ≤ width) × (length plane ≡ length plane₀) × (length down ≡ length down₀) × (record { plane = plane; down = down } ≡ upto (splitAt o w cy) cx (record { plane = plane₀; down = down₀ }))

@@ -1,8 +1,8 @@
 use lib.Ieee.{sub}
-use Rattle.scalar.specs.Projection.{splitAt}
+use Rattle.projection.specs.Projection.{splitAt}
 use borrow.Author.Needs.{needs}
-use Rattle.scalar.proofs.projection.split_at.Statement.{statement}
-use Rattle.scalar.proofs.projection.split_at.Tie as tie
+use Rattle.projection.proofs.projection.split_at.Statement.{statement}
+use Rattle.projection.proofs.projection.split_at.Tie as tie
 
 returns : tie.Need-returns
 unfolding splitAt sub

@@ -5,7 +5,7 @@ use Rattle.replay.proofs.block.data64.Tie as tie
 use Rattle.replay.proofs.block.data64.Reads as reads
 use Rattle.replay.proofs.block.data64.Lts as lts
 use Rattle.replay.proofs.block.own.Reads as own-reads
-use Rattle.scalar.proofs.dct_gradient.data.Reads as data-reads
+use Rattle.fidelity.proofs.dct_gradient.data.Reads as data-reads
 
 own-requires : tie.Need-own-requires
 own-requires c κs = search needs

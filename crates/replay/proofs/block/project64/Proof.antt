@@ -5,7 +5,7 @@ use Rattle.replay.proofs.block.project64.Tie as tie
 use Rattle.replay.proofs.block.project64.Reads as reads
 use Rattle.replay.proofs.block.project64.Lts as lts
 use Rattle.replay.proofs.block.own.Reads as own-reads
-use Rattle.scalar.proofs.projection.project_onto_box.Reads as project-onto-box-reads
+use Rattle.projection.proofs.projection.project_onto_box.Reads as project-onto-box-reads
 
 own-requires : tie.Need-own-requires
 own-requires c κs = search needs

@@ -5,7 +5,7 @@ use Rattle.replay.proofs.block.start64.Tie as tie
 use Rattle.replay.proofs.block.start64.Reads as reads
 use Rattle.replay.proofs.block.start64.Lts as lts
 use Rattle.replay.proofs.block.own.Reads as own-reads
-use Rattle.scalar.proofs.auxiliary.start.Reads as start-reads
+use Rattle.start.proofs.auxiliary.start.Reads as start-reads
 
 own-requires : tie.Need-own-requires
 own-requires c κs = search needs

@@ -2,9 +2,9 @@
 use mathlib.Core.Path.{_≡_, ap, _∙_}
 use Prim.Native.Nat.{_*_}
 use lib.ListN.{length}
-use Rattle.scalar.specs.Projection.{Box}
-use Rattle.scalar.specs.Blown.{isBlown}
-use Rattle.scalar.proofs.Lengths.{BoxLong}
+use Rattle.projection.specs.Projection.{Box}
+use Rattle.projection.specs.Blown.{isBlown}
+use Rattle.projection.proofs.Lengths.{BoxLong}
 use Rattle.calls.specs.Run.{Given, coefs}
 use Rattle.calls.specs.Buffers.{partOf}
 use Rattle.record.specs.Model.{sheetOf, givenOf}

@@ -4,7 +4,7 @@ use Prim.Native.Nat.{_≤_, _-_, _*_}
 use native.Mathlib.Omega.{arith}
 use Rattle.fold.specs.Fold.{upto}
 use Rattle.fold.proofs.Loops.{upto-none, upto-call, upto-end}
-use Rattle.scalar.specs.Buffers.{Buffers}
+use Rattle.start.specs.Buffers.{Buffers}
 use Rattle.calls.specs.Buffers.{Plane, Prior, Gradient, Across, Down, Saved, Sized}
 use Rattle.record.specs.Model.{givenOf}
 use Rattle.record.proofs.Sizes.{count-3}

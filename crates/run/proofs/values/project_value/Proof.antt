@@ -3,7 +3,7 @@ use mathlib.Core.Path.{_≡_, refl, sym, ap, _∙_}
 use mathlib.Core.List.{List, [], _∷_}
 use Prim.Native.Nat.{ℕ}
 use lib.ListN.{length}
-use Rattle.scalar.specs.Projection.{Box}
+use Rattle.projection.specs.Projection.{Box}
 use Rattle.calls.specs.Jobs.{project, on}
 use Rattle.record.specs.Model.{givenOf, seenOf}
 use Rattle.run.specs.Parts.{Fed}

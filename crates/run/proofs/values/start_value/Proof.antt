@@ -1,6 +1,6 @@
 -- `start_value`: refused as it was, or every channel started and the record cleared.
 use mathlib.Core.Path.{_≡_, sym, _∙_}
-use Rattle.scalar.specs.Buffers.{Buffers}
+use Rattle.start.specs.Buffers.{Buffers}
 use Rattle.calls.specs.Calls.{lengths, allSix}
 use Rattle.run.proofs.Started.{start-refused, Startable, startable, start-result}
 use borrow.Author.Needs.{needs}

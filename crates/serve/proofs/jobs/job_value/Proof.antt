@@ -1,7 +1,7 @@
 -- `job_value`: the call of the job that the number names.
 use mathlib.Core.Path.{_≡_}
 use native.Mathlib.Omega.{arith}
-use Rattle.scalar.specs.Buffers.{Buffers}
+use Rattle.start.specs.Buffers.{Buffers}
 use borrow.Author.Needs.{needs}
 use Rattle.serve.proofs.jobs.job_value.Statement.{statement}
 use Rattle.serve.proofs.jobs.job_value.Tie as tie

@@ -1,7 +1,7 @@
-use Rattle.scalar.specs.Auxiliary.{initPixels}
+use Rattle.start.specs.Auxiliary.{initPixels}
 use borrow.Author.Needs.{needs}
-use Rattle.scalar.proofs.auxiliary.init_pixels.Statement.{statement}
-use Rattle.scalar.proofs.auxiliary.init_pixels.Tie as tie
+use Rattle.start.proofs.auxiliary.init_pixels.Statement.{statement}
+use Rattle.start.proofs.auxiliary.init_pixels.Tie as tie
 
 returns : tie.Need-returns
 unfolding initPixels

@@ -1,8 +1,8 @@
 use native.Mathlib.Omega.{arith}
-use Rattle.scalar.proofs.Cover.{own-fits}
+use Rattle.start.proofs.Cover.{own-fits}
 use borrow.Author.Needs.{needs}
-use Rattle.scalar.proofs.auxiliary.init_saved.Statement.{statement}
-use Rattle.scalar.proofs.auxiliary.init_saved.Tie as tie
+use Rattle.start.proofs.auxiliary.init_saved.Statement.{statement}
+use Rattle.start.proofs.auxiliary.init_saved.Tie as tie
 
 init-dct-target-requires : tie.Need-init-dct-target-requires
 init-dct-target-requires c κs = let a = c .before .before .before .before .before .before .before .args in (c .before .before .before .before .before .before .before .pre .0 .eights, c .before .before .before .before .before .before .before .pre .1, omega (arith, own-fits (a .o) (a .w) (a .h) (c .before .before .before .before .before .before .before .pre .0)))

@@ -1,7 +1,7 @@
-use Rattle.scalar.specs.Auxiliary.{auxInit}
+use Rattle.start.specs.Auxiliary.{auxInit}
 use borrow.Author.Needs.{needs}
-use Rattle.scalar.proofs.auxiliary.start.Statement.{statement}
-use Rattle.scalar.proofs.auxiliary.start.Tie as tie
+use Rattle.start.proofs.auxiliary.start.Statement.{statement}
+use Rattle.start.proofs.auxiliary.start.Tie as tie
 
 returns : tie.Need-returns
 unfolding auxInit

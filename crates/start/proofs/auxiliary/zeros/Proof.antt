@@ -1,6 +1,6 @@
 use borrow.Author.Needs.{needs}
-use Rattle.scalar.proofs.auxiliary.zeros.Statement.{statement}
-use Rattle.scalar.proofs.auxiliary.zeros.Tie as tie
+use Rattle.start.proofs.auxiliary.zeros.Statement.{statement}
+use Rattle.start.proofs.auxiliary.zeros.Tie as tie
 
 returns : tie.Need-returns
 returns c = rw (← c .before .before .before .before .before .pre) (c .before .before .zero .ensures)

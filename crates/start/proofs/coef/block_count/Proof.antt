@@ -1,10 +1,10 @@
 use mathlib.Core.Path.{refl}
 use native.Mathlib.Omega.{arith}
-use Rattle.scalar.proofs.Cover.{blocks-fill}
-use Rattle.scalar.proofs.coef.block_count.Statement.{statement}
-use Rattle.scalar.proofs.coef.block_count.Tie as tie
-use Rattle.scalar.proofs.coef.block_count.Reads as reads
-use Rattle.scalar.proofs.coef.block_count.Lts as lts
+use Rattle.start.proofs.Cover.{blocks-fill}
+use Rattle.start.proofs.coef.block_count.Statement.{statement}
+use Rattle.start.proofs.coef.block_count.Tie as tie
+use Rattle.start.proofs.coef.block_count.Reads as reads
+use Rattle.start.proofs.coef.block_count.Lts as lts
 
 mul-result : tie.Need-mul-result
 mul-result c = omega (arith, blocks-fill (c .args .o .width) (c .args .o .height) (c .pre .0 .0) (c .pre .0 .1))

@@ -8,9 +8,9 @@ use mathlib.Core.Path.{_≡_}
 use native.Mathlib.Omega.{arith}
 use Rattle.fold.proofs.Loops.{upto-call, upto-end}
 use Rattle.fold.specs.Fold.{upto}
-use Rattle.scalar.specs.Coef.{dequantise, dequantiseAt}
-use Rattle.scalar.proofs.coef.dequantise.Statement.{statement}
-use Rattle.scalar.proofs.coef.dequantise.Tie as tie
+use Rattle.start.specs.Coef.{dequantise, dequantiseAt}
+use Rattle.start.proofs.coef.dequantise.Statement.{statement}
+use Rattle.start.proofs.coef.dequantise.Tie as tie
 
 abbrev Inv-loop : tie.InvT-loop
 Inv-loop out₀ levels table i j₀ out j = (j ≤ 64) × (length out ≡ length out₀) × (out ≡ upto (dequantiseAt levels table i) j out₀)

@@ -1,9 +1,9 @@
 use native.Mathlib.Omega.{arith}
-use Rattle.scalar.proofs.Cover.{blocks-fill}
-use Rattle.scalar.specs.Coef.{imageBlock}
+use Rattle.start.proofs.Cover.{blocks-fill}
+use Rattle.start.specs.Coef.{imageBlock}
 use borrow.Author.Needs.{needs}
-use Rattle.scalar.proofs.coef.image_block.Statement.{statement}
-use Rattle.scalar.proofs.coef.image_block.Tie as tie
+use Rattle.start.proofs.coef.image_block.Statement.{statement}
+use Rattle.start.proofs.coef.image_block.Tie as tie
 
 dequantise-requires : tie.Need-dequantise-requires
 dequantise-requires c κs = omega (arith, blocks-fill (c .before .before .before .before .args .o .width) (c .before .before .before .before .args .o .height) (c .before .before .before .before .pre .0 .0) (c .before .before .before .before .pre .0 .1))

@@ -5,9 +5,9 @@ use mathlib.Core.Path.{_≡_}
 use native.Mathlib.Omega.{arith}
 use Rattle.fold.proofs.Loops.{upto-call, upto-end}
 use Rattle.fold.specs.Fold.{upto}
-use Rattle.scalar.specs.Coef.{coef, imageBlock, imageData}
-use Rattle.scalar.proofs.coef.image_data.Statement.{statement}
-use Rattle.scalar.proofs.coef.image_data.Tie as tie
+use Rattle.start.specs.Coef.{coef, imageBlock, imageData}
+use Rattle.start.proofs.coef.image_data.Statement.{statement}
+use Rattle.start.proofs.coef.image_data.Tie as tie
 
 abbrev Inv-loop : tie.InvT-loop
 Inv-loop image₀ scratch₀ o levels table n i₀ image scratch i = (i ≤ n) × (length image ≡ length image₀) × (length scratch ≡ length scratch₀) × (image ≡ upto (imageBlock (coef o levels table)) i image₀)

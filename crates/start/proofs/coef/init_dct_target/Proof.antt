@@ -5,9 +5,9 @@ use mathlib.Core.Path.{_≡_}
 use native.Mathlib.Omega.{arith}
 use Rattle.fold.proofs.Loops.{upto-call, upto-end}
 use Rattle.fold.specs.Fold.{upto}
-use Rattle.scalar.specs.Coef.{dequantise, initDctTarget}
-use Rattle.scalar.proofs.coef.init_dct_target.Statement.{statement}
-use Rattle.scalar.proofs.coef.init_dct_target.Tie as tie
+use Rattle.start.specs.Coef.{dequantise, initDctTarget}
+use Rattle.start.proofs.coef.init_dct_target.Statement.{statement}
+use Rattle.start.proofs.coef.init_dct_target.Tie as tie
 
 abbrev Inv-loop : tie.InvT-loop
 Inv-loop out₀ levels table n i₀ out i = (i ≤ n) × (length out ≡ length out₀) × (out ≡ upto (dequantise levels table) i out₀)

@@ -2,11 +2,11 @@ use Prim.Native.Nat.{_*_, _≤_}
 use borrow.Author.Needs.{needs}
 use native.Mathlib.Nat.{mul-le-mul}
 use native.Mathlib.Omega.{arith}
-use Rattle.scalar.proofs.Cover.{own-fits}
-use Rattle.scalar.proofs.coef.px_count.Statement.{statement}
-use Rattle.scalar.proofs.coef.px_count.Tie as tie
-use Rattle.scalar.proofs.coef.px_count.Reads as reads
-use Rattle.scalar.proofs.coef.px_count.Lts as lts
+use Rattle.start.proofs.Cover.{own-fits}
+use Rattle.start.proofs.coef.px_count.Statement.{statement}
+use Rattle.start.proofs.coef.px_count.Tie as tie
+use Rattle.start.proofs.coef.px_count.Reads as reads
+use Rattle.start.proofs.coef.px_count.Lts as lts
 
 -- what the own plane and the full plane have
 sizes : (c : tie.Start) → let a = c .args in (a .o .width * a .o .height ≤ a .w * a .h) × (a .w * a .h ≤ 512 * 512)

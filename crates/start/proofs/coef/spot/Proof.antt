@@ -1,10 +1,10 @@
 use borrow.Author.Needs.{needs}
 use native.Mathlib.Omega.{arith}
-use Rattle.scalar.proofs.Cover.{Within, within}
-use Rattle.scalar.proofs.dct_gradient.spot.Statement.{statement}
-use Rattle.scalar.proofs.dct_gradient.spot.Tie as tie
-use Rattle.scalar.proofs.dct_gradient.spot.Reads as reads
-use Rattle.scalar.proofs.dct_gradient.spot.Lts as lts
+use Rattle.start.proofs.Cover.{Within, within}
+use Rattle.start.proofs.coef.spot.Statement.{statement}
+use Rattle.start.proofs.coef.spot.Tie as tie
+use Rattle.start.proofs.coef.spot.Reads as reads
+use Rattle.start.proofs.coef.spot.Lts as lts
 
 -- where the samples lie
 here : (c : tie.Start) → let a = c .args in Within (a .o) (a .w) (a .h) (a .cy) (a .cx) (a .sy)

@@ -1,0 +1,26 @@
+-- Every definition keeps the length of what it changes, with no bound on any place.
+use mathlib.Core.Path.{_≡_, _∙_}
+use mathlib.Core.List.{List}
+use Prim.Native.Nat.{ℕ, _*_}
+use lib.IntN.{ℤ}
+use lib.ListN.{length, replicate, length-set, length-replicate}
+use lib.Ieee.{Float}
+use Rattle.fold.proofs.Loops.{upto-keeps}
+use Rattle.float.specs.Names.{f0}
+use Rattle.utils.proofs.Lengths.{upsample-length}
+use Rattle.start.specs.Coef.{Coef, blockCount, dequantise, dequantiseAt, imageData, initDctTarget}
+use Rattle.start.specs.Auxiliary.{initPixels}
+
+dequantise-length : (levels : List ℤ) (table : List ℕ) (i : ℕ) (out : List Float) → length (dequantise levels table i out) ≡ length out
+unfolding dequantise
+dequantise-length levels table i out = upto-keeps length (dequantiseAt levels table i) (λ k a. simp length-set) 64 out
+
+pub initDctTarget-length : (C : Coef) (out : List Float) → length (initDctTarget C out) ≡ length out
+unfolding initDctTarget
+initDctTarget-length C out = upto-keeps length (dequantise (C .levels) (C .table)) (dequantise-length (C .levels) (C .table)) (blockCount (C .own)) out
+
+pub initPixels-length : (C : Coef) (W H : ℕ) → length (initPixels C W H) ≡ W * H
+unfolding initPixels
+initPixels-length C W H =
+    let o = C .own in
+    upsample-length (imageData C) (o .width) (o .height) (o .across) (o .down) W H (replicate (W * H) f0) ∙ length-replicate (W * H) f0
