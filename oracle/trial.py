@@ -118,7 +118,7 @@ def main(name):
     o += ['use %s.{%s}' % (m, ', '.join(v.split())) for m, v in USES.items()]
     o.append('')
     for c, k in enumerate(channels):
-        o.append('unfoldable pub c%d : Coef\nc%d =\n    record {\n      own = record { width = %d; height = %d; across = %d; down = %d };\n      levels = %s;\n      table = %s;\n    }\n' % (
+        o.append('unfoldable pub c%d : Coef\nc%d =\n    record {\n      own = record { width = %d; height = %d; horizontal = %d; vertical = %d };\n      levels = %s;\n      table = %s;\n    }\n' % (
             c, c, k['w'], k['h'], k['across'], k['down'], items(whole(v) for b in k['blocks'] for v in b), items(k['table'])))
     for step, k in sorted(constants.items()):
         values = '; '.join('%s = ofBits binary32 %d' % (f, v) for f, v in zip(['term', 'factor', '«step_size»', 'second'], k))

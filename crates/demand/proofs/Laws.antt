@@ -47,19 +47,19 @@ coef-count G c = refl
 
 -- a legal channel's sides cover no more than the full sides
 pub covers-of : (S : Sheet) → SheetIs S → (c : ℕ) → c < S .count
-    → Covers (record { width = own S c .width; height = own S c .height; across = own S c .across; down = own S c .down }) (S .W) (S .H)
+    → Covers (record { width = own S c .width; height = own S c .height; horizontal = own S c .across; vertical = own S c .down }) (S .W) (S .H)
 covers-of S f c h =
     let o = f .each-own c h in
     record {
       eights = (o .width-8, o .height-8);
       width-some = omega (arith, o .width-pos);
       height-some = omega (arith, o .height-pos);
-      across-some = o .across-pos;
-      down-some = o .down-pos;
-      across-most = o .across-4;
-      down-most = o .down-4;
-      across-cover = o .covers-across;
-      down-cover = o .covers-down;
+      horizontal-some = o .across-pos;
+      vertical-some = o .down-pos;
+      horizontal-most = o .across-4;
+      vertical-most = o .down-4;
+      horizontal-cover = o .covers-across;
+      vertical-cover = o .covers-down;
       width-most = f .W-512;
       height-most = f .H-512;
     }

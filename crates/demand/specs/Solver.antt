@@ -14,7 +14,7 @@ unfoldable pub coefOf : Given → ℕ → Coef
 coefOf G c =
     let o = own (G .sheet) c in
     let at = levelsBefore (G .sheet) c in
-    coef (record { width = o .width; height = o .height; across = o .across; down = o .down })
+    coef (record { width = o .width; height = o .height; horizontal = o .across; vertical = o .down })
     (part (G .levels) at (at + coefs (G .sheet) c))
     (part (G .tables) (c * 64) (c * 64 + 64))
 

@@ -15,7 +15,7 @@ use Rattle.fidelity.specs.DctGradient.{cellAt, cellRow, cosbsOf, dataGra
 spread-length : (o : Own) (W : ℕ) (alpha v : Float) (cy cx : ℕ) (g : List Float) → length (spread o W alpha v cy cx g) ≡ length g
 unfolding spread
 spread-length o W alpha v cy cx g =
-    upto-keeps length (spreadRow o W alpha v cy cx) (λ sy a. upto-keeps length (spreadAt o W alpha v cy cx sy) (λ sx b. simp length-set) (o .across) a) (o .down) g
+    upto-keeps length (spreadRow o W alpha v cy cx) (λ sy a. upto-keeps length (spreadAt o W alpha v cy cx sy) (λ sx b. simp length-set) (o .horizontal) a) (o .vertical) g
 
 gradientBlock-length : (C : Coef) (W : ℕ) (alpha : Float) (cos : List Float) (by bx : ℕ) (g : List Float) → length (gradientBlock C W alpha cos by bx g) ≡ length g
 unfolding gradientBlock spreadBlock

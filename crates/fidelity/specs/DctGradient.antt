@@ -31,10 +31,10 @@ abbrev pub spreadAt : Own → ℕ → Float → Float → ℕ → ℕ → ℕ �
 spreadAt o W alpha v cy cx sy sx g = let k = spot o W cy cx sy sx in set g k (fused alpha v (val g k))
 
 abbrev pub spreadRow : Own → ℕ → Float → Float → ℕ → ℕ → ℕ → List Float → List Float
-spreadRow o W alpha v cy cx sy g = upto (spreadAt o W alpha v cy cx sy) (o .across) g
+spreadRow o W alpha v cy cx sy g = upto (spreadAt o W alpha v cy cx sy) (o .horizontal) g
 
 unfoldable pub spread : Own → ℕ → Float → Float → ℕ → ℕ → List Float → List Float
-spread o W alpha v cy cx g = upto (spreadRow o W alpha v cy cx) (o .down) g
+spread o W alpha v cy cx g = upto (spreadRow o W alpha v cy cx) (o .vertical) g
 
 -- the 64 values of the block (block_x, block_y): for each in_x, for each in_y
 abbrev pub cellAt : Own → ℕ → Float → List Float → ℕ → ℕ → ℕ → ℕ → List Float → List Float

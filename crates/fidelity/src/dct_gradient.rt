@@ -45,10 +45,10 @@ fn spread(
     requires { ⌜ Covers o w h × (cy < o .height) × (cx < o .width) × (length (now gradient) ≡ w * h) ⌝ }
     ensures { λ _. ⌜ now (gradient .exit) ≡ spread o w alpha v cy cx (now (gradient .entry)) ⌝ }
 {
-    let across = o.across;
-    let down = o.down;
-    for sy in 0..down {
-        for sx in 0..across {
+    let horizontal = o.horizontal;
+    let vertical = o.vertical;
+    for sy in 0..vertical {
+        for sx in 0..horizontal {
             let k = start::coef::spot(o, w, h, cy, cx, sy, sx);
             gradient[k] = float::mul_add(alpha, v, gradient[k]);
         }
@@ -95,6 +95,7 @@ fn block_index(o: Own, by: usize, bx: usize) -> usize
 }
 
 // alpha times the gradient of the distance is added, block by block. Saved (cos) is only read: the block that is changed is a copy.
+// Rules out: the quantiser itself as divisor, and the gradient's earlier values lost.
 pub fn dct_gradient(
     cos: &[f32],
     gradient: &mut [f32],

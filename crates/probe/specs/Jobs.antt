@@ -3,4 +3,4 @@ use Prim.Native.Nat.{ℕ}
 use Rattle.start.specs.declared.coef.Own.{Own}
 
 abbrev pub own : ℕ → ℕ → ℕ → ℕ → Own
-own width height fx fy = record { width = width; height = height; across = fx; down = fy }
+own width height fx fy = record { width = width; height = height; horizontal = fx; vertical = fy }

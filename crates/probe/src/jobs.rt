@@ -51,8 +51,8 @@ pub extern "C" fn probe_start(
     let o = Own {
         width: width,
         height: height,
-        across: fx,
-        down: fy,
+        horizontal: fx,
+        vertical: fy,
     };
     start::auxiliary::start(
         plane,
@@ -113,8 +113,8 @@ pub extern "C" fn probe_data(
     let o = Own {
         width: width,
         height: height,
-        across: fx,
-        down: fy,
+        horizontal: fx,
+        vertical: fy,
     };
     fidelity::dct_gradient::data(saved, gradient, o, w, h, weight, levels, table);
 }
@@ -192,8 +192,8 @@ pub extern "C" fn probe_project(
     let o = Own {
         width: width,
         height: height,
-        across: fx,
-        down: fy,
+        horizontal: fx,
+        vertical: fy,
     };
     projection::projection::project_onto_box(plane, across, down, saved, o, w, h, levels, table);
 }

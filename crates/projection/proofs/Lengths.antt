@@ -18,7 +18,7 @@ use Rattle.projection.specs.Projection.{Box, Boxed, Split, back, backAt,
 
 change-length : (f : Float → Float) (o : Own) (W cy cx : ℕ) (p : List Float) → length (change f o W cy cx p) ≡ length p
 unfolding change
-change-length f o W cy cx p = upto-keeps length (changeRow f o W cy cx) (λ sy a. upto-keeps length (changeAt f o W cy cx sy) (λ sx b. simp length-set) (o .across) a) (o .down) p
+change-length f o W cy cx p = upto-keeps length (changeRow f o W cy cx) (λ sy a. upto-keeps length (changeAt f o W cy cx sy) (λ sx b. simp length-set) (o .horizontal) a) (o .vertical) p
 
 split-keeps : (f : Split → ℕ) (o : Own) (W : ℕ) → ((cy cx : ℕ) (s : Split) → f (splitAt o W cy cx s) ≡ f s) → (s : Split) → f (split o W s) ≡ f s
 unfolding split

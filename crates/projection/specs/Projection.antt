@@ -32,20 +32,20 @@ abbrev pub sumAt : Own → ℕ → List Float → ℕ → ℕ → ℕ → ℕ �
 sumAt o W plane cy cx sy sx t = t ⊕ val plane (spot o W cy cx sy sx)
 
 abbrev pub sumRow : Own → ℕ → List Float → ℕ → ℕ → ℕ → Float → Float
-sumRow o W plane cy cx sy t = upto (sumAt o W plane cy cx sy) (o .across) t
+sumRow o W plane cy cx sy t = upto (sumAt o W plane cy cx sy) (o .horizontal) t
 
 unfoldable pub meanOf : Own → ℕ → List Float → ℕ → ℕ → Float
-meanOf o W plane cy cx = upto (sumRow o W plane cy cx) (o .down) f0 ⊘ float (o .across * o .down)
+meanOf o W plane cy cx = upto (sumRow o W plane cy cx) (o .vertical) f0 ⊘ float (o .horizontal * o .vertical)
 
 -- f done to each place of (cx, cy)
 abbrev pub changeAt : (Float → Float) → Own → ℕ → ℕ → ℕ → ℕ → ℕ → List Float → List Float
 changeAt f o W cy cx sy sx plane = let k = spot o W cy cx sy sx in set plane k (f (val plane k))
 
 abbrev pub changeRow : (Float → Float) → Own → ℕ → ℕ → ℕ → ℕ → List Float → List Float
-changeRow f o W cy cx sy plane = upto (changeAt f o W cy cx sy) (o .across) plane
+changeRow f o W cy cx sy plane = upto (changeAt f o W cy cx sy) (o .horizontal) plane
 
 unfoldable pub change : (Float → Float) → Own → ℕ → ℕ → ℕ → List Float → List Float
-change f o W cy cx plane = upto (changeRow f o W cy cx) (o .down) plane
+change f o W cy cx plane = upto (changeRow f o W cy cx) (o .vertical) plane
 
 -- fdata[spot] -= mean, and fdata[spot] += mean
 abbrev pub less : Own → ℕ → Float → ℕ → ℕ → List Float → List Float

@@ -17,12 +17,12 @@ fn resample(o: Own, w: usize, h: usize) -> bool
 
 // How many places an own sample has, as f32.
 fn places(o: Own) -> f32
-    requires { ⌜ (o .across ≤ 4) × (o .down ≤ 4) ⌝ }
-    ensures { λ r. ⌜ r ≡ float (o .across * o .down) ⌝ }
+    requires { ⌜ (o .horizontal ≤ 4) × (o .vertical ≤ 4) ⌝ }
+    ensures { λ r. ⌜ r ≡ float (o .horizontal * o .vertical) ⌝ }
 {
-    let across = o.across;
-    let down = o.down;
-    std::num::nearest_u32_to_f32((across * down) as u32)
+    let horizontal = o.horizontal;
+    let vertical = o.vertical;
+    std::num::nearest_u32_to_f32((horizontal * vertical) as u32)
 }
 
 // The mean of the places of the own sample (cx, cy): a sum from 0, divided by their number.
@@ -30,11 +30,11 @@ fn mean_of(plane: &[f32], o: Own, w: usize, h: usize, cy: usize, cx: usize) -> f
     requires { ⌜ Covers o w h × (cy < o .height) × (cx < o .width) × (length (now plane) ≡ w * h) ⌝ }
     ensures { λ r. ⌜ r ≡ meanOf o w (now (plane .entry)) cy cx ⌝ }
 {
-    let across = o.across;
-    let down = o.down;
+    let horizontal = o.horizontal;
+    let vertical = o.vertical;
     let mut mean = 0.0f32;
-    for sy in 0..down {
-        for sx in 0..across {
+    for sy in 0..vertical {
+        for sx in 0..horizontal {
             let k = start::coef::spot(o, w, h, cy, cx, sy, sx);
             mean += plane[k];
         }
@@ -47,10 +47,10 @@ fn add_to(plane: &mut [f32], o: Own, w: usize, h: usize, m: f32, cy: usize, cx: 
     requires { ⌜ Covers o w h × (cy < o .height) × (cx < o .width) × (length (now plane) ≡ w * h) ⌝ }
     ensures { λ _. ⌜ now (plane .exit) ≡ change (λ x. x ⊕ m) o w cy cx (now (plane .entry)) ⌝ }
 {
-    let across = o.across;
-    let down = o.down;
-    for sy in 0..down {
-        for sx in 0..across {
+    let horizontal = o.horizontal;
+    let vertical = o.vertical;
+    for sy in 0..vertical {
+        for sx in 0..horizontal {
             let k = start::coef::spot(o, w, h, cy, cx, sy, sx);
             plane[k] += m;
         }

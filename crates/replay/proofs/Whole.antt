@@ -5,7 +5,7 @@ use lib.Dec.{lit<, lit≤}
 use Rattle.start.specs.declared.coef.Own.{Own}
 use Rattle.start.specs.Coef.{Covers}
 
-module _ (o : Own) (e : o ≡ record { width = 8; height = 8; across = 1; down = 1 }) where
+module _ (o : Own) (e : o ≡ record { width = 8; height = 8; horizontal = 1; vertical = 1 }) where
   pub covers : Covers o 8 8
   covers =
       subst (λ (z : Own). Covers z 8 8) (sym e)
@@ -13,12 +13,12 @@ module _ (o : Own) (e : o ≡ record { width = 8; height = 8; across = 1; down =
         eights = (refl, refl);
         width-some = lit< tt;
         height-some = lit< tt;
-        across-some = lit< tt;
-        down-some = lit< tt;
-        across-most = lit≤ tt;
-        down-most = lit≤ tt;
-        across-cover = lit≤ tt;
-        down-cover = lit≤ tt;
+        horizontal-some = lit< tt;
+        vertical-some = lit< tt;
+        horizontal-most = lit≤ tt;
+        vertical-most = lit≤ tt;
+        horizontal-cover = lit≤ tt;
+        vertical-cover = lit≤ tt;
         width-most = lit≤ tt;
         height-most = lit≤ tt;
       })

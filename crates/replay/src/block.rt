@@ -58,13 +58,13 @@ fn read_table(s: &[u8], at: usize, k: usize, xs: &mut [u16])
 
 // The channel: one block, as wide and as high as the sheet.
 fn own() -> Own
-    ensures { λ r. ⌜ r ≡ record { width = 8; height = 8; across = 1; down = 1 } ⌝ }
+    ensures { λ r. ⌜ r ≡ record { width = 8; height = 8; horizontal = 1; vertical = 1 } ⌝ }
 {
     Own {
         width: 8,
         height: 8,
-        across: 1,
-        down: 1,
+        horizontal: 1,
+        vertical: 1,
     }
 }
 

@@ -17,20 +17,20 @@ blocks-fill w h p q =
 -- the own plane is no larger than the full plane
 pub own-fits : (o : Own) (W H : ℕ) → Covers o W H → o .width * o .height ≤ W * H
 own-fits o W H k =
-    let a : o .width ≤ W = omega (arith, mul-le-mul-left (o .width) (k .across-some)) in
-    let b : o .height ≤ H = omega (arith, mul-le-mul-left (o .height) (k .down-some)) in
+    let a : o .width ≤ W = omega (arith, mul-le-mul-left (o .width) (k .horizontal-some)) in
+    let b : o .height ≤ H = omega (arith, mul-le-mul-left (o .height) (k .vertical-some)) in
     mul-le-mul a b
 
--- the samples of (cx, cy) lie within the full plane: their columns in its rows, and row cy * down + sy in its values
+-- the samples of (cx, cy) lie within the full plane: their columns in its rows, and row cy * vertical + sy in its values
 abbrev pub Within : Own → ℕ → ℕ → ℕ → ℕ → ℕ → Type 0
 Within o W H cy cx sy =
-    (cx * o .across + o .across ≤ W) × (cy * o .down + o .down ≤ H) × ((cy * o .down + sy) * W + W ≤ W * H) × (W * H ≤ 512 * 512)
+    (cx * o .horizontal + o .horizontal ≤ W) × (cy * o .vertical + o .vertical ≤ H) × ((cy * o .vertical + sy) * W + W ≤ W * H) × (W * H ≤ 512 * 512)
 
-pub within : (o : Own) (W H : ℕ) → Covers o W H → (cy cx sy : ℕ) → cy < o .height → cx < o .width → sy < o .down → Within o W H cy cx sy
+pub within : (o : Own) (W H : ℕ) → Covers o W H → (cy cx sy : ℕ) → cy < o .height → cx < o .width → sy < o .vertical → Within o W H cy cx sy
 within o W H k cy cx sy p q r =
-    let a : cx * o .across + o .across ≤ W = omega (arith, row-end cx (o .width) (o .across) q, k .across-cover) in
-    let b : cy * o .down + o .down ≤ H = omega (arith, row-end cy (o .height) (o .down) p, k .down-cover) in
-    (a, b, omega (arith, row-end (cy * o .down + sy) H W (omega arith), mul-comm W H), mul-le-mul (k .width-most) (k .height-most))
+    let a : cx * o .horizontal + o .horizontal ≤ W = omega (arith, row-end cx (o .width) (o .horizontal) q, k .horizontal-cover) in
+    let b : cy * o .vertical + o .vertical ≤ H = omega (arith, row-end cy (o .height) (o .vertical) p, k .vertical-cover) in
+    (a, b, omega (arith, row-end (cy * o .vertical + sy) H W (omega arith), mul-comm W H), mul-le-mul (k .width-most) (k .height-most))
 
 -- block (bx, by) ends within the blocks, and with its 64 values within the own plane
 pub block-in : (o : Own) → Eights o → (by bx : ℕ) → by < o .height / 8 → bx < o .width / 8

@@ -23,4 +23,4 @@ pub initPixels-length : (C : Coef) (W H : ℕ) → length (initPixels C W H) ≡
 unfolding initPixels
 initPixels-length C W H =
     let o = C .own in
-    upsample-length (imageData C) (o .width) (o .height) (o .across) (o .down) W H (replicate (W * H) f0) ∙ length-replicate (W * H) f0
+    upsample-length (imageData C) (o .width) (o .height) (o .horizontal) (o .vertical) W H (replicate (W * H) f0) ∙ length-replicate (W * H) f0

@@ -13,7 +13,7 @@ use Rattle.start.specs.Coef.{Coef, imageData, initDctTarget}
 unfoldable pub initPixels : Coef → ℕ → ℕ → List Float
 initPixels C W H =
     let o = C .own in
-    upsamplePixels (imageData C) (o .width) (o .height) (o .across) (o .down) W H (replicate (W * H) f0)
+    upsamplePixels (imageData C) (o .width) (o .height) (o .horizontal) (o .vertical) W H (replicate (W * H) f0)
 
 unfoldable pub auxInit : Coef → ℕ → ℕ → Buffers
 auxInit C W H =

@@ -63,7 +63,7 @@ initDctTarget C out = upto (dequantise (C .levels) (C .table)) (blockCount (C .o
 
 -- the place in the full plane, of width W, of the subsample (sx, sy) of the own sample (cx, cy)
 abbrev pub spot : Own → ℕ → ℕ → ℕ → ℕ → ℕ → ℕ
-spot o W cy cx sy sx = (cy * o .down + sy) * W + (cx * o .across + sx)
+spot o W cy cx sy sx = (cy * o .vertical + sy) * W + (cx * o .horizontal + sx)
 
 -- ---- what the functions ask of a channel
 
@@ -80,11 +80,11 @@ pub record Covers (o : Own) (W H : ℕ) : Type 0 where
   pub eights : Eights o
   pub width-some : 0 < o .width
   pub height-some : 0 < o .height
-  pub across-some : 0 < o .across
-  pub down-some : 0 < o .down
-  pub across-most : o .across ≤ 4
-  pub down-most : o .down ≤ 4
-  pub across-cover : o .width * o .across ≤ W
-  pub down-cover : o .height * o .down ≤ H
+  pub horizontal-some : 0 < o .horizontal
+  pub vertical-some : 0 < o .vertical
+  pub horizontal-most : o .horizontal ≤ 4
+  pub vertical-most : o .vertical ≤ 4
+  pub horizontal-cover : o .width * o .horizontal ≤ W
+  pub vertical-cover : o .height * o .vertical ≤ H
   pub width-most : W ≤ 512
   pub height-most : H ≤ 512

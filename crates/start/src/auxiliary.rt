@@ -9,6 +9,7 @@ ghost use Rattle.start.specs.Coef.{Covers, Lent, coef, initDctTarget};
 ghost use Rattle.start.specs.Auxiliary.{initPixels, auxInit};
 
 // AlignedF32::zeros(n).
+// Rules out: the first n - 1 values alone, and -0.
 pub fn zeros(xs: &mut [f32], n: usize)
     requires { ⌜ length (now xs) ≡ n ⌝ }
     ensures { λ _. ⌜ now (xs .exit) ≡ replicate n f0 ⌝ }
@@ -33,7 +34,16 @@ fn init_pixels(
 {
     coef::image_data(image, scratch, o, levels, table);
     zeros(plane, w * h);
-    utils::auxiliary::upsample_pixels(&image[..], o.width, o.height, o.across, o.down, w, h, plane);
+    utils::auxiliary::upsample_pixels(
+        &image[..],
+        o.width,
+        o.height,
+        o.horizontal,
+        o.vertical,
+        w,
+        h,
+        plane,
+    );
 }
 
 // The saved coefficients: level × quantiser, and 0 past them.

@@ -8,11 +8,12 @@ ghost use Rattle.start.specs.Coef.{Covers, Eights, Lent, coef, dequantis
 pub struct Own {
     pub width: usize,
     pub height: usize,
-    pub across: usize,
-    pub down: usize,
+    pub horizontal: usize,
+    pub vertical: usize,
 }
 
 // The blocks of a channel: 64 values each, as many as its own plane has.
+// Rules out: the blocks of the full plane, and the count of values.
 pub fn block_count(o: Own) -> usize
     requires { ⌜ Eights o × (o .width * o .height < 2 ^ 63) ⌝ }
     ensures { λ r. ⌜ (r ≡ o .width / 8 * (o .height / 8)) × (r * 64 ≡ o .width * o .height) ⌝ }
@@ -23,6 +24,7 @@ pub fn block_count(o: Own) -> usize
 }
 
 // The values of the own plane, which are no more than those of the full plane.
+// Rules out: the full plane's count, and the count of blocks.
 pub fn px_count(o: Own, w: usize, h: usize) -> usize
     requires { ⌜ Covers o w h ⌝ }
     ensures { λ r. ⌜ (r ≡ o .width * o .height) × (r ≤ w * h) ⌝ }
@@ -66,6 +68,7 @@ fn image_block(
 }
 
 // The channel's pixels in its own sides. Above width 8 the image is reordered after each block.
+// Rules out: the image reordered once, after the last block, and values that `image` held before.
 pub fn image_data(image: &mut [f32], scratch: &mut [f32], o: Own, levels: &[i16], table: &[u16])
     requires { ⌜ Eights o × Lent o (now levels) (now table)
         × (length (now image) ≡ o .width * o .height) × (length (now scratch) ≡ o .width * o .height) ⌝ }
@@ -79,6 +82,7 @@ pub fn image_data(image: &mut [f32], scratch: &mut [f32], o: Own, levels: &[i16]
 }
 
 // The saved coefficients at the start: level × quantiser.
+// Rules out: the inverse transform of those values, and a value changed past the channel's own.
 pub fn init_dct_target(out: &mut [f32], o: Own, levels: &[i16], table: &[u16])
     requires { ⌜ Eights o × Lent o (now levels) (now table) × (o .width * o .height ≤ length (now out)) ⌝ }
     ensures { λ _. ⌜ now (out .exit) ≡ initDctTarget (coef o (now (levels .entry)) (now (table .entry))) (now (out .entry)) ⌝ }
@@ -90,11 +94,12 @@ pub fn init_dct_target(out: &mut [f32], o: Own, levels: &[i16], table: &[u16])
 }
 
 // The place in the full plane of the subsample (sx, sy) of the own sample (cx, cy).
+// Rules out: the factors exchanged, and rows as wide as the own plane's.
 pub fn spot(o: Own, w: usize, h: usize, cy: usize, cx: usize, sy: usize, sx: usize) -> usize
-    requires { ⌜ Covers o w h × (cy < o .height) × (cx < o .width) × (sy < o .down) × (sx < o .across) ⌝ }
+    requires { ⌜ Covers o w h × (cy < o .height) × (cx < o .width) × (sy < o .vertical) × (sx < o .horizontal) ⌝ }
     ensures { λ r. ⌜ (r ≡ spot o w cy cx sy sx) × (r < w * h) ⌝ }
 {
-    let across = o.across;
-    let down = o.down;
-    (cy * down + sy) * w + (cx * across + sx)
+    let horizontal = o.horizontal;
+    let vertical = o.vertical;
+    (cy * vertical + sy) * w + (cx * horizontal + sx)
 }

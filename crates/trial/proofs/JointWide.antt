@@ -31,7 +31,7 @@ use Rattle.solver.specs.Solver.{pushing, fitting, blending, moving, projecting}
 unfoldable pub c0 : Coef
 c0 =
     record {
-      own = record { width = 16; height = 8; across = 1; down = 1 };
+      own = record { width = 16; height = 8; horizontal = 1; vertical = 1 };
       levels = pos 0 ∷ pos 1 ∷ pos 0 ∷ pos 0 ∷ pos 0 ∷ pos 0 ∷ pos 0 ∷ pos 0 ∷ pos 6 ∷ negsuc 0 ∷ pos 0 ∷ pos 9 ∷ pos 0 ∷ pos 8 ∷ pos 8 ∷ pos 6 ∷ pos 6 ∷ pos 0 ∷ negsuc 7 ∷ negsuc 6 ∷ pos 0 ∷ pos 0 ∷ pos 0 ∷ pos 2 ∷ pos 0 ∷ negsuc 4 ∷ pos 0 ∷ negsuc 3 ∷ pos 6 ∷ negsuc 6 ∷ pos 0 ∷ negsuc 4 ∷ pos 0 ∷ pos 0 ∷ pos 0 ∷ pos 0 ∷ pos 0 ∷ pos 8 ∷ pos 1 ∷ negsuc 8 ∷ negsuc 0 ∷ negsuc 4 ∷ pos 0 ∷ pos 7 ∷ pos 0 ∷ pos 0 ∷ pos 0 ∷ pos 0 ∷ pos 0 ∷ pos 0 ∷ pos 0 ∷ negsuc 2 ∷ pos 0 ∷ pos 0 ∷ pos 0 ∷ pos 0 ∷ pos 0 ∷ pos 6 ∷ pos 0 ∷ pos 0 ∷ negsuc 3 ∷ pos 0 ∷ pos 0 ∷ pos 0 ∷ pos 0 ∷ pos 0 ∷ pos 0 ∷ pos 0 ∷ negsuc 8 ∷ pos 0 ∷ pos 0 ∷ negsuc 7 ∷ negsuc 8 ∷ pos 0 ∷ pos 0 ∷ pos 1 ∷ pos 0 ∷ pos 0 ∷ pos 0 ∷ pos 0 ∷ pos 0 ∷ pos 0 ∷ pos 4 ∷ pos 7 ∷ pos 0 ∷ pos 0 ∷ negsuc 7 ∷ pos 7 ∷ pos 0 ∷ pos 0 ∷ pos 0 ∷ pos 0 ∷ pos 0 ∷ pos 0 ∷ negsuc 2 ∷ pos 0 ∷ pos 0 ∷ pos 0 ∷ pos 0 ∷ pos 0 ∷ pos 0 ∷ pos 0 ∷ pos 0 ∷ pos 0 ∷ pos 0 ∷ pos 0 ∷ pos 0 ∷ pos 0 ∷ pos 0 ∷ negsuc 5 ∷ pos 0 ∷ pos 9 ∷ pos 7 ∷ pos 7 ∷ pos 0 ∷ pos 0 ∷ pos 0 ∷ pos 0 ∷ pos 0 ∷ pos 0 ∷ negsuc 3 ∷ pos 0 ∷ pos 0 ∷ pos 0 ∷ pos 0 ∷ pos 0 ∷ pos 0 ∷ pos 0 ∷ [];
       table = 10 ∷ 5 ∷ 3 ∷ 13 ∷ 17 ∷ 23 ∷ 2 ∷ 16 ∷ 24 ∷ 15 ∷ 12 ∷ 24 ∷ 9 ∷ 22 ∷ 17 ∷ 20 ∷ 13 ∷ 21 ∷ 6 ∷ 15 ∷ 5 ∷ 15 ∷ 10 ∷ 7 ∷ 9 ∷ 10 ∷ 18 ∷ 6 ∷ 19 ∷ 1 ∷ 24 ∷ 9 ∷ 22 ∷ 24 ∷ 3 ∷ 6 ∷ 15 ∷ 1 ∷ 5 ∷ 21 ∷ 5 ∷ 16 ∷ 15 ∷ 4 ∷ 5 ∷ 7 ∷ 8 ∷ 6 ∷ 13 ∷ 2 ∷ 1 ∷ 3 ∷ 17 ∷ 1 ∷ 16 ∷ 20 ∷ 23 ∷ 18 ∷ 15 ∷ 11 ∷ 15 ∷ 5 ∷ 16 ∷ 14 ∷ [];
     }
@@ -39,7 +39,7 @@ c0 =
 unfoldable pub c1 : Coef
 c1 =
     record {
-      own = record { width = 8; height = 8; across = 2; down = 1 };
+      own = record { width = 8; height = 8; horizontal = 2; vertical = 1 };
       levels = pos 5 ∷ pos 0 ∷ pos 8 ∷ negsuc 0 ∷ pos 0 ∷ negsuc 7 ∷ pos 0 ∷ negsuc 2 ∷ pos 0 ∷ pos 0 ∷ pos 0 ∷ pos 0 ∷ pos 1 ∷ pos 0 ∷ pos 0 ∷ pos 6 ∷ pos 0 ∷ pos 0 ∷ pos 0 ∷ pos 0 ∷ pos 0 ∷ pos 0 ∷ negsuc 0 ∷ pos 7 ∷ pos 5 ∷ pos 0 ∷ pos 0 ∷ pos 0 ∷ pos 4 ∷ pos 0 ∷ pos 0 ∷ pos 0 ∷ pos 6 ∷ negsuc 1 ∷ negsuc 3 ∷ pos 0 ∷ pos 0 ∷ pos 0 ∷ negsuc 7 ∷ pos 0 ∷ pos 0 ∷ pos 2 ∷ pos 2 ∷ pos 0 ∷ pos 0 ∷ pos 6 ∷ pos 0 ∷ pos 0 ∷ pos 0 ∷ negsuc 4 ∷ pos 0 ∷ pos 8 ∷ negsuc 2 ∷ pos 0 ∷ pos 0 ∷ pos 0 ∷ pos 9 ∷ pos 0 ∷ negsuc 8 ∷ pos 0 ∷ negsuc 1 ∷ pos 0 ∷ pos 9 ∷ pos 5 ∷ [];
       table = 13 ∷ 19 ∷ 19 ∷ 24 ∷ 24 ∷ 1 ∷ 8 ∷ 24 ∷ 19 ∷ 9 ∷ 23 ∷ 10 ∷ 7 ∷ 9 ∷ 5 ∷ 1 ∷ 16 ∷ 18 ∷ 21 ∷ 6 ∷ 2 ∷ 21 ∷ 19 ∷ 20 ∷ 1 ∷ 20 ∷ 12 ∷ 3 ∷ 15 ∷ 9 ∷ 9 ∷ 2 ∷ 14 ∷ 8 ∷ 7 ∷ 18 ∷ 4 ∷ 20 ∷ 18 ∷ 11 ∷ 17 ∷ 14 ∷ 14 ∷ 3 ∷ 12 ∷ 17 ∷ 24 ∷ 5 ∷ 23 ∷ 3 ∷ 23 ∷ 22 ∷ 5 ∷ 15 ∷ 5 ∷ 20 ∷ 11 ∷ 10 ∷ 2 ∷ 16 ∷ 12 ∷ 16 ∷ 14 ∷ 4 ∷ [];
     }
@@ -47,7 +47,7 @@ c1 =
 unfoldable pub c2 : Coef
 c2 =
     record {
-      own = record { width = 8; height = 8; across = 1; down = 1 };
+      own = record { width = 8; height = 8; horizontal = 1; vertical = 1 };
       levels = pos 0 ∷ negsuc 1 ∷ pos 0 ∷ pos 0 ∷ pos 0 ∷ pos 2 ∷ negsuc 3 ∷ pos 4 ∷ pos 0 ∷ pos 0 ∷ pos 0 ∷ negsuc 1 ∷ pos 2 ∷ negsuc 3 ∷ negsuc 2 ∷ pos 0 ∷ pos 0 ∷ pos 0 ∷ pos 0 ∷ pos 0 ∷ pos 0 ∷ pos 0 ∷ pos 0 ∷ pos 0 ∷ pos 0 ∷ pos 0 ∷ pos 0 ∷ pos 0 ∷ pos 0 ∷ pos 2 ∷ negsuc 2 ∷ negsuc 2 ∷ pos 4 ∷ pos 0 ∷ pos 0 ∷ negsuc 1 ∷ pos 0 ∷ pos 0 ∷ pos 0 ∷ pos 0 ∷ pos 0 ∷ pos 0 ∷ negsuc 1 ∷ negsuc 3 ∷ pos 0 ∷ pos 0 ∷ pos 0 ∷ pos 0 ∷ pos 0 ∷ pos 0 ∷ pos 0 ∷ pos 4 ∷ pos 0 ∷ pos 0 ∷ pos 0 ∷ pos 0 ∷ pos 2 ∷ pos 0 ∷ pos 0 ∷ pos 0 ∷ negsuc 1 ∷ pos 0 ∷ pos 0 ∷ pos 0 ∷ [];
       table = 20 ∷ 234 ∷ 108 ∷ 91 ∷ 152 ∷ 137 ∷ 77 ∷ 162 ∷ 119 ∷ 35 ∷ 93 ∷ 249 ∷ 34 ∷ 25 ∷ 235 ∷ 205 ∷ 52 ∷ 192 ∷ 82 ∷ 247 ∷ 189 ∷ 87 ∷ 50 ∷ 152 ∷ 92 ∷ 234 ∷ 187 ∷ 75 ∷ 80 ∷ 142 ∷ 155 ∷ 244 ∷ 70 ∷ 180 ∷ 55 ∷ 178 ∷ 88 ∷ 215 ∷ 173 ∷ 54 ∷ 17 ∷ 175 ∷ 223 ∷ 131 ∷ 39 ∷ 170 ∷ 51 ∷ 74 ∷ 74 ∷ 227 ∷ 72 ∷ 77 ∷ 165 ∷ 124 ∷ 188 ∷ 146 ∷ 223 ∷ 19 ∷ 125 ∷ 100 ∷ 80 ∷ 22 ∷ 73 ∷ 169 ∷ [];
     }

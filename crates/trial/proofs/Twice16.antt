@@ -31,7 +31,7 @@ use Rattle.solver.specs.Solver.{pushing, fitting, blending, moving, projecting}
 unfoldable pub c0 : Coef
 c0 =
     record {
-      own = record { width = 8; height = 8; across = 1; down = 1 };
+      own = record { width = 8; height = 8; horizontal = 1; vertical = 1 };
       levels = pos 5 ∷ pos 0 ∷ pos 0 ∷ negsuc 3 ∷ pos 0 ∷ pos 0 ∷ pos 0 ∷ pos 0 ∷ negsuc 6 ∷ pos 0 ∷ pos 0 ∷ pos 6 ∷ pos 0 ∷ pos 5 ∷ pos 7 ∷ pos 0 ∷ pos 0 ∷ pos 5 ∷ pos 0 ∷ pos 0 ∷ pos 0 ∷ pos 7 ∷ pos 0 ∷ negsuc 0 ∷ pos 0 ∷ pos 3 ∷ pos 0 ∷ pos 0 ∷ pos 0 ∷ negsuc 3 ∷ pos 0 ∷ pos 1 ∷ pos 0 ∷ negsuc 0 ∷ pos 0 ∷ pos 0 ∷ negsuc 6 ∷ pos 0 ∷ pos 0 ∷ negsuc 3 ∷ pos 0 ∷ pos 0 ∷ pos 0 ∷ pos 2 ∷ pos 7 ∷ negsuc 6 ∷ pos 0 ∷ pos 0 ∷ negsuc 6 ∷ pos 0 ∷ pos 4 ∷ pos 4 ∷ pos 0 ∷ negsuc 6 ∷ pos 0 ∷ pos 3 ∷ pos 0 ∷ pos 3 ∷ negsuc 1 ∷ pos 0 ∷ pos 0 ∷ pos 5 ∷ negsuc 6 ∷ negsuc 5 ∷ [];
       table = 22 ∷ 20 ∷ 17 ∷ 4 ∷ 8 ∷ 21 ∷ 13 ∷ 14 ∷ 23 ∷ 8 ∷ 10 ∷ 24 ∷ 5 ∷ 14 ∷ 4 ∷ 10 ∷ 2 ∷ 5 ∷ 5 ∷ 13 ∷ 17 ∷ 13 ∷ 17 ∷ 15 ∷ 17 ∷ 6 ∷ 4 ∷ 11 ∷ 22 ∷ 20 ∷ 11 ∷ 9 ∷ 9 ∷ 5 ∷ 22 ∷ 18 ∷ 5 ∷ 15 ∷ 16 ∷ 17 ∷ 11 ∷ 12 ∷ 3 ∷ 8 ∷ 9 ∷ 13 ∷ 10 ∷ 8 ∷ 15 ∷ 2 ∷ 5 ∷ 14 ∷ 8 ∷ 24 ∷ 3 ∷ 12 ∷ 22 ∷ 17 ∷ 21 ∷ 8 ∷ 19 ∷ 6 ∷ 24 ∷ 5 ∷ [];
     }

@@ -69,8 +69,8 @@ toBlocks-length w bw bh input output = ap length (sym (to-is w bw bh input outpu
 
 -- ---- the upsampling
 
-pub upsample-length : (image : List Float) (w h across down W H : ℕ) (out : List Float) → length (upsamplePixels image w h across down W H out) ≡ length out
-upsample-length image w h across down W H out =
-    ap length (sym (upsample-is image w h across down W H out))
-    ∙ loop (upsampleRow image w h across down W)
-    (λ y a. loop (upsampleAt image w h across down W y) (λ x b. simp length-set) W a) H out
+pub upsample-length : (image : List Float) (w h horizontal vertical W H : ℕ) (out : List Float) → length (upsamplePixels image w h horizontal vertical W H out) ≡ length out
+upsample-length image w h horizontal vertical W H out =
+    ap length (sym (upsample-is image w h horizontal vertical W H out))
+    ∙ loop (upsampleRow image w h horizontal vertical W)
+    (λ y a. loop (upsampleAt image w h horizontal vertical W y) (λ x b. simp length-set) W a) H out

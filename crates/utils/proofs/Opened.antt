@@ -41,7 +41,7 @@ pub move-is : (back : Bool) (w bw bh : ℕ) (input output : List Float)
 move-is true w bw bh input output = to-is w bw bh input output
 move-is false w bw bh input output = from-is w bw bh input output
 
-pub upsample-is : (image : List Float) (w h across down W H : ℕ) (out : List Float)
-    → upto (upsampleRow image w h across down W) H out ≡ upsamplePixels image w h across down W H out
+pub upsample-is : (image : List Float) (w h horizontal vertical W H : ℕ) (out : List Float)
+    → upto (upsampleRow image w h horizontal vertical W) H out ≡ upsamplePixels image w h horizontal vertical W H out
 unfolding upsamplePixels
-upsample-is image w h across down W H out = refl
+upsample-is image w h horizontal vertical W H out = refl

@@ -10,16 +10,16 @@ use Rattle.fidelity.proofs.dct_gradient.spread.Statement.{statement}
 use Rattle.fidelity.proofs.dct_gradient.spread.Tie as tie
 
 abbrev Inv-loop2 : tie.InvT-loop2
-Inv-loop2 gradient₀ o w h alpha v cy cx across down sy sx₀ gradient sx = (sx ≤ across) × (length gradient ≡ length gradient₀) × (gradient ≡ upto (spreadAt o w alpha v cy cx sy) sx gradient₀)
+Inv-loop2 gradient₀ o w h alpha v cy cx horizontal vertical sy sx₀ gradient sx = (sx ≤ horizontal) × (length gradient ≡ length gradient₀) × (gradient ≡ upto (spreadAt o w alpha v cy cx sy) sx gradient₀)
 
 abbrev μ-loop2 : tie.MeasureT-loop2
-μ-loop2 gradient₀ o w h alpha v cy cx across down sy sx₀ gradient sx = across - sx
+μ-loop2 gradient₀ o w h alpha v cy cx horizontal vertical sy sx₀ gradient sx = horizontal - sx
 
 abbrev Inv-loop : tie.InvT-loop
-Inv-loop gradient₀ o w h alpha v cy cx across down sy₀ gradient sy = (sy ≤ down) × (length gradient ≡ length gradient₀) × (gradient ≡ upto (spreadRow o w alpha v cy cx) sy gradient₀)
+Inv-loop gradient₀ o w h alpha v cy cx horizontal vertical sy₀ gradient sy = (sy ≤ vertical) × (length gradient ≡ length gradient₀) × (gradient ≡ upto (spreadRow o w alpha v cy cx) sy gradient₀)
 
 abbrev μ-loop : tie.MeasureT-loop
-μ-loop gradient₀ o w h alpha v cy cx across down sy₀ gradient sy = down - sy
+μ-loop gradient₀ o w h alpha v cy cx horizontal vertical sy₀ gradient sy = vertical - sy
 
 loop-holds : tie.Need-loop-holds Inv-loop2 μ-loop2 Inv-loop μ-loop
 unfolding upto

@@ -11,16 +11,16 @@ use Rattle.projection.proofs.projection.add_to.Statement.{statement}
 use Rattle.projection.proofs.projection.add_to.Tie as tie
 
 abbrev Inv-loop2 : tie.InvT-loop2
-Inv-loop2 plane₀ o w h m cy cx across down sy sx₀ plane sx = (sx ≤ across) × (length plane ≡ length plane₀) × (plane ≡ upto (changeAt (λ x. x ⊕ m) o w cy cx sy) sx plane₀)
+Inv-loop2 plane₀ o w h m cy cx horizontal vertical sy sx₀ plane sx = (sx ≤ horizontal) × (length plane ≡ length plane₀) × (plane ≡ upto (changeAt (λ x. x ⊕ m) o w cy cx sy) sx plane₀)
 
 abbrev μ-loop2 : tie.MeasureT-loop2
-μ-loop2 plane₀ o w h m cy cx across down sy sx₀ plane sx = across - sx
+μ-loop2 plane₀ o w h m cy cx horizontal vertical sy sx₀ plane sx = horizontal - sx
 
 abbrev Inv-loop : tie.InvT-loop
-Inv-loop plane₀ o w h m cy cx across down sy₀ plane sy = (sy ≤ down) × (length plane ≡ length plane₀) × (plane ≡ upto (changeRow (λ x. x ⊕ m) o w cy cx) sy plane₀)
+Inv-loop plane₀ o w h m cy cx horizontal vertical sy₀ plane sy = (sy ≤ vertical) × (length plane ≡ length plane₀) × (plane ≡ upto (changeRow (λ x. x ⊕ m) o w cy cx) sy plane₀)
 
 abbrev μ-loop : tie.MeasureT-loop
-μ-loop plane₀ o w h m cy cx across down sy₀ plane sy = down - sy
+μ-loop plane₀ o w h m cy cx horizontal vertical sy₀ plane sy = vertical - sy
 
 loop-holds : tie.Need-loop-holds Inv-loop2 μ-loop2 Inv-loop μ-loop
 unfolding upto

@@ -11,16 +11,16 @@ use Rattle.projection.proofs.projection.mean_of.Statement.{statement}
 use Rattle.projection.proofs.projection.mean_of.Tie as tie
 
 abbrev Inv-loop2 : tie.InvT-loop2
-Inv-loop2 plane o w h cy cx across down mean₀ sy sx₀ mean sx = (sx ≤ across) × (mean ≡ upto (sumAt o w plane cy cx sy) sx mean₀)
+Inv-loop2 plane o w h cy cx horizontal vertical mean₀ sy sx₀ mean sx = (sx ≤ horizontal) × (mean ≡ upto (sumAt o w plane cy cx sy) sx mean₀)
 
 abbrev μ-loop2 : tie.MeasureT-loop2
-μ-loop2 plane o w h cy cx across down mean₀ sy sx₀ mean sx = across - sx
+μ-loop2 plane o w h cy cx horizontal vertical mean₀ sy sx₀ mean sx = horizontal - sx
 
 abbrev Inv-loop : tie.InvT-loop
-Inv-loop plane o w h cy cx across down mean₀ sy₀ mean sy = (sy ≤ down) × (mean ≡ upto (sumRow o w plane cy cx) sy mean₀)
+Inv-loop plane o w h cy cx horizontal vertical mean₀ sy₀ mean sy = (sy ≤ vertical) × (mean ≡ upto (sumRow o w plane cy cx) sy mean₀)
 
 abbrev μ-loop : tie.MeasureT-loop
-μ-loop plane o w h cy cx across down mean₀ sy₀ mean sy = down - sy
+μ-loop plane o w h cy cx horizontal vertical mean₀ sy₀ mean sy = vertical - sy
 
 loop-holds : tie.Need-loop-holds Inv-loop2 μ-loop2 Inv-loop μ-loop
 unfolding upto
@@ -38,7 +38,7 @@ loop-again c = (search needs, upto-call _ _ _ (c .before .before .before .loop .
 
 returns : tie.Need-returns Inv-loop2 μ-loop2 Inv-loop μ-loop
 unfolding meanOf
-returns c = rw (c .places .ensures) (ap (λ (t : Float). t ⊘ float (c .before .before .before .before .args .o .across * c .before .before .before .before .args .o .down)) (upto-end _ _ _ _ (c .before .before .loop .inv .1) (omega arith)))
+returns c = rw (c .places .ensures) (ap (λ (t : Float). t ⊘ float (c .before .before .before .before .args .o .horizontal * c .before .before .before .before .args .o .vertical)) (upto-end _ _ _ _ (c .before .before .loop .inv .1) (omega arith)))
 
 pub mean-of-spec : {M : Type 1} → statement M
 mean-of-spec =

@@ -12,18 +12,18 @@ use Rattle.utils.proofs.auxiliary.upsample_pixels.Statement.{statement}
 use Rattle.utils.proofs.auxiliary.upsample_pixels.Tie as tie
 
 abbrev Inv-loop2 : tie.InvT-loop2
-Inv-loop2 image w h across down maxw maxh out₀ y x₀ out x =
-    (x ≤ maxw) × (length out ≡ length out₀) × (out ≡ upto (upsampleAt image w h across down maxw y) x out₀)
+Inv-loop2 image w h horizontal vertical maxw maxh out₀ y x₀ out x =
+    (x ≤ maxw) × (length out ≡ length out₀) × (out ≡ upto (upsampleAt image w h horizontal vertical maxw y) x out₀)
 
 abbrev μ-loop2 : tie.MeasureT-loop2
-μ-loop2 image w h across down maxw maxh out₀ y x₀ out x = maxw - x
+μ-loop2 image w h horizontal vertical maxw maxh out₀ y x₀ out x = maxw - x
 
 abbrev Inv-loop : tie.InvT-loop
-Inv-loop image w h across down maxw maxh out₀ y₀ out y =
-    (y ≤ maxh) × (length out ≡ length out₀) × (out ≡ upto (upsampleRow image w h across down maxw) y out₀)
+Inv-loop image w h horizontal vertical maxw maxh out₀ y₀ out y =
+    (y ≤ maxh) × (length out ≡ length out₀) × (out ≡ upto (upsampleRow image w h horizontal vertical maxw) y out₀)
 
 abbrev μ-loop : tie.MeasureT-loop
-μ-loop image w h across down maxw maxh out₀ y₀ out y = maxh - y
+μ-loop image w h horizontal vertical maxw maxh out₀ y₀ out y = maxh - y
 
 -- the sample and the pixel of a turn lie within their slices
 within : (c : tie.After-min2 Inv-loop2 μ-loop2 Inv-loop μ-loop)
