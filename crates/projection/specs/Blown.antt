@@ -1,4 +1,4 @@
--- The condition of job 5: any plane value or saved coefficient is NaN or infinite.
+-- Document 01's condition of job 5, which the Rust has not: any plane value or saved coefficient is NaN or infinite.
 use mathlib.Core.Bool.{Bool, true, false, _||_}
 use mathlib.Core.List.{List, [], _∷_}
 use Prim.Native.Nat.{ℕ}

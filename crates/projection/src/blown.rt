@@ -1,4 +1,4 @@
-// The condition of job 5.
+// Document 01's condition of job 5, which the Rust has not.
 use fold::flags::either;
 ghost use mathlib.Core.Path.{_≡_};
 ghost use Prim.Native.Nat.{_≤_};

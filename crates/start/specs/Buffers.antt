@@ -1,4 +1,4 @@
--- The six buffers of a channel: document 01's names, and the Rust's fields of `Aux` beside them.
+-- auxiliary.rs, `Aux`: the six buffers of a channel, by document 01's names, with the Rust's fields beside them.
 use mathlib.Core.List.{List}
 use lib.Ieee.{Float}
 
