@@ -78,10 +78,10 @@ USES = {
     'Rattle.gradients.specs.Tv': 'difference bump bumpUnless tvDifferencesAt tvDifferences gNormOf tvChannelDerivatives tvDerivatives store tvGradientPx tvAlpha tvGradient',
     'Rattle.gradients.specs.Tgv': 'tgvDifferencesAt tgvDifferences g2NormOf tgvBeside tgvUpDown tgvCorners tgvChannelDerivatives tgvDerivatives tgvGradientPx tgvAlpha tgvGradient',
     'Rattle.gradients.specs.Blend': 'blended',
-    'Rattle.start.specs.Coef': 'dequantise imageBlock imageData initDctTarget',
+    'Rattle.start.specs.Coef': 'dequantise imageBlock imageData initDctTarget change',
     'Rattle.start.specs.Auxiliary': 'initPixels auxInit',
     'Rattle.fidelity.specs.DctGradient': 'cosbOf cosbsOf spread spreadBlock gradientBlock dctGradient dataGradient',
-    'Rattle.projection.specs.Projection': 'meanOf change splitAt split clampAt clampBlock clamped keep ontoBox back projectFull projectMeans projectOntoBox',
+    'Rattle.projection.specs.Projection': 'meanOf splitAt split clampAt clampBlock clamped keep ontoBox back projectFull projectMeans projectOntoBox',
     'Rattle.projection.specs.Blown': 'isBlown',
     'Rattle.solver.specs.Solver': 'pushing fitting blending moving projecting',
 }

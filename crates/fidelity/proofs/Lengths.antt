@@ -2,20 +2,21 @@
 use mathlib.Core.Path.{_≡_, _∙_}
 use mathlib.Core.List.{List}
 use Prim.Native.Nat.{ℕ, _*_}
-use lib.ListN.{length, replicate, length-set, length-replicate}
+use lib.ListN.{length, replicate, length-replicate}
 use lib.Ieee.{Float, ne}
 use Rattle.fold.proofs.Loops.{upto-keeps}
+use Rattle.float.specs.Ops.{fused}
 use Rattle.float.specs.Names.{f0}
 use Rattle.steps.specs.Step.{dataAlpha}
 use Rattle.fold.proofs.Choice.{length-cond}
 use Rattle.start.specs.declared.coef.Own.{Own}
+use Rattle.start.proofs.Lengths.{change-length}
 use Rattle.start.specs.Coef.{Coef, blockH, blockW}
-use Rattle.fidelity.specs.DctGradient.{cellAt, cellRow, cosbsOf, dataGradient, dctGradient, gradientBlock, gradientLine, spread, spreadAt, spreadBlock, spreadRow}
+use Rattle.fidelity.specs.DctGradient.{cellAt, cellRow, cosbsOf, dataGradient, dctGradient, gradientBlock, gradientLine, spread, spreadBlock}
 
 spread-length : (o : Own) (W : ℕ) (alpha v : Float) (cy cx : ℕ) (g : List Float) → length (spread o W alpha v cy cx g) ≡ length g
 unfolding spread
-spread-length o W alpha v cy cx g =
-    upto-keeps length (spreadRow o W alpha v cy cx) (λ sy a. upto-keeps length (spreadAt o W alpha v cy cx sy) (λ sx b. simp length-set) (o .horizontal) a) (o .vertical) g
+spread-length o W alpha v cy cx g = change-length (fused alpha v) o W cy cx g
 
 gradientBlock-length : (C : Coef) (W : ℕ) (alpha : Float) (cos : List Float) (by bx : ℕ) (g : List Float) → length (gradientBlock C W alpha cos by bx g) ≡ length g
 unfolding gradientBlock spreadBlock

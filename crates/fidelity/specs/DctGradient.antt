@@ -13,7 +13,7 @@ use Rattle.utils.specs.Dct.{idct8x8}
 use Rattle.interval.specs.Interval.{whole}
 use Rattle.steps.specs.Step.{dataAlpha}
 use Rattle.start.specs.declared.coef.Own.{Own}
-use Rattle.start.specs.Coef.{Coef, blockW, blockH, levelAt, quantAt, spot}
+use Rattle.start.specs.Coef.{Coef, blockW, blockH, levelAt, quantAt, change}
 
 -- cosb = level.mul_add(-quantiser, cosb); cosb /= quantiser.powi(2)
 unfoldable pub cosbOf : ℤ → ℕ → Float → Float
@@ -27,14 +27,8 @@ unfoldable pub cosbsOf : List ℤ → List ℕ → List Float → ℕ → List F
 cosbsOf levels table cos i = idct8x8 (upto (cosbAt levels table i) 64 (part cos (i * 64) (i * 64 + 64)))
 
 -- gradient[spot] = alpha.mul_add(v, gradient[spot]), for each sx, for each sy
-abbrev pub spreadAt : Own → ℕ → Float → Float → ℕ → ℕ → ℕ → ℕ → List Float → List Float
-spreadAt o W alpha v cy cx sy sx g = let k = spot o W cy cx sy sx in set g k (fused alpha v (val g k))
-
-abbrev pub spreadRow : Own → ℕ → Float → Float → ℕ → ℕ → ℕ → List Float → List Float
-spreadRow o W alpha v cy cx sy g = upto (spreadAt o W alpha v cy cx sy) (o .horizontal) g
-
 unfoldable pub spread : Own → ℕ → Float → Float → ℕ → ℕ → List Float → List Float
-spread o W alpha v cy cx g = upto (spreadRow o W alpha v cy cx) (o .vertical) g
+spread o W alpha v cy cx g = change (fused alpha v) o W cy cx g
 
 -- the 64 values of the block (block_x, block_y): for each in_x, for each in_y
 abbrev pub cellAt : Own → ℕ → Float → List Float → ℕ → ℕ → ℕ → ℕ → List Float → List Float

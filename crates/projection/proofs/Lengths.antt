@@ -13,12 +13,9 @@ use Rattle.utils.specs.Blocks.{fromBlocks, onBlock, toBlocks}
 use Rattle.utils.specs.Dct.{dct8x8, idct8x8}
 use Rattle.utils.proofs.Lengths.{blocks-length, dct-length, fromBlocks-length, idct-length, toBlocks-length}
 use Rattle.start.specs.declared.coef.Own.{Own}
+use Rattle.start.proofs.Lengths.{change-length}
 use Rattle.start.specs.Coef.{Coef, blockCount, blockH, blockW, pxCount}
-use Rattle.projection.specs.Projection.{Box, Boxed, Split, back, backAt, backRow, change, changeAt, changeRow, clampAt, clampBlock, clamped, keep, keepAt, ontoBox, projectFull, projectMeans, projectOntoBox, resample, split, splitAt, splitRow}
-
-change-length : (f : Float → Float) (o : Own) (W cy cx : ℕ) (p : List Float) → length (change f o W cy cx p) ≡ length p
-unfolding change
-change-length f o W cy cx p = upto-keeps length (changeRow f o W cy cx) (λ sy a. upto-keeps length (changeAt f o W cy cx sy) (λ sx b. simp length-set) (o .horizontal) a) (o .vertical) p
+use Rattle.projection.specs.Projection.{Box, Boxed, Split, back, backAt, backRow, clampAt, clampBlock, clamped, keep, keepAt, ontoBox, projectFull, projectMeans, projectOntoBox, resample, split, splitAt, splitRow}
 
 split-keeps : (f : Split → ℕ) (o : Own) (W : ℕ) → ((cy cx : ℕ) (s : Split) → f (splitAt o W cy cx s) ≡ f s) → (s : Split) → f (split o W s) ≡ f s
 unfolding split

@@ -12,7 +12,7 @@ use Rattle.utils.specs.Blocks.{fromBlocks, onBlock, toBlocks}
 use Rattle.utils.specs.Dct.{dct8x8, idct8x8}
 use Rattle.interval.specs.Interval.{clampTo}
 use Rattle.start.specs.declared.coef.Own.{Own}
-use Rattle.start.specs.Coef.{Coef, blockW, blockH, blockCount, pxCount, levelAt, quantAt, spot}
+use Rattle.start.specs.Coef.{Coef, blockW, blockH, blockCount, pxCount, levelAt, quantAt, spot, change}
 
 -- what project works on: plane (fdata), across (pixel_diff.x), down (pixel_diff.y) and saved (cos)
 pub record Box : Type 0 where
@@ -36,16 +36,6 @@ sumRow o W plane cy cx sy t = upto (sumAt o W plane cy cx sy) (o .horizontal) t
 
 unfoldable pub meanOf : Own → ℕ → List Float → ℕ → ℕ → Float
 meanOf o W plane cy cx = upto (sumRow o W plane cy cx) (o .vertical) f0 ⊘ float (o .horizontal * o .vertical)
-
--- f done to each place of (cx, cy)
-abbrev pub changeAt : (Float → Float) → Own → ℕ → ℕ → ℕ → ℕ → ℕ → List Float → List Float
-changeAt f o W cy cx sy sx plane = let k = spot o W cy cx sy sx in set plane k (f (val plane k))
-
-abbrev pub changeRow : (Float → Float) → Own → ℕ → ℕ → ℕ → ℕ → List Float → List Float
-changeRow f o W cy cx sy plane = upto (changeAt f o W cy cx sy) (o .horizontal) plane
-
-unfoldable pub change : (Float → Float) → Own → ℕ → ℕ → ℕ → List Float → List Float
-change f o W cy cx plane = upto (changeRow f o W cy cx) (o .vertical) plane
 
 -- fdata[spot] -= mean, and fdata[spot] += mean
 abbrev pub less : Own → ℕ → Float → ℕ → ℕ → List Float → List Float

@@ -6,8 +6,8 @@ ghost use mathlib.Core.List.{List};
 ghost use lib.ListN.{length};
 ghost use lib.Ieee.{Float};
 ghost use Rattle.float.specs.Names.{_⊕_, float};
-ghost use Rattle.start.specs.Coef.{Covers, Eights, Lent, coef};
-ghost use Rattle.projection.specs.Projection.{resample, meanOf, change, splitAt, split, clampBlock, clamped, keep, ontoBox, back, projectFull, projectMeans, projectOntoBox};
+ghost use Rattle.start.specs.Coef.{Covers, Eights, Lent, coef, change};
+ghost use Rattle.projection.specs.Projection.{resample, meanOf, splitAt, split, clampBlock, clamped, keep, ontoBox, back, projectFull, projectMeans, projectOntoBox};
 
 fn resample(o: Own, w: usize, h: usize) -> bool
     ensures { λ r. ⌜ r ≡ resample o w h ⌝ }

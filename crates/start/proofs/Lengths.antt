@@ -8,7 +8,8 @@ use lib.Ieee.{Float}
 use Rattle.fold.proofs.Loops.{upto-keeps}
 use Rattle.float.specs.Names.{f0}
 use Rattle.utils.proofs.Lengths.{upsample-length}
-use Rattle.start.specs.Coef.{Coef, blockCount, dequantise, dequantiseAt, imageData, initDctTarget}
+use Rattle.start.specs.declared.coef.Own.{Own}
+use Rattle.start.specs.Coef.{Coef, blockCount, dequantise, dequantiseAt, imageData, initDctTarget, change, changeAt, changeRow}
 use Rattle.start.specs.Auxiliary.{initPixels}
 
 dequantise-length : (levels : List ℤ) (table : List ℕ) (i : ℕ) (out : List Float) → length (dequantise levels table i out) ≡ length out
@@ -24,3 +25,8 @@ unfolding initPixels
 initPixels-length C W H =
     let o = C .own in
     upsample-length (imageData C) (o .width) (o .height) (o .horizontal) (o .vertical) W H (replicate (W * H) f0) ∙ length-replicate (W * H) f0
+
+-- what is done to each place of an own sample
+pub change-length : (f : Float → Float) (o : Own) (W cy cx : ℕ) (p : List Float) → length (change f o W cy cx p) ≡ length p
+unfolding change
+change-length f o W cy cx p = upto-keeps length (changeRow f o W cy cx) (λ sy a. upto-keeps length (changeAt f o W cy cx sy) (λ sx b. simp length-set) (o .horizontal) a) (o .vertical) p

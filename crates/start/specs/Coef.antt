@@ -6,7 +6,7 @@ use lib.IntN.{ℤ, pos}
 use lib.ListN.{length, getD, set, replicate}
 use lib.Ieee.{Float}
 use Rattle.fold.specs.Fold.{upto}
-use Rattle.float.specs.Names.{f0}
+use Rattle.float.specs.Names.{f0, val}
 use Rattle.utils.specs.Blocks.{fromBlocks, onBlock}
 use Rattle.utils.specs.Dct.{idct8x8}
 use Rattle.interval.specs.Interval.{dequantised}
@@ -64,6 +64,16 @@ initDctTarget C out = upto (dequantise (C .levels) (C .table)) (blockCount (C .o
 -- the place in the full plane, of width W, of the subsample (sx, sy) of the own sample (cx, cy)
 abbrev pub spot : Own → ℕ → ℕ → ℕ → ℕ → ℕ → ℕ
 spot o W cy cx sy sx = (cy * o .vertical + sy) * W + (cx * o .horizontal + sx)
+
+-- f done to each place of the own sample (cx, cy): for each sx, for each sy
+abbrev pub changeAt : (Float → Float) → Own → ℕ → ℕ → ℕ → ℕ → ℕ → List Float → List Float
+changeAt f o W cy cx sy sx plane = let k = spot o W cy cx sy sx in set plane k (f (val plane k))
+
+abbrev pub changeRow : (Float → Float) → Own → ℕ → ℕ → ℕ → ℕ → List Float → List Float
+changeRow f o W cy cx sy plane = upto (changeAt f o W cy cx sy) (o .horizontal) plane
+
+unfoldable pub change : (Float → Float) → Own → ℕ → ℕ → ℕ → List Float → List Float
+change f o W cy cx plane = upto (changeRow f o W cy cx) (o .vertical) plane
 
 -- ---- what the functions ask of a channel
 

@@ -5,7 +5,7 @@ use mathlib.Core.List.{List, [], _∷_, _++_, map}
 use lib.IntN.{ℤ, pos, negsuc}
 use Rattle.steps.specs.declared.solve.Constants.{Constants}
 use Rattle.start.specs.Buffers.{Buffers}
-use Rattle.start.specs.Coef.{Coef}
+use Rattle.start.specs.Coef.{Coef, change}
 use Rattle.solver.specs.Solver.{starting, blown}
 use lib.Ieee.{Float, binary32}
 use lib.Count.{trailingZeros}
@@ -24,7 +24,7 @@ use Rattle.gradients.specs.Blend.{blended}
 use Rattle.start.specs.Coef.{dequantise, imageBlock, imageData, initDctTarget}
 use Rattle.start.specs.Auxiliary.{initPixels, auxInit}
 use Rattle.fidelity.specs.DctGradient.{cosbOf, cosbsOf, spread, spreadBlock, gradientBlock, dctGradient, dataGradient}
-use Rattle.projection.specs.Projection.{meanOf, change, splitAt, split, clampAt, clampBlock, clamped, keep, ontoBox, back, projectFull, projectMeans, projectOntoBox}
+use Rattle.projection.specs.Projection.{meanOf, splitAt, split, clampAt, clampBlock, clamped, keep, ontoBox, back, projectFull, projectMeans, projectOntoBox}
 use Rattle.projection.specs.Blown.{isBlown}
 use Rattle.solver.specs.Solver.{pushing, fitting, blending, moving, projecting}
 

@@ -6,7 +6,7 @@ use native.Mathlib.Omega.{arith}
 use Rattle.float.specs.Names.{_⊕_}
 use Rattle.fold.proofs.Loops.{upto-call, upto-end}
 use Rattle.fold.specs.Fold.{upto}
-use Rattle.projection.specs.Projection.{change, changeAt, changeRow}
+use Rattle.start.specs.Coef.{change, changeAt, changeRow}
 use Rattle.projection.proofs.projection.add_to.Statement.{statement}
 use Rattle.projection.proofs.projection.add_to.Tie as tie
 
