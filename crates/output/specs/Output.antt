@@ -37,7 +37,7 @@ unfoldable pub refusalText : ℕ → ℕ → List ℕ
 unfolding decimal
 refusalText number line = ended (numbersLine 88 number line ∷ [])
 
--- What the calls write into a lent buffer of `room` bytes: the text, or nothing where they cannot
+-- What the calls write into a lent buffer with `room` bytes from their place on: the text, or nothing where they cannot
 
 -- no picture text of these sides is longer: `I` with two sides of three digits takes 10 bytes, a row 2 and 7 for each pixel
 abbrev pub pictureRoom : ℕ → ℕ → ℕ

@@ -1,10 +1,10 @@
-// The text that the program `smooth` prints, written to the front of a lent buffer.
+// The text that the program `smooth` prints, written to a lent buffer from a place of it on.
 ghost use mathlib.Core.List.{[], _∷_, _++_};
-ghost use Prim.Native.Nat.{_+_, _*_, _≤_, _<_};
+ghost use Prim.Native.Nat.{_+_, _-_, _*_, _≤_, _<_};
 ghost use mathlib.Core.Path.{_≡_};
 ghost use lib.ListN.{length};
 ghost use Rattle.text.specs.Written.{decimal, hexByte, hexOf, ended};
-ghost use Rattle.output.specs.Output.{numbersLine, pixel, rowLine, pictureText, pictureRoom, pictureFits, pictureInto, refusalFits, refusalInto, Wrote};
+ghost use Rattle.output.specs.Output.{numbersLine, pixel, rowLine, pictureText, pictureRoom, pictureFits, pictureInto, refusalInto, Wrote};
 
 // A byte. This and what follows write from place `at` on, and answer where what they wrote ends.
 fn put_byte(b: u8, out: &mut [u8], at: usize) -> usize
@@ -36,12 +36,12 @@ fn put_number(n: usize, out: &mut [u8], at: usize) -> usize
     put_decimal(n, out, first)
 }
 
-// The line of a letter and two numbers, at the front.
-fn put_numbers(letter: u8, a: usize, b: usize, out: &mut [u8]) -> usize
-    requires { ⌜ (a ≤ 999999) × (b ≤ 999999) × (4 + length (decimal a) + length (decimal b) ≤ length (now out)) ⌝ }
-    ensures { λ r. ⌜ Wrote 0 (ended (numbersLine letter a b ∷ [])) (now (out .entry)) r (now (out .exit)) ⌝ }
+// The line of a letter and two numbers.
+fn put_numbers(letter: u8, a: usize, b: usize, out: &mut [u8], at: usize) -> usize
+    requires { ⌜ (a ≤ 999999) × (b ≤ 999999) × (at + (4 + length (decimal a) + length (decimal b)) ≤ length (now out)) ⌝ }
+    ensures { λ r. ⌜ Wrote at (ended (numbersLine letter a b ∷ [])) (now (out .entry)) r (now (out .exit)) ⌝ }
 {
-    let first = put_byte(letter, out, 0);
+    let first = put_byte(letter, out, at);
     let second = put_number(a, out, first);
     let end = put_number(b, out, second);
     put_byte(b'\n', out, end)
@@ -91,11 +91,11 @@ fn put_row(width: usize, rgb: &[u8], k: usize, out: &mut [u8], at: usize) -> usi
 }
 
 // A picture that fits.
-fn put_picture(width: usize, height: usize, rgb: &[u8], out: &mut [u8]) -> usize
-    requires { ⌜ (width ≤ 512) × (height ≤ 512) × (length (now rgb) ≡ 3 * (width * height)) × (pictureRoom width height ≤ length (now out)) ⌝ }
-    ensures { λ r. ⌜ Wrote 0 (pictureText width height (now (rgb .entry))) (now (out .entry)) r (now (out .exit)) ⌝ }
+fn put_picture(width: usize, height: usize, rgb: &[u8], out: &mut [u8], at: usize) -> usize
+    requires { ⌜ (width ≤ 512) × (height ≤ 512) × (length (now rgb) ≡ 3 * (width * height)) × (at + pictureRoom width height ≤ length (now out)) ⌝ }
+    ensures { λ r. ⌜ Wrote at (pictureText width height (now (rgb .entry))) (now (out .entry)) r (now (out .exit)) ⌝ }
 {
-    let mut end = put_numbers(b'I', width, height, out);
+    let mut end = put_numbers(b'I', width, height, out, at);
     for y in 0..height {
         end = put_row(width, rgb, y * width, out, end);
     }
@@ -118,17 +118,27 @@ fn picture_fits(width: usize, height: usize, bytes: usize, room: usize) -> bool
     10 + height * (7 * width + 2) <= room
 }
 
-// Writes the text of a picture to the front of `out` and answers its length; 0 and nothing written where the picture does not fit.
-// Ruled out: `ABCDEF` for `abcdef`, or green before red; a row left out, or one that does not end with byte 10.
-pub fn write_picture(width: u32, height: u32, rgb: &[u8], out: &mut [u8]) -> usize
-    ensures { λ r. ⌜ Wrote 0 (pictureInto width height (now (rgb .entry)) (length (now (out .entry)))) (now (out .entry)) r (now (out .exit)) ⌝ }
+// How many bytes of a buffer stand from place `at` on.
+fn room(length: usize, at: usize) -> usize
+    ensures { λ r. ⌜ r ≡ length - at ⌝ }
+{
+    if length < at {
+        return 0;
+    }
+    length - at
+}
+
+// Writes the text of a picture from place `at` of `out` on and answers where it ends; `at` and nothing written where the picture does not fit.
+// Ruled out: `ABCDEF` for `abcdef`, or green before red; a row left out, or one that does not end with byte 10; a byte before `at` changed.
+pub fn write_picture(width: u32, height: u32, rgb: &[u8], out: &mut [u8], at: usize) -> usize
+    ensures { λ r. ⌜ Wrote at (pictureInto width height (now (rgb .entry)) (length (now (out .entry)) - at)) (now (out .entry)) r (now (out .exit)) ⌝ }
 {
     let w = width as usize;
     let h = height as usize;
-    if picture_fits(w, h, rgb.len(), out.len()) {
-        return put_picture(w, h, rgb, out);
+    if picture_fits(w, h, rgb.len(), room(out.len(), at)) {
+        return put_picture(w, h, rgb, out, at);
     }
-    0
+    at
 }
 
 // Writes the text of a refusal to the front of `out` and answers its length; 0 and nothing written where it does not fit.
@@ -142,5 +152,5 @@ pub fn write_refusal(number: u8, line: usize, out: &mut [u8]) -> usize
     if out.len() < 13 {
         return 0;
     }
-    put_numbers(b'X', number as usize, line, out)
+    put_numbers(b'X', number as usize, line, out, 0)
 }

@@ -23,7 +23,7 @@ fn paint_with(h: Header, planes: &[f32], rgb: &mut [u8], out: &mut [u8]) -> usiz
     let width = h.picture_width;
     let height = h.picture_height;
     let _done = picture::finish(h.width, h.height, width, height, h.channels, planes, rgb);
-    output::write_picture(width, height, &rgb[..], out)
+    output::write_picture(width, height, &rgb[..], out, 0)
 }
 
 // The same, with room of its own.

@@ -14,14 +14,14 @@ use Rattle.output.proofs.put_picture.Statement.{statement}
 use Rattle.output.proofs.put_picture.Tie as tie
 
 abbrev Inv-loop : tie.InvT-loop
-Inv-loop width height rgb out₀ end₀ y₀ out end y =
+Inv-loop width height rgb out₀ at end₀ y₀ out end y =
     (y ≤ height) × (end ≡ end₀ + y * (7 * width + 2)) × (length out ≡ length out₀) × Wrote end₀ (ended (each (λ i. rowLine width rgb (i * width)) y)) out₀ end out
 
 abbrev μ-loop : tie.MeasureT-loop
-μ-loop width height rgb out₀ end₀ y₀ out end y = height - y
+μ-loop width height rgb out₀ at end₀ y₀ out end y = height - y
 
 -- where the rows begin: the first line has at most 10 bytes
-first : (l : tie.At-loop Inv-loop μ-loop) → l .before .before .before .put-numbers .result ≤ 10
+first : (l : tie.At-loop Inv-loop μ-loop) → let n = l .before .before .before in n .put-numbers .result ≤ n .before .before .before .before .args .at + 10
 first l =
     let n = l .before .before .before in
     let s = n .before .before .before .before in
