@@ -4,7 +4,7 @@ use mathlib.Core.List.{List, [], _∷_, _++_}
 use Prim.Native.Nat.{ℕ, _+_, _*_, _/_, _%_, _<_}
 use native.Mathlib.Omega.{arith}
 use lib.ListN.{replicate}
-use Rattle.text.specs.Written.{decimal, hexOf}
+use Rattle.digits.specs.Written.{decimal, hexOf}
 use Rattle.output.specs.Output.{each, pictureText, refusalText}
 
 -- "`smooth` prints two lines, `I` tab `2` tab `1`, then `R` tab `818181` tab `818181`"

@@ -9,7 +9,7 @@ use native.Mathlib.Omega.{arith}
 use borrow.Author.Tests.{lt-ltb, le-ltb}
 use lib.Dec.{ltb}
 use lib.ListN.{length, length-append}
-use Rattle.text.specs.Written.{digitsOf, decimal, joined, ended}
+use Rattle.digits.specs.Written.{digitsOf, decimal, joined, ended}
 use Rattle.output.specs.Output.{each, numbersLine}
 
 -- ---- numbers

@@ -9,9 +9,9 @@ use native.Mathlib.Omega.{arith}
 use borrow.Author.Tests.{leb-true, eqb-true, le-leb, eq-eqb}
 use lib.Dec.{eqb, leb}
 use lib.ListN.{length, length-append}
-use Rattle.text.specs.Written.{decimal, ended}
-use Rattle.text.proofs.DecimalLaws.{decimal-length}
-use Rattle.text.proofs.GoodLaws.{both-left, both-right}
+use Rattle.digits.specs.Written.{decimal, ended}
+use Rattle.digits.proofs.Lengths.{decimal-length}
+use Rattle.digits.proofs.Both.{both-left, both-right}
 use Rattle.output.specs.Output.{each, numbersLine, pixel, rowLine, pictureText, pictureRoom, pictureFits, pictureInto, refusalText, refusalInto}
 use Rattle.output.proofs.Lines.{tabbed, tabbed-more, ended-more, row-text, lines-done}
 

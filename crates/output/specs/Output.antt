@@ -5,7 +5,7 @@ use mathlib.Core.List.{List, [], _∷_, _++_}
 use Prim.Native.Nat.{ℕ, zero, suc, _+_, _*_}
 use lib.Dec.{eqb, leb}
 use lib.ListN.{length, getD, take, drop}
-use Rattle.text.specs.Written.{decimal, hexOf, joined, ended}
+use Rattle.digits.specs.Written.{decimal, hexOf, joined, ended}
 
 -- f of 0, 1 and so on, n of them
 module _ {A : Type 0} where

@@ -3,7 +3,7 @@ ghost use mathlib.Core.List.{[], _∷_, _++_};
 ghost use Prim.Native.Nat.{_+_, _-_, _*_, _≤_, _<_};
 ghost use mathlib.Core.Path.{_≡_};
 ghost use lib.ListN.{length};
-ghost use Rattle.text.specs.Written.{decimal, hexByte, hexOf, ended};
+ghost use Rattle.digits.specs.Written.{decimal, hexByte, hexOf, ended};
 ghost use Rattle.output.specs.Output.{numbersLine, pixel, rowLine, pictureText, pictureRoom, pictureFits, pictureInto, refusalInto, Wrote};
 
 // A byte. This and what follows write from place `at` on, and answer where what they wrote ends.

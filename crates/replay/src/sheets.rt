@@ -1,8 +1,8 @@
 // The reading of a sheet text: `read`, the side limit, the refusal's number and line, a digest of what was read, and the text's bytes.
+use contents::Limits;
 use float::bits::to_bits;
 use interval::whole;
 use sheet::Answer;
-use sheet::Limits;
 use sheet::Measured;
 use words::bytes;
 use words::number;

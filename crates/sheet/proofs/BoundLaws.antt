@@ -8,11 +8,12 @@ use lib.Dec.{eqb}
 use lib.ListN.{length}
 use Rattle.text.specs.Pieces.{split}
 use Rattle.text.proofs.PieceLaws.{split-length}
-use Rattle.sheet.specs.declared.Limits.{Limits}
+use Rattle.contents.specs.declared.Limits.{Limits}
 use Rattle.sheet.specs.declared.state.State.{State}
 use Rattle.sheet.specs.declared.state.Taken.{Taken}
 use Rattle.sheet.specs.declared.state.Taken.the-variants as taken
-use Rattle.sheet.specs.Lines.{rulesOf, Held, held, holding, recordOf}
+use Rattle.sheet.specs.Lines.{rulesOf, holding, recordOf}
+use Rattle.contents.specs.Sheets.{Held, held}
 use Rattle.sheet.specs.Reading.{Outcome, Contents, contents, blank, lineTag, takenOf, lineFault, nothingLeft, onFault, onTaken, readFrom, allowed, readText}
 use Rattle.sheet.specs.Reading.Outcome.{Gives, Refused}
 

@@ -13,20 +13,22 @@ use Rattle.text.specs.Pieces.{split}
 use Rattle.text.specs.Numbers.{numberAt}
 use Rattle.text.specs.Weights.{weightAt}
 use Rattle.text.specs.Fields.{fieldOf, faultIn}
-use Rattle.text.specs.Written.{decimal, levelText, joined}
+use Rattle.text.specs.Written.{levelText}
+use Rattle.digits.specs.Written.{decimal, joined}
 use Rattle.text.proofs.GoodLaws.{quantiser-good, level-good}
 use Rattle.text.proofs.JoinLaws.{joined-split, ended-split}
 use Rattle.text.proofs.SizeLaws.{tag-as, range-as, side-as, channels-as, letters-as, weight-as, quantiser-as, level-as}
-use Rattle.sheet.specs.declared.Limits.{Limits}
-use Rattle.sheet.specs.declared.Header.{Header}
-use Rattle.sheet.specs.declared.Channel.{Channel}
-use Rattle.sheet.specs.declared.Sheet.{Sheet}
+use Rattle.contents.specs.declared.Limits.{Limits}
+use Rattle.contents.specs.declared.Header.{Header}
+use Rattle.contents.specs.declared.Channel.{Channel}
+use Rattle.contents.specs.declared.Sheet.{Sheet}
 use Rattle.sheet.specs.declared.state.State.{State}
 use Rattle.sheet.specs.declared.state.Taken.the-variants as taken
-use Rattle.sheet.specs.Lines.{headerRules, channelRules, blockRules, endRules, rulesOf, firstFault, lineLevels, lineTables, Held, held, headerOf, channelOf, recordOf}
+use Rattle.sheet.specs.Lines.{headerRules, channelRules, blockRules, endRules, rulesOf, firstFault, lineLevels, lineTables, headerOf, channelOf, recordOf}
+use Rattle.contents.specs.Sheets.{Held, held, channelsOf}
 use Rattle.sheet.specs.Reading.{Contents, contents, headed, blank, lineTag, placed, opened, covers, takenOf, nothingLeft, onTaken, readFrom, allowed, readText}
 use Rattle.sheet.specs.Reading.Outcome.{Gives, Refused}
-use Rattle.sheet.specs.Written.{headerFields, channelFields, blockFields, endFields, blockLines, channelLines, channelsOf, written}
+use Rattle.sheet.specs.Written.{headerFields, channelFields, blockFields, endFields, blockLines, channelLines, written}
 use Rattle.sheet.specs.Accepts.{Accepts}
 use Rattle.sheet.proofs.StateLaws.{Stands, stands, unbegun}
 use Rattle.sheet.proofs.StateLaws.Stands.{Header-line, Block-line, Channel-line, End-line}

@@ -8,14 +8,15 @@ use mathlib.Core.Bool.{false, cond}
 use lib.ListN.{length, replicate, take, drop, set, getD}
 use lib.IntN.{pos}
 use lib.Dec.{eqb}
-use Rattle.text.specs.declared.weight.Weight.the-variants as weight
+use Rattle.contents.specs.declared.Weight.the-variants as weight
 use Rattle.text.specs.Numbers.{numberOf, numberAt}
 use Rattle.text.specs.Weights.{bitForm, weightOf, weightAt}
 use Rattle.text.specs.Levels.{levelOf}
 use Rattle.text.specs.Fields.{fieldOf}
-use Rattle.text.specs.Written.{joined, ended}
-use Rattle.sheet.specs.declared.Limits.{Limits}
-use Rattle.sheet.specs.Lines.{rulesOf, fieldsFault, held, headerOf, channelOf, recordOf, noChannel}
+use Rattle.digits.specs.Written.{joined, ended}
+use Rattle.contents.specs.declared.Limits.{Limits}
+use Rattle.sheet.specs.Lines.{rulesOf, fieldsFault, headerOf, channelOf, recordOf}
+use Rattle.contents.specs.Sheets.{held, noChannel}
 use Rattle.sheet.specs.Reading.{Outcome, Contents, contents, blank, lineTag, takenOf, lineFault, readText}
 use Rattle.sheet.specs.Calls.{Lengths, measuring, reading}
 use Rattle.sheet.specs.Reading.Outcome.{Gives, Refused}

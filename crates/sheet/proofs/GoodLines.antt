@@ -10,9 +10,10 @@ use borrow.Author.Tests.{not-true}
 use Rattle.text.specs.declared.field.Rule.{Rule}
 use Rattle.text.specs.declared.field.Rule.the-variants as rule
 use Rattle.text.specs.Fields.{fieldOf, faultIn}
-use Rattle.text.proofs.GoodLaws.{both-left, both-right, addsTable, addsLevel, tables-none, levels-none, quantiser-good, level-good}
+use Rattle.text.proofs.GoodLaws.{addsTable, addsLevel, tables-none, levels-none, quantiser-good, level-good}
+use Rattle.digits.proofs.Both.{both-left, both-right}
 use Rattle.sheet.specs.Lines.{factor, ownSide, channelRules, blockRules, orElse, firstFault, lineLevels, lineTables}
-use Rattle.sheet.specs.Legal.{LegalLevels, LegalQuantisers}
+use Rattle.contents.specs.Legal.{LegalLevels, LegalQuantisers}
 
 pub or-left : (k m : Option ℕ) → orElse k m ≡ none → k ≡ none
 or-left none m e = refl

@@ -18,18 +18,19 @@ use Rattle.text.specs.Pieces.{split}
 use Rattle.text.specs.Numbers.{numberAt}
 use Rattle.text.specs.Weights.{weightAt}
 use Rattle.text.specs.Fields.{fieldOf, faultIn}
-use Rattle.text.specs.Legal.{Between, LegalSide}
-use Rattle.text.proofs.GoodLaws.{both-left, both-right, side-is, range-good, side-good, channels-good, weight-good}
-use Rattle.sheet.specs.declared.Limits.{Limits}
-use Rattle.sheet.specs.declared.Header.{Header}
-use Rattle.sheet.specs.declared.Channel.{Channel}
-use Rattle.sheet.specs.declared.Sheet.{Sheet}
+use Rattle.contents.specs.Legal.{Between, LegalSide, LegalLimits, LegalHeader, LegalChannel, LegalQuantisers, LegalLevels, LegalSheet}
+use Rattle.text.proofs.GoodLaws.{side-is, range-good, side-good, channels-good, weight-good}
+use Rattle.digits.proofs.Both.{both-left, both-right}
+use Rattle.contents.specs.declared.Limits.{Limits}
+use Rattle.contents.specs.declared.Header.{Header}
+use Rattle.contents.specs.declared.Channel.{Channel}
+use Rattle.contents.specs.declared.Sheet.{Sheet}
 use Rattle.sheet.specs.declared.state.State.{State}
 use Rattle.sheet.specs.declared.state.Taken.the-variants as taken
-use Rattle.sheet.specs.Lines.{headerRules, channelRules, blockRules, endRules, rulesOf, firstFault, fieldsFault, lineLevels, lineTables, Held, held, headerOf, channelOf, recordOf, noChannel}
+use Rattle.sheet.specs.Lines.{headerRules, channelRules, blockRules, endRules, rulesOf, firstFault, fieldsFault, lineLevels, lineTables, headerOf, channelOf, recordOf}
+use Rattle.contents.specs.Sheets.{Held, held, noChannel, channelAt, levelsTo}
 use Rattle.sheet.specs.Reading.{Outcome, Contents, contents, headed, blank, lineTag, placed, opened, covers, takenOf, isLast, lineFault, nothingLeft, onFault, onTaken, readFrom, allowed, readText}
 use Rattle.sheet.specs.Reading.Outcome.{Gives, Refused}
-use Rattle.sheet.specs.Legal.{LegalLimits, LegalHeader, LegalChannel, channelAt, levelsTo, LegalQuantisers, LegalLevels, LegalSheet}
 use Rattle.sheet.proofs.StateLaws.{Stands, stands, unbegun}
 use Rattle.sheet.proofs.StateLaws.Stands.{Header-line, Block-line, Channel-line, End-line}
 use Rattle.sheet.proofs.GoodLines.{fault-at, fault-drop, tables-without, levels-without, channel-tables, block-levels, all-quantisers, all-levels}

@@ -16,18 +16,19 @@ use Rattle.text.specs.declared.field.Rule.the-variants as rule
 use Rattle.text.specs.Pieces.{split, before}
 use Rattle.text.specs.Numbers.{numberAt}
 use Rattle.text.specs.Fields.{fieldOf, faultIn}
-use Rattle.text.specs.Written.{decimal, rowBytes}
+use Rattle.digits.specs.Written.{decimal, rowBytes}
 use Rattle.text.proofs.PieceLaws.{split-cut, split-whole, split-some}
 use Rattle.text.proofs.GoodLaws.{side-is}
-use Rattle.text.proofs.DecimalLaws.{decimal-length}
+use Rattle.digits.proofs.Lengths.{decimal-length}
 use Rattle.text.proofs.JoinLaws.{joined-split, joined-length, Within}
 use Rattle.text.proofs.SizeLaws.{tag-short, range-short, side-short, channels-short, letters-short, weight-short, quantiser-short, level-short}
-use Rattle.sheet.specs.declared.Limits.{Limits}
-use Rattle.sheet.specs.declared.Header.{Header}
+use Rattle.contents.specs.declared.Limits.{Limits}
+use Rattle.contents.specs.declared.Header.{Header}
 use Rattle.sheet.specs.declared.state.State.{State}
 use Rattle.sheet.specs.declared.state.Taken.{Taken}
 use Rattle.sheet.specs.declared.state.Taken.the-variants as taken
-use Rattle.sheet.specs.Lines.{headerRules, channelRules, blockRules, rulesOf, firstFault, fieldsFault, Held, held, holding, headerOf, channelOf, recordOf}
+use Rattle.sheet.specs.Lines.{headerRules, channelRules, blockRules, rulesOf, firstFault, fieldsFault, holding, headerOf, channelOf, recordOf}
+use Rattle.contents.specs.Sheets.{Held, held}
 use Rattle.sheet.specs.Reading.{Outcome, Contents, contents, headed, blank, lineTag, opened, covers, takenOf, isLast, lineFault, nothingLeft, onFault, onTaken, readFrom, allowed, readText}
 use Rattle.sheet.specs.Reading.Outcome.{Gives, Refused}
 use Rattle.sheet.specs.Longest.{headerSizes, channelSizes, blockSizes, channelBytes, longest, decisive}

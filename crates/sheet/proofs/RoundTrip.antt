@@ -12,20 +12,21 @@ use lib.IntN.{ℤ}
 use borrow.Author.Tests.{eq-eqb, lt-ltb, le-ltb, le-leb}
 use Rattle.text.specs.Pieces.{split}
 use Rattle.text.specs.Fields.{isSide}
-use Rattle.text.specs.Legal.{LegalSide}
-use Rattle.text.specs.Written.{decimal, levelText, joined}
+use Rattle.contents.specs.Legal.{LegalSide, LegalHeader, LegalChannel, LegalQuantisers, LegalLevels, LegalSheet}
+use Rattle.text.specs.Written.{levelText}
+use Rattle.digits.specs.Written.{decimal, joined}
 use Rattle.text.proofs.JoinLaws.{free, allFree, split-joined, joined-free, split-ended}
-use Rattle.sheet.specs.declared.Limits.{Limits}
-use Rattle.sheet.specs.declared.Header.{Header}
-use Rattle.sheet.specs.declared.Channel.{Channel}
-use Rattle.sheet.specs.declared.Sheet.{Sheet}
+use Rattle.contents.specs.declared.Limits.{Limits}
+use Rattle.contents.specs.declared.Header.{Header}
+use Rattle.contents.specs.declared.Channel.{Channel}
+use Rattle.contents.specs.declared.Sheet.{Sheet}
 use Rattle.sheet.specs.declared.state.State.{State}
 use Rattle.sheet.specs.declared.state.Taken.the-variants as taken
-use Rattle.sheet.specs.Lines.{headerRules, channelRules, blockRules, rulesOf, fieldCount, firstFault, Held, held, holding, channelOf, recordOf}
+use Rattle.sheet.specs.Lines.{headerRules, channelRules, blockRules, rulesOf, fieldCount, firstFault, holding, channelOf, recordOf}
+use Rattle.contents.specs.Sheets.{Held, held, levelsTo, channelsOf}
 use Rattle.sheet.specs.Reading.{contents, headed, blank, lineTag, placed, covers, takenOf, isLast, readFrom, readText}
 use Rattle.sheet.specs.Reading.Outcome.{Refused}
-use Rattle.sheet.specs.Legal.{LegalHeader, LegalChannel, LegalQuantisers, LegalLevels, levelsTo, LegalSheet}
-use Rattle.sheet.specs.Written.{headerFields, channelFields, blockFields, endFields, blockLines, channelLines, channelsOf, written}
+use Rattle.sheet.specs.Written.{headerFields, channelFields, blockFields, endFields, blockLines, channelLines, written}
 use Rattle.sheet.proofs.WalkLaws.{line-next, line-end}
 use Rattle.sheet.proofs.GoodLines.{tables-without, levels-without, channel-tables, block-levels}
 use Rattle.sheet.proofs.LegalLaws.{blocks}

@@ -11,7 +11,7 @@ use lib.ListN.{length, replicate}
 use lib.IntN.{ℤ}
 use borrow.Author.Tests.{eq-eqb}
 use Rattle.text.specs.declared.number.Number.the-variants as number
-use Rattle.text.specs.declared.weight.Weight.{Weight}
+use Rattle.contents.specs.declared.Weight.{Weight}
 use Rattle.text.specs.declared.weight.WeightField.the-variants as weight-field
 use Rattle.text.specs.declared.field.Rule.{Rule}
 use Rattle.text.specs.declared.field.Rule.the-variants as rule
@@ -19,17 +19,18 @@ use Rattle.text.specs.declared.field.Field.the-variants as field
 use Rattle.text.specs.Numbers.{numberOf, numberValue, numberAt}
 use Rattle.text.specs.Weights.{weightOf, weightIn, weightAt}
 use Rattle.text.specs.Fields.{letter, fieldOf, faultIn}
-use Rattle.text.specs.Legal.{Between, LegalSide, LegalWeight, LegalLevel}
-use Rattle.text.specs.Written.{decimal, weightText, levelText, joined}
+use Rattle.contents.specs.Legal.{Between, LegalSide, LegalWeight, LegalLevel, LegalHeader, LegalChannel, LegalQuantisers, LegalLevels}
+use Rattle.text.specs.Written.{weightText, levelText}
+use Rattle.digits.specs.Written.{decimal, joined}
 use Rattle.text.proofs.FieldLaws.{range-in, side-in, channels-one, channels-three, quantiser-in, weight-is}
-use Rattle.text.proofs.DecimalLaws.{number-written, decimal-length}
+use Rattle.text.proofs.DecimalLaws.{number-written}
+use Rattle.digits.proofs.Lengths.{decimal-length}
 use Rattle.text.proofs.SpellingLaws.{weight-written, level-written, weight-length, level-length}
 use Rattle.text.proofs.JoinLaws.{above, above-free, above-less, above-decimal, above-weight, above-level, allFree, Within, joined-length}
-use Rattle.sheet.specs.declared.Limits.{Limits}
-use Rattle.sheet.specs.declared.Header.{Header}
-use Rattle.sheet.specs.declared.Channel.{Channel}
+use Rattle.contents.specs.declared.Limits.{Limits}
+use Rattle.contents.specs.declared.Header.{Header}
+use Rattle.contents.specs.declared.Channel.{Channel}
 use Rattle.sheet.specs.Lines.{count, mode, headerRules, channelRules, blockRules, firstFault, lineLevels, lineTables, headerOf, channelOf}
-use Rattle.sheet.specs.Legal.{LegalHeader, LegalChannel, LegalQuantisers, LegalLevels}
 use Rattle.sheet.specs.Written.{headerFields, channelFields, blockFields, endFields}
 
 -- Good fields

@@ -9,15 +9,16 @@ use mir.Syntax.{w32, w64}
 use mir.Val.{Fits}
 use lib.Dec.{eqb, ltb, lit<}
 use borrow.Author.Tests.{le-leb, lt-leb, lt-ltb, le-ltb, ltb-true, ltb-false}
-use Rattle.sheet.specs.declared.Header.{Header}
-use Rattle.sheet.specs.declared.Channel.{Channel}
-use Rattle.sheet.specs.declared.Sheet.{Sheet}
+use Rattle.contents.specs.declared.Header.{Header}
+use Rattle.contents.specs.declared.Channel.{Channel}
+use Rattle.contents.specs.declared.Sheet.{Sheet}
 use Rattle.sheet.specs.declared.line.Record.{Record}
 use Rattle.sheet.specs.declared.line.Record.the-variants as line
 use Rattle.sheet.specs.declared.state.State.{State}
 use Rattle.sheet.specs.declared.state.Taken.{Taken}
 use Rattle.sheet.specs.declared.state.Taken.the-variants as taken
-use Rattle.sheet.specs.Lines.{noHeader, noChannel, headerOf, channelOf, recordOf}
+use Rattle.sheet.specs.Lines.{headerOf, channelOf, recordOf}
+use Rattle.contents.specs.Sheets.{noHeader, noChannel}
 use Rattle.sheet.specs.Walk.{Due}
 use Rattle.sheet.specs.Reading.{headed, blank, lineTag, placed, takenOf}
 

@@ -25,14 +25,15 @@ use Rattle.text.specs.Pieces.{split, before, onto}
 use Rattle.text.specs.Cursor.{AtField, IsLine}
 use Rattle.text.specs.Fields.{letter, fieldOf, faultIn, levelsIn, tablesIn}
 use Rattle.text.proofs.PieceLaws.{at-start, at-here, at-next, at-end, before-le, before-take, split-cut, split-whole, split-first, split-some, split-length}
-use Rattle.sheet.specs.declared.Limits.{Limits}
-use Rattle.sheet.specs.declared.Header.{Header}
+use Rattle.contents.specs.declared.Limits.{Limits}
+use Rattle.contents.specs.declared.Header.{Header}
 use Rattle.sheet.specs.declared.line.Record.{Record}
 use Rattle.sheet.specs.declared.state.State.{State}
 use Rattle.sheet.specs.declared.state.Taken.{Taken}
 use Rattle.sheet.specs.declared.state.Taken.the-variants as taken
 use Rattle.sheet.specs.declared.walk.Walked.the-variants as walked
-use Rattle.sheet.specs.Lines.{headerRules, channelRules, blockRules, endRules, rulesOf, fieldCount, firstFault, fieldsFault, lineLevels, lineTables, Held, held, holding, recordOf}
+use Rattle.sheet.specs.Lines.{headerRules, channelRules, blockRules, endRules, rulesOf, fieldCount, firstFault, fieldsFault, lineLevels, lineTables, holding, recordOf}
+use Rattle.contents.specs.Sheets.{Held, held}
 use Rattle.sheet.specs.Reading.{Outcome, Contents, contents, blank, lineTag, takenOf, isLast, nothingLeft, onTaken, lineFault, readFrom, allowed, readText}
 use Rattle.sheet.specs.Reading.Outcome.{Refused}
 use Rattle.sheet.specs.Calls.{Lengths}

@@ -3,11 +3,11 @@
 use Prim.Native.Nat.{ℕ}
 use mathlib.Core.Path.{_≡_}
 use mathlib.Core.List.{List}
-use Rattle.sheet.specs.declared.Limits.{Limits}
-use Rattle.sheet.specs.declared.Sheet.{Sheet}
-use Rattle.sheet.specs.Lines.{Held}
+use Rattle.contents.specs.declared.Limits.{Limits}
+use Rattle.contents.specs.declared.Sheet.{Sheet}
+use Rattle.contents.specs.Sheets.{Held}
 use Rattle.sheet.specs.Reading.{contents, readText}
-use Rattle.sheet.specs.Legal.{LegalSheet}
+use Rattle.contents.specs.Legal.{LegalSheet}
 use Rattle.sheet.specs.Written.{written}
 
 -- The text of a sheet with what it holds, within the caller's limits

@@ -2,7 +2,6 @@
 pub mod Lines
 pub mod Reading
 pub mod Calls
-pub mod Legal
 pub mod Walk
 pub mod Written
 pub mod Longest

@@ -2,22 +2,22 @@
 -- Tags are S (83), C (67), B (66) and E (69).
 use Prim.Native.Nat.{ℕ}
 use mathlib.Core.List.{List, [], _∷_, _++_}
-use mathlib.Core.Bool.{false, cond}
+use mathlib.Core.Bool.{cond}
 use mathlib.Core.Option.{Option, none, some}
 use lib.ListN.{length, getD, replicate}
 use lib.Dec.{eqb}
 use lib.IntN.{ℤ}
-use Rattle.text.specs.declared.weight.Weight.the-variants as weight
 use Rattle.text.specs.declared.field.Rule.{Rule}
 use Rattle.text.specs.declared.field.Rule.the-variants as rule
 use Rattle.text.specs.Numbers.{numberAt}
 use Rattle.text.specs.Weights.{weightAt}
 use Rattle.text.specs.Fields.{letter, fieldOf, faultIn, levelsIn, tablesIn}
-use Rattle.sheet.specs.declared.Limits.{Limits}
-use Rattle.sheet.specs.declared.Header.{Header}
-use Rattle.sheet.specs.declared.Channel.{Channel}
+use Rattle.contents.specs.declared.Limits.{Limits}
+use Rattle.contents.specs.declared.Header.{Header}
+use Rattle.contents.specs.declared.Channel.{Channel}
 use Rattle.sheet.specs.declared.line.Record.{Record}
 use Rattle.sheet.specs.declared.line.Record.the-variants as line
+use Rattle.contents.specs.Sheets.{Held, held}
 
 -- "three iteration counts (0 to 1,000)", else 2
 abbrev pub count : Rule
@@ -92,14 +92,6 @@ lineTables [] fs = []
 lineTables (r ∷ rs) [] = []
 lineTables (r ∷ rs) (f ∷ fs) = tablesIn (fieldOf r f) ++ lineTables rs fs
 
--- What goes to the lent buffers: levels and tables
-pub record Held : Type 0 where
-  pub levels : List ℤ
-  pub tables : List ℕ
-
-abbrev pub held : List ℤ → List ℕ → Held
-held ls ts = record { levels = ls; tables = ts }
-
 -- what was read so far, and a line more
 abbrev pub holding : Held → List Rule → List (List ℕ) → Held
 holding h rs fs = held (h .levels ++ lineLevels rs fs) (h .tables ++ lineTables rs fs)
@@ -130,27 +122,3 @@ channelOf fs = record { width = numberAt fs 1; height = numberAt fs 2; across = 
 
 unfoldable pub recordOf : ℕ → List (List ℕ) → Record
 recordOf tag fs = cond (eqb tag 83) (line.Header (headerOf fs)) (cond (eqb tag 67) (line.Channel (channelOf fs)) line.Block)
-
--- no header, no channel
-abbrev pub noHeader : Header
-noHeader =
-    record {
-      width = 0;
-      height = 0;
-      «picture_width» = 0;
-      «picture_height» = 0;
-      channels = 0;
-      joint = false;
-      iterations0 = 0;
-      iterations1 = 0;
-      iterations2 = 0;
-      smoothing0 = weight.Whole 0;
-      smoothing1 = weight.Whole 0;
-      smoothing2 = weight.Whole 0;
-      data0 = weight.Whole 0;
-      data1 = weight.Whole 0;
-      data2 = weight.Whole 0;
-    }
-
-abbrev pub noChannel : Channel
-noChannel = record { width = 0; height = 0; across = 0; down = 0 }

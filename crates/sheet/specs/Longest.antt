@@ -2,7 +2,7 @@
 use Prim.Native.Nat.{ℕ, _+_, _*_, _/_}
 use mathlib.Core.List.{List, _∷_}
 use lib.ListN.{length, replicate}
-use Rattle.text.specs.Written.{decimal, rowBytes}
+use Rattle.digits.specs.Written.{decimal, rowBytes}
 
 -- The most bytes of each field, where a side has at most d digits
 abbrev pub headerSizes : ℕ → List ℕ

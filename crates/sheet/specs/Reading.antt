@@ -8,16 +8,17 @@ use lib.Dec.{eqb, leb, ltb}
 use Rattle.text.specs.declared.field.Rule.{Rule}
 use Rattle.text.specs.Pieces.{split}
 use Rattle.text.specs.Fields.{isSide}
-use Rattle.sheet.specs.declared.Limits.{Limits}
-use Rattle.sheet.specs.declared.Header.{Header}
-use Rattle.sheet.specs.declared.Channel.{Channel}
-use Rattle.sheet.specs.declared.Sheet.{Sheet}
+use Rattle.contents.specs.declared.Limits.{Limits}
+use Rattle.contents.specs.declared.Header.{Header}
+use Rattle.contents.specs.declared.Channel.{Channel}
+use Rattle.contents.specs.declared.Sheet.{Sheet}
 use Rattle.sheet.specs.declared.line.Record.{Record}
 use Rattle.sheet.specs.declared.line.Record.the-variants as line
 use Rattle.sheet.specs.declared.state.State.{State}
 use Rattle.sheet.specs.declared.state.Taken.{Taken}
 use Rattle.sheet.specs.declared.state.Taken.the-variants as taken
-use Rattle.sheet.specs.Lines.{rulesOf, fieldsFault, Held, held, holding, recordOf, noHeader, noChannel}
+use Rattle.sheet.specs.Lines.{rulesOf, fieldsFault, holding, recordOf}
+use Rattle.contents.specs.Sheets.{Held, held, noHeader, noChannel}
 
 -- What a call or a text gives: its values, or a number of the paper's table and the line, counted from 1
 pub data Outcome (A : Type 0) : Type 0 where

@@ -9,13 +9,13 @@ use Rattle.text.specs.declared.field.Rule.the-variants as rule
 use Rattle.text.specs.declared.field.Field.{Field}
 use Rattle.text.specs.declared.field.Field.the-variants as field
 use Rattle.text.specs.Fields.{fieldOf}
-use Rattle.sheet.specs.declared.Limits.{Limits}
+use Rattle.contents.specs.declared.Limits.{Limits}
 use Rattle.sheet.specs.declared.line.Record.{Record}
 use Rattle.sheet.specs.declared.line.Record.the-variants as line
 use Rattle.sheet.specs.declared.state.State.{State}
 use Rattle.sheet.specs.declared.walk.Walked.{Walked}
 use Rattle.sheet.specs.declared.walk.Walked.the-variants as walked
-use Rattle.sheet.specs.Lines.{Held}
+use Rattle.contents.specs.Sheets.{Held}
 use Rattle.sheet.specs.Reading.{Outcome, Contents, readText}
 use Rattle.sheet.specs.Reading.Outcome.{Gives, Refused}
 

@@ -4,11 +4,12 @@ use mathlib.Core.List.{List, [], _∷_, _++_, map}
 use mathlib.Core.Bool.{cond}
 use lib.ListN.{take, drop}
 use lib.IntN.{ℤ}
-use Rattle.text.specs.Written.{decimal, weightText, levelText, joined, ended}
-use Rattle.sheet.specs.declared.Header.{Header}
-use Rattle.sheet.specs.declared.Channel.{Channel}
-use Rattle.sheet.specs.declared.Sheet.{Sheet}
-use Rattle.sheet.specs.Lines.{Held, held}
+use Rattle.text.specs.Written.{weightText, levelText}
+use Rattle.digits.specs.Written.{decimal, joined, ended}
+use Rattle.contents.specs.declared.Header.{Header}
+use Rattle.contents.specs.declared.Channel.{Channel}
+use Rattle.contents.specs.declared.Sheet.{Sheet}
+use Rattle.contents.specs.Sheets.{Held, held, channelsOf}
 
 -- The fields of each line
 abbrev pub headerFields : Header → List (List ℕ)
@@ -42,10 +43,6 @@ channelLines [] h = []
 channelLines (c ∷ cs) h =
     joined (channelFields c (take 64 (h .tables)))
     ∷ (blockLines (c .width * c .height / 64) (h .levels) ++ channelLines cs (held (drop (c .width * c .height) (h .levels)) (drop 64 (h .tables))))
-
--- the channels in use
-abbrev pub channelsOf : Sheet → List Channel
-channelsOf s = take (s .header .channels) (s .first ∷ s .second ∷ s .third ∷ [])
 
 unfoldable pub written : Sheet → Held → List ℕ
 unfolding decimal weightText levelText

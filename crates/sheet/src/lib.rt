@@ -4,51 +4,11 @@ mod state;
 mod walk;
 
 use crate::walk::Walked;
-pub use text::weight::Weight;
-pub use text::weight::weight_value;
+use contents::Limits;
+use contents::Sheet;
 ghost use mathlib.Core.Path.{_≡_};
-ghost use Rattle.sheet.specs.Lines.{held};
+ghost use Rattle.contents.specs.Sheets.{held};
 ghost use Rattle.sheet.specs.Calls.{measuring, measuredSays, Reads};
-
-// What a caller allows: the largest full side.
-pub struct Limits {
-    pub side: u32,
-}
-
-// A header line: full sides, picture sides, channels, mode, and three each of iterations, smoothing and data weights.
-pub struct Header {
-    pub width: u32,
-    pub height: u32,
-    pub picture_width: u32,
-    pub picture_height: u32,
-    pub channels: u32,
-    pub joint: bool,
-    pub iterations0: u32,
-    pub iterations1: u32,
-    pub iterations2: u32,
-    pub smoothing0: Weight,
-    pub smoothing1: Weight,
-    pub smoothing2: Weight,
-    pub data0: Weight,
-    pub data1: Weight,
-    pub data2: Weight,
-}
-
-// A channel line but for its quantisers: own sides and factors.
-pub struct Channel {
-    pub width: u32,
-    pub height: u32,
-    pub across: u32,
-    pub down: u32,
-}
-
-// A sheet but for its levels and quantisers. With one channel the second and third are zero.
-pub struct Sheet {
-    pub header: Header,
-    pub first: Channel,
-    pub second: Channel,
-    pub third: Channel,
-}
 
 // The answer of measuring: the lengths of the levels and tables buffers, or a refusal.
 pub enum Measured {

@@ -1,7 +1,7 @@
 // The lines: the rule of each field, and what a good line holds.
-use crate::Channel;
-use crate::Header;
-use crate::Limits;
+use contents::Channel;
+use contents::Header;
+use contents::Limits;
 use text::field;
 use text::field::Field;
 use text::field::Rule;

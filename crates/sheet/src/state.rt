@@ -1,12 +1,12 @@
 // What was read so far, and what the next line adds to it.
-use crate::Channel;
-use crate::Header;
-use crate::Sheet;
 use crate::line::Record;
-use text::weight::Weight;
+use contents::Channel;
+use contents::Header;
+use contents::Sheet;
+use contents::Weight;
 ghost use mathlib.Core.Path.{_≡_};
 ghost use mathlib.Core.Bool.{cond};
-ghost use Rattle.sheet.specs.Lines.{noHeader, noChannel};
+ghost use Rattle.contents.specs.Sheets.{noHeader, noChannel};
 ghost use Prim.Native.Nat.{_<_};
 ghost use Rattle.sheet.specs.Walk.{Due};
 ghost use Rattle.text.specs.Pieces.{split};

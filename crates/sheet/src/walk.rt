@@ -1,16 +1,16 @@
 // Reading line by line and field by field.
-use crate::Limits;
-use crate::Sheet;
 use crate::line;
 use crate::state;
 use crate::state::Taken;
+use contents::Limits;
+use contents::Sheet;
 use text::field;
 use text::field::Field;
 use text::pieces;
 ghost use mathlib.Core.Path.{_≡_};
 ghost use Prim.Native.Nat.{_+_, _^_, _<_};
 ghost use Rattle.text.specs.Fields.{levelsIn, tablesIn};
-ghost use Rattle.sheet.specs.Lines.{held};
+ghost use Rattle.contents.specs.Sheets.{held};
 ghost use Rattle.sheet.specs.Reading.{allowed};
 ghost use Rattle.sheet.specs.Walk.{Stored, Walks};
 

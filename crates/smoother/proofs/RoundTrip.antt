@@ -9,10 +9,10 @@ use lib.IntN.{ℤ, pos}
 use lib.Ieee.{Float, binary32, ofBits, toBits, fits, ofInt}
 use lib.Ieee.Bits.{ofBits-toBits, ofBits-fits}
 use lib.Ieee.Fits.{ofInt-fits}
-use Rattle.text.specs.declared.weight.Weight.{Weight}
-use Rattle.text.specs.declared.weight.Weight.the-variants as weight
-use Rattle.text.specs.Weights.{valueOf}
-use Rattle.sheet.specs.declared.Sheet.{Sheet}
+use Rattle.contents.specs.declared.Weight.{Weight}
+use Rattle.contents.specs.declared.Weight.the-variants as weight
+use Rattle.contents.specs.Weights.{valueOf}
+use Rattle.contents.specs.declared.Sheet.{Sheet}
 use Rattle.fold.specs.Part.{part}
 use Rattle.start.specs.Buffers.{Buffers}
 use Rattle.calls.specs.Run.{Given, levelsBefore, every, among}

@@ -14,7 +14,7 @@ use Rattle.calls.specs.Calls.{lengths, allSix}
 use Rattle.record.specs.declared.Answer.{Answer}
 use Rattle.record.specs.Model.{answerOf}
 use Rattle.serve.specs.Serve.{byteOf}
-use Rattle.sheet.specs.declared.Sheet.{Sheet}
+use Rattle.contents.specs.declared.Sheet.{Sheet}
 use Rattle.solve.specs.Solve.{solveRefusal, wholeOf, Ends, SolveIs}
 use Rattle.picture.specs.declared.Answer as drawn
 use Rattle.picture.specs.Finish.{Outcome, told, finishing}

@@ -7,12 +7,12 @@ use lib.ListN.{length}
 use lib.Dec.{eqb}
 use lib.IntN.{ℤ}
 use lib.Ieee.{binary32, toBits}
-use Rattle.text.specs.declared.weight.Weight.{Weight}
-use Rattle.text.specs.Weights.{valueOf}
-use Rattle.sheet.specs.declared.Sheet.{Sheet}
-use Rattle.sheet.specs.declared.Header.{Header}
-use Rattle.sheet.specs.declared.Channel.{Channel}
-use Rattle.sheet.specs.Lines.{held}
+use Rattle.contents.specs.declared.Weight.{Weight}
+use Rattle.contents.specs.Weights.{valueOf}
+use Rattle.contents.specs.declared.Sheet.{Sheet}
+use Rattle.contents.specs.declared.Header.{Header}
+use Rattle.contents.specs.declared.Channel.{Channel}
+use Rattle.contents.specs.Sheets.{held}
 use Rattle.sheet.specs.Reading.{Outcome, Contents}
 use Rattle.sheet.specs.Reading.Outcome.{Gives, Refused}
 use Rattle.sheet.specs.Calls.{Lengths, heldAfter}

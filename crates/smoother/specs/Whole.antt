@@ -8,10 +8,10 @@ use lib.ListN.{length, getD}
 use lib.Dec.{eqb, leb}
 use lib.IntN.{ℤ}
 use lib.Ieee.{Float}
-use Rattle.text.specs.declared.weight.Weight.the-variants as weight
-use Rattle.sheet.specs.declared.Sheet.{Sheet}
-use Rattle.sheet.specs.declared.Header.{Header}
-use Rattle.sheet.specs.declared.Channel.{Channel}
+use Rattle.contents.specs.declared.Weight.the-variants as weight
+use Rattle.contents.specs.declared.Sheet.{Sheet}
+use Rattle.contents.specs.declared.Header.{Header}
+use Rattle.contents.specs.declared.Channel.{Channel}
 use Rattle.start.specs.Buffers.{Buffers}
 use Rattle.calls.specs.Calls.{Answer, lengths, allSix}
 use Rattle.serve.specs.Serve.{byteOf}

@@ -2,16 +2,16 @@
 pub mod runs;
 pub mod sheets;
 
+use contents::Limits;
+use contents::Sheet;
+use contents::Weight;
 use record::Run;
 use sheet::Answer;
-use sheet::Limits;
 use sheet::Measured;
-use sheet::Sheet;
-use text::weight::Weight;
 ghost use mathlib.Core.Path.{_≡_};
 ghost use mathlib.Core.Bool.{cond};
 ghost use lib.ListN.{length};
-ghost use Rattle.sheet.specs.Lines.{held};
+ghost use Rattle.contents.specs.Sheets.{held};
 ghost use Rattle.sheet.specs.Calls.{measuring, reading};
 ghost use Rattle.smoother.specs.Sheets.{Measures, ReadsNumbers, numbersOf, weightBits, withRecord};
 
@@ -54,7 +54,7 @@ pub extern "C" fn smoother_measure(
 fn weight_bits(w: Weight) -> u32
     ensures { λ r. ⌜ r ≡ weightBits w ⌝ }
 {
-    float::bits::to_bits(text::weight::weight_value(w))
+    float::bits::to_bits(contents::weight_value(w))
 }
 
 // 1 for joint mode, 0 for separate.

@@ -1,9 +1,9 @@
 // The whole run of a sheet and its picture as C functions. Both answer 0 for done, or the table's number.
 use crate::runs;
-use sheet::Channel;
-use sheet::Header;
-use sheet::Sheet;
-use text::weight::Weight;
+use contents::Channel;
+use contents::Header;
+use contents::Sheet;
+use contents::Weight;
 ghost use mathlib.Core.Path.{_≡_};
 ghost use Prim.Native.Nat.{_+_, _<_};
 ghost use lib.ListN.{length};

@@ -18,7 +18,7 @@ use lib.Ieee.Fits.{and-l, and-r, and-i, eq→eqb}
 use Rattle.fold.specs.Part.{part, splice}
 use Rattle.fold.proofs.Parts.{part-length}
 use Rattle.start.specs.Buffers.{Buffers}
-use Rattle.sheet.specs.declared.Sheet.{Sheet}
+use Rattle.contents.specs.declared.Sheet.{Sheet}
 use Rattle.calls.specs.Run.{Own, Given, own, count, coefs, levelsBefore, every, among}
 use Rattle.calls.specs.Buffers.{Name, Plane, Prior, Gradient, Across, Down, Saved, get, joined, channel, putChannel, Sized}
 use Rattle.calls.specs.Calls.{done, blown, all, allSix, lengths, tableOk, levelOk, lendTests, startRefusal}

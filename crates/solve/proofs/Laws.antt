@@ -8,8 +8,8 @@ use lib.IntN.{ℤ}
 use lib.ListN.{length, take}
 use lib.Seq.{take-all}
 use Rattle.start.specs.Buffers.{Buffers}
-use Rattle.sheet.specs.declared.Sheet.{Sheet}
-use Rattle.text.specs.Weights.{valueOf}
+use Rattle.contents.specs.declared.Sheet.{Sheet}
+use Rattle.contents.specs.Weights.{valueOf}
 use Rattle.calls.specs.Run.{Given, levelsBefore, among}
 use Rattle.calls.specs.Buffers.{joined}
 use Rattle.calls.specs.Jobs.{fixed}

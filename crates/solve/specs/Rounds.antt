@@ -17,7 +17,7 @@ use Rattle.record.specs.declared.Answer.{Answer}
 use Rattle.record.specs.declared.Answer.the-variants.{Refused, Done, Blown}
 use Rattle.record.specs.Model.{Legal, sheetOf, placesOf, givenOf, answerOf}
 use Rattle.run.specs.Public.{stateOf}
-use Rattle.sheet.specs.declared.Sheet.{Sheet}
+use Rattle.contents.specs.declared.Sheet.{Sheet}
 use Rattle.solve.specs.Solve.{blowsAt, jobCount, Ends, RunIs, joint, alone, levelsFor, tablesFor, separately, solveRefusal}
 
 -- the run's sheet is G's, demand 3's invariant holds, and channel c stands at `at c`, not marked

@@ -8,11 +8,11 @@ use lib.ListN.{length}
 use lib.Dec.{eqb}
 use lib.Ieee.{Float}
 use Rattle.fold.specs.Part.{part}
-use Rattle.text.specs.declared.weight.Weight.{Weight}
-use Rattle.text.specs.Weights.{valueOf}
-use Rattle.sheet.specs.declared.Sheet.{Sheet}
-use Rattle.sheet.specs.declared.Channel as Line
-use Rattle.sheet.specs.Legal.{channelAt}
+use Rattle.contents.specs.declared.Weight.{Weight}
+use Rattle.contents.specs.Weights.{valueOf}
+use Rattle.contents.specs.declared.Sheet.{Sheet}
+use Rattle.contents.specs.declared.Channel as Line
+use Rattle.contents.specs.Sheets.{channelAt}
 use Rattle.start.specs.Buffers.{Buffers}
 use Rattle.calls.specs.Run.{Given, count, levelsBefore, every, among, legal}
 use Rattle.calls.specs.Buffers.{Name, get, joined}

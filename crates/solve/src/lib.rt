@@ -3,8 +3,8 @@ mod modes;
 mod separate;
 pub mod whole;
 
+use contents::Sheet;
 use record::Answer;
-use sheet::Sheet;
 ghost use Rattle.solve.specs.Solve.{six, SolveIs};
 
 // The six buffers of a sheet after 5N jobs, in its mode. It looks at everything first, and answers `Blown` where a channel is blown.

@@ -1,17 +1,17 @@
 // The runs of a sheet in both modes, and what solve refuses.
+use contents::Header;
+use contents::Sheet;
+use contents::Weight;
+use contents::weight_value;
 use fold::flags::both;
 use record::Run;
 use record::legal::legal;
-use sheet::Header;
-use sheet::Sheet;
-use sheet::Weight;
-use sheet::weight_value;
 ghost use mathlib.Core.Path.{_≡_};
-ghost use Rattle.sheet.specs.Legal.{channelAt};
+ghost use Rattle.contents.specs.Sheets.{channelAt};
 ghost use Rattle.solve.specs.Solve.{channelOf, joint, alone, iterationsAt, smoothingAt, allLegal, solveRefusal};
 
 // A channel line as a channel of a fresh run, with this data weight.
-fn channel_of(x: sheet::Channel, weight: Weight) -> record::Channel
+fn channel_of(x: contents::Channel, weight: Weight) -> record::Channel
     ensures { λ r. ⌜ r ≡ channelOf x weight ⌝ }
 {
     record::Channel {
@@ -51,7 +51,7 @@ pub fn joint_of(s: Sheet) -> Run
 }
 
 // Channel c's line.
-fn line_at(s: Sheet, c: u32) -> sheet::Channel
+fn line_at(s: Sheet, c: u32) -> contents::Channel
     ensures { λ r. ⌜ r ≡ channelAt s c ⌝ }
 {
     if c == 0 {

@@ -2,8 +2,8 @@
 use crate::modes::alone_of;
 use crate::modes::joint_of;
 use crate::whole::run_value;
+use contents::Sheet;
 use record::Answer;
-use sheet::Sheet;
 ghost use Prim.Native.Nat.{_<_};
 ghost use Rattle.record.specs.Model.{Legal};
 ghost use Rattle.solve.specs.Solve.{six, joint};

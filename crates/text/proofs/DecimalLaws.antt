@@ -5,14 +5,15 @@ use mathlib.Core.List.{List, [], _∷_, _++_}
 use mathlib.Core.Bool.{Bool, true, false, cond, _&&_}
 use native.Mathlib.Nat.{pow-succ'}
 use native.Mathlib.Omega.{arith}
-use lib.ListN.{length, getD, take, length-append, List·getD-append}
+use lib.ListN.{length, getD, take}
 use lib.Seq.{take-suc, take-all, getD-take, length-take-le}
 use lib.Dec.{leb, ltb}
 use borrow.Author.Tests.{eq-eqb, le-leb, lt-ltb, le-ltb, ltb-true, ltb-false, leb-true}
 use Rattle.text.specs.declared.number.Number.the-variants as number
 use Rattle.text.specs.Numbers.{digits, padded, numberOf}
-use Rattle.text.specs.Written.{digitsOf, decimal}
+use Rattle.digits.specs.Written.{digitsOf, decimal}
 use Rattle.text.proofs.NumberLaws.{number-one, number-two}
+use Rattle.digits.proofs.Lengths.{some-digits, digits-fit, head-digit, two-digits}
 
 pub is-not : {n : ℕ} {A : Type 0} → number.Not ≡ number.Is n → A
 is-not e = let z : _≡_ {A = ℕ} 0 1 = cc in let y : ⊥ = omega arith in absurd y
@@ -50,44 +51,6 @@ written-digits (suc k) n h = two (ltb n 10) refl (written-digits k (n / 10) (ome
         → digits 0 (cond t ((48 + n) ∷ []) (digitsOf (suc k) (n / 10) ++ (48 + n % 10) ∷ [])) ≡ number.Is n
     two true p ih = one-digit n (ltb-true n 10 p)
     two false p ih = digits-snoc (digitsOf (suc k) (n / 10)) 0 (n / 10) (n % 10) ih (omega arith) ∙ ap number.Is (omega arith)
-
-some-digits : (k n : ℕ) → 1 ≤ length (digitsOf (suc k) n)
-some-digits k n = two (ltb n 10)
-  where
-    two : (t : Bool) → 1 ≤ length (cond t ((48 + n) ∷ []) (digitsOf k (n / 10) ++ (48 + n % 10) ∷ []))
-    two true = omega arith
-    two false = omega (arith, length-append (digitsOf k (n / 10)) ((48 + n % 10) ∷ []))
-
--- a number below 10 ^ (k + 1) has at most k + 1 digits
-digits-fit : (K k n : ℕ) → n < 10 ^ suc k → length (digitsOf K n) ≤ suc k
-digits-fit zero k n h = omega arith
-digits-fit (suc K) zero n h = rw (lt-ltb n 10 h) (omega arith)
-digits-fit (suc K) (suc k) n h = two (ltb n 10) (digits-fit K k (n / 10) (omega (arith, pow-succ' 10 (suc k))))
-  where
-    two : (t : Bool) → length (digitsOf K (n / 10)) ≤ suc k → length (cond t ((48 + n) ∷ []) (digitsOf K (n / 10) ++ (48 + n % 10) ∷ [])) ≤ suc (suc k)
-    two true ih = omega arith
-    two false ih = omega (arith, length-append (digitsOf K (n / 10)) ((48 + n % 10) ∷ []))
-
--- no zero before another digit
-head-digit : (k n : ℕ) → 1 ≤ n → n < 10 ^ suc k → getD (digitsOf (suc k) n) 0 0 ≡ 48 → ⊥
-head-digit zero n l h = rw (lt-ltb n 10 h) (λ e. omega arith)
-head-digit (suc k) n l h = two (ltb n 10) refl (λ g. head-digit k (n / 10) g (omega (arith, pow-succ' 10 (suc k))))
-  where
-    two : (t : Bool) → ltb n 10 ≡ t → (1 ≤ n / 10 → getD (digitsOf (suc k) (n / 10)) 0 0 ≡ 48 → ⊥)
-        → getD (cond t ((48 + n) ∷ []) (digitsOf (suc k) (n / 10) ++ (48 + n % 10) ∷ [])) 0 0 ≡ 48 → ⊥
-    two true p ih = λ e. omega arith
-    two false p ih = rw (List·getD-append (digitsOf (suc k) (n / 10)) ((48 + n % 10) ∷ []) 0 0 (some-digits k (n / 10))) (ih (omega (arith, ltb-false n 10 p)))
-
-two-digits : (k n : ℕ) → 10 ≤ n → 1 < length (digitsOf (suc (suc k)) n)
-two-digits k n h = rw (le-ltb n 10 h) (omega (arith, length-append (digitsOf (suc k) (n / 10)) ((48 + n % 10) ∷ []), some-digits k (n / 10)))
-
-pub decimal-length : (k n : ℕ) → n < 10 ^ suc k → length (decimal n) ≤ suc k
-unfolding decimal
-decimal-length k n h = digits-fit 6 k n h
-
-pub decimal-some : (n : ℕ) → 1 ≤ length (decimal n)
-unfolding decimal
-decimal-some n = some-digits 5 n
 
 pub number-written : (n : ℕ) → n ≤ 999999 → numberOf (decimal n) ≡ number.Is n
 unfolding decimal

@@ -11,7 +11,7 @@ use lib.IntN.{ℤ, pos, negℤ}
 use borrow.Author.Tests.{eqb-true, leb-true, ltb-true}
 use Rattle.text.specs.declared.number.Number.{Number}
 use Rattle.text.specs.declared.number.Number.the-variants as number
-use Rattle.text.specs.declared.weight.Weight.the-variants as weight
+use Rattle.contents.specs.declared.Weight.the-variants as weight
 use Rattle.text.specs.declared.weight.WeightField.{WeightField}
 use Rattle.text.specs.declared.weight.WeightField.the-variants as weight-field
 use Rattle.text.specs.declared.field.Rule.{Rule}
@@ -20,19 +20,12 @@ use Rattle.text.specs.declared.field.Field.{Field}
 use Rattle.text.specs.declared.field.Field.the-variants as field
 use Rattle.text.specs.Numbers.{numberOf, numberValue}
 use Rattle.text.specs.Weights.{bitForm, wholeWeight, orWhole, afterLetter, weightOf, weightIn}
-use Rattle.text.specs.Legal.{Between, LegalSide, LegalWeight, LegalLevel}
+use Rattle.contents.specs.Legal.{Between, LegalSide, LegalWeight, LegalLevel}
 use Rattle.text.specs.Levels.{fromZero, belowZero, levelOf}
 use Rattle.text.specs.Fields.{letter, isSide, numberField, quantiserField, weightField, fieldOf, faultIn, levelsIn, tablesIn}
+use Rattle.digits.proofs.Both.{both-left, both-right}
 
 -- Tests
-
-pub both-left : (a b : Bool) → (a && b) ≡ true → a ≡ true
-both-left true b e = refl
-both-left false b e = e
-
-pub both-right : (a b : Bool) → (a && b) ≡ true → b ≡ true
-both-right true b e = e
-both-right false b e = let z : _≡_ {A = ℕ} 0 1 = cc in let y : ⊥ = omega arith in absurd y
 
 either : (a b : Bool) → (a || b) ≡ true → (a ≡ true) ⊎ (b ≡ true)
 either true b e = inl refl

@@ -8,12 +8,13 @@ use lib.ListN.{length, getD, length-append}
 use lib.Dec.{eqb, leb, ltb}
 use lib.IntN.{ℤ, pos, negsuc}
 use borrow.Author.Tests.{eq-eqb, ne-eqb, le-leb, leb-true, eqb-true}
-use Rattle.text.specs.declared.weight.Weight.{Weight}
-use Rattle.text.specs.declared.weight.Weight.the-variants as weight
+use Rattle.contents.specs.declared.Weight.{Weight}
+use Rattle.contents.specs.declared.Weight.the-variants as weight
 use Rattle.text.specs.Pieces.{onto, split}
-use Rattle.text.specs.Written.{digitsOf, decimal, hexByte, hexOf, weightText, levelText, joined, ended, rowBytes}
+use Rattle.text.specs.Written.{weightText, levelText}
+use Rattle.digits.specs.Written.{digitsOf, decimal, hexByte, hexOf, joined, ended, rowBytes}
 use Rattle.text.proofs.PieceLaws.{split-some}
-use Rattle.text.proofs.GoodLaws.{both-left, both-right}
+use Rattle.digits.proofs.Both.{both-left, both-right}
 
 -- every byte is t or more
 abbrev pub above : ℕ → List ℕ → Bool

@@ -4,7 +4,6 @@ pub mod NumberLaws
 pub mod WeightLaws
 pub mod LevelLaws
 pub mod FieldLaws
-pub mod ValueLaws
 pub mod GoodLaws
 pub mod DecimalLaws
 pub mod JoinLaws

@@ -12,7 +12,7 @@ use lib.IntN.{ℤ}
 use borrow.Author.Tests.{eqb-true, ltb-true, ltb-false}
 use Rattle.text.specs.declared.number.Number.{Number}
 use Rattle.text.specs.declared.number.Number.the-variants as number
-use Rattle.text.specs.declared.weight.Weight.{Weight}
+use Rattle.contents.specs.declared.Weight.{Weight}
 use Rattle.text.specs.declared.weight.WeightField.{WeightField}
 use Rattle.text.specs.declared.weight.WeightField.the-variants as weight-field
 use Rattle.text.specs.declared.field.Rule.the-variants as rule
@@ -20,9 +20,11 @@ use Rattle.text.specs.declared.field.Field.the-variants as field
 use Rattle.text.specs.Numbers.{numberOf, numberValue}
 use Rattle.text.specs.Weights.{weightOf, weightIn}
 use Rattle.text.specs.Fields.{letter, isSide, numberField, quantiserField, weightField, fieldOf, faultIn}
-use Rattle.text.specs.Written.{digitsOf, decimal, weightText, levelText}
+use Rattle.text.specs.Written.{weightText, levelText}
+use Rattle.digits.specs.Written.{digitsOf, decimal}
 use Rattle.text.proofs.GoodLaws.{range-good, channels-good, quantiser-good, level-good, weight-good}
-use Rattle.text.proofs.DecimalLaws.{number-canonical, decimal-length}
+use Rattle.text.proofs.DecimalLaws.{number-canonical}
+use Rattle.digits.proofs.Lengths.{decimal-length}
 use Rattle.text.proofs.SpellingLaws.{weight-canonical, level-canonical, weight-length, level-length}
 
 never : {k : ℕ} {A : Type 0} → some k ≡ none → A

@@ -3,29 +3,30 @@ use Prim.Native.Nat.{ℕ, zero, suc, _+_, _-_, _*_, _/_, _%_, _^_, _<_, _≤_}
 use mathlib.Core.Path.{_≡_, refl, sym, ap, _∙_}
 use mathlib.Core.List.{List, [], _∷_, _++_}
 use mathlib.Core.Bool.{Bool, true, false, cond, _&&_}
-use native.Mathlib.Nat.{pow-succ'}
+use native.Mathlib.Nat.{pow-succ', lt-of-lt-of-le}
 use native.Mathlib.Omega.{arith}
-use lib.ListN.{length, getD, take, length-append}
+use lib.ListN.{length, getD, take}
 use lib.Seq.{length-take-le}
 use lib.IntN.{ℤ, pos, negsuc, negℤ}
 use lib.Dec.{eqb, leb, ltb}
-use native.Mathlib.Nat.{lt-of-lt-of-le}
 use borrow.Author.Tests.{eq-eqb, ne-eqb, le-leb, lt-leb, lt-ltb, le-ltb, ltb-true, ltb-false, leb-true, eqb-true}
 use Rattle.text.specs.declared.number.Number.{Number}
 use Rattle.text.specs.declared.number.Number.the-variants as number
-use Rattle.text.specs.declared.weight.Weight.{Weight}
-use Rattle.text.specs.declared.weight.Weight.the-variants as weight
+use Rattle.contents.specs.declared.Weight.{Weight}
+use Rattle.contents.specs.declared.Weight.the-variants as weight
 use Rattle.text.specs.declared.weight.WeightField.the-variants as weight-field
 use Rattle.text.specs.declared.field.Field.the-variants as field
 use Rattle.text.specs.Numbers.{numberOf}
 use Rattle.text.specs.Weights.{hexDigit, hexDigits, afterLetter, bitForm, wholeWeight, orWhole, weightOf}
 use Rattle.text.specs.Levels.{fromZero, belowZero, levelOf}
-use Rattle.text.specs.Legal.{LegalWeight, LegalLevel}
-use Rattle.text.specs.Written.{decimal, hexByte, hexOf, weightText, levelText}
+use Rattle.contents.specs.Legal.{LegalWeight, LegalLevel}
+use Rattle.text.specs.Written.{weightText, levelText}
+use Rattle.digits.specs.Written.{decimal, hexByte, hexOf}
 use Rattle.text.proofs.WeightLaws.{bits-letter}
 use Rattle.text.proofs.LevelLaws.{level-plus}
 use Rattle.text.proofs.JoinLaws.{above-head, above-decimal}
-use Rattle.text.proofs.DecimalLaws.{is-not, is-inj, init-last, decimal-some, decimal-length, number-written, number-canonical}
+use Rattle.text.proofs.DecimalLaws.{is-not, is-inj, init-last, number-written, number-canonical}
+use Rattle.digits.proofs.Lengths.{decimal-some, decimal-length, hex-length}
 
 -- Hexadecimal digits
 
@@ -66,10 +67,6 @@ written-hex zero n h = ap number.Is (omega arith)
 written-hex (suc k) n h =
     hex-snoc (hexOf k (n / 16)) 0 (n / 16) (n % 16) (written-hex k (n / 16) (omega (arith, pow-succ' 16 k))) (omega arith)
     ∙ ap number.Is (omega arith)
-
-pub hex-length : (k n : ℕ) → length (hexOf k n) ≡ k
-hex-length zero n = refl
-hex-length (suc k) n = length-append (hexOf k (n / 16)) (hexByte (n % 16) ∷ []) ∙ omega (arith, hex-length k (n / 16))
 
 record Unsnoc (v : ℕ) (xs : List ℕ) (b n : ℕ) : Type 0 where
   front : ℕ

@@ -5,5 +5,4 @@ pub mod Numbers
 pub mod Weights
 pub mod Levels
 pub mod Fields
-pub mod Legal
 pub mod Written

@@ -2,15 +2,13 @@
 -- bit form is read as a whole number after its `w`, and any other spelling is 1."
 use Prim.Native.Nat.{ℕ, _+_, _-_, _*_}
 use mathlib.Core.List.{List, [], _∷_}
-use mathlib.Core.Bool.{Bool, false, not, cond, _&&_}
+use mathlib.Core.Bool.{cond, _&&_}
 use lib.ListN.{length, getD}
 use lib.Dec.{eqb, leb, ltb}
-use lib.IntN.{pos}
-use lib.Ieee.{Float, nan, inf, fin, binary32, ofBits, ofInt}
 use Rattle.text.specs.declared.number.Number.{Number}
 use Rattle.text.specs.declared.number.Number.the-variants as number
-use Rattle.text.specs.declared.weight.Weight.{Weight}
-use Rattle.text.specs.declared.weight.Weight.the-variants as weight
+use Rattle.contents.specs.declared.Weight.{Weight}
+use Rattle.contents.specs.declared.Weight.the-variants as weight
 use Rattle.text.specs.declared.weight.WeightField.{WeightField}
 use Rattle.text.specs.declared.weight.WeightField.the-variants as weight-field
 use Rattle.text.specs.Numbers.{numberOf}
@@ -57,15 +55,3 @@ weightIn (weight-field.Bad k) = weight.Whole 0
 
 unfoldable pub weightAt : List (List ℕ) → ℕ → Weight
 weightAt fs i = weightIn (weightOf (getD fs i []))
-
--- the weight as an f32: the bits are its bits, a whole number is that number
-unfoldable pub valueOf : Weight → Float
-unfolding ofBits ofInt
-valueOf (weight.Bits n) = ofBits binary32 n
-valueOf (weight.Whole n) = ofInt binary32 (pos n)
-
--- a finite f32 with no sign bit
-abbrev pub plain : Float → Bool
-plain nan = false
-plain (inf s) = false
-plain (fin s m e) = not s

@@ -2,15 +2,10 @@
 use crate::number;
 use crate::number::Number;
 use crate::pieces;
+use contents::Weight;
 ghost use mathlib.Core.Path.{_≡_};
 ghost use Rattle.text.specs.Pieces.{split};
-ghost use Rattle.text.specs.Weights.{hexDigit, bitForm, weightOf, weightAt, valueOf};
-
-// A weight: the bits of an f32, or a whole number.
-pub enum Weight {
-    Bits(u32),
-    Whole(u8),
-}
+ghost use Rattle.text.specs.Weights.{hexDigit, bitForm, weightOf, weightAt};
 
 // A weight field: its weight, or the number of its fault.
 pub enum WeightField {
@@ -96,20 +91,4 @@ pub fn weight_at(row: &[u8], i: usize) -> Weight
         return Weight::Whole(0);
     };
     w
-}
-
-// The weight as an f32: by its bits, or the whole number exactly. Bits that no legal weight has count too; all NaNs are one.
-// Ruled out: the bits 1 of a whole weight 1; another sign of zero for w0.
-pub fn weight_value(w: Weight) -> f32
-    ensures { λ r. ⌜ r ≡ valueOf w ⌝ }
-{
-    match w {
-        Weight::Bits(b) => {
-            if 0x7f80_0000 < b % 0x8000_0000 {
-                return 0.0 / 0.0;
-            }
-            f32::from_bits(b)
-        }
-        Weight::Whole(n) => n as f32,
-    }
 }

@@ -11,16 +11,15 @@ use lib.IntN.{ℤ, pos, negsuc}
 use lib.Ieee.{Float, nan, inf, fin}
 use lib.Ieee.Fits.{and-i, eq→eqb}
 use lib.ListN.{length, getD}
-use Rattle.text.specs.Legal.{Between, LegalSide, LegalWeight, LegalLevel}
-use Rattle.text.specs.Weights.{valueOf, plain}
-use Rattle.text.specs.declared.weight.Weight.{Weight}
-use Rattle.text.proofs.ValueLaws as ValueLaws
-use Rattle.sheet.specs.declared.Limits.{Limits}
-use Rattle.sheet.specs.declared.Sheet.{Sheet}
-use Rattle.sheet.specs.declared.Header.{Header}
-use Rattle.sheet.specs.declared.Channel as Line
-use Rattle.sheet.specs.Lines.{held}
-use Rattle.sheet.specs.Legal.{LegalChannel, LegalSheet, LegalQuantisers, LegalLevels, channelAt, levelsTo}
+use Rattle.contents.specs.Legal.{Between, LegalSide, LegalWeight, LegalLevel, LegalChannel, LegalSheet, LegalQuantisers, LegalLevels}
+use Rattle.contents.specs.Weights.{valueOf, plain}
+use Rattle.contents.specs.declared.Weight.{Weight}
+use Rattle.contents.proofs.ValueLaws as ValueLaws
+use Rattle.contents.specs.declared.Limits.{Limits}
+use Rattle.contents.specs.declared.Sheet.{Sheet}
+use Rattle.contents.specs.declared.Header.{Header}
+use Rattle.contents.specs.declared.Channel as Line
+use Rattle.contents.specs.Sheets.{held, channelAt, levelsTo}
 use Rattle.calls.specs.Run.{coefs, count, levelsBefore, Own, fresh, own, place, side, fullSide, factor, weight, ownOk, headerOk, sheetOk, placesOk, legal, every}
 use Rattle.calls.specs.Run as Model
 use Rattle.calls.specs.Calls.{all, tableOk, levelOk, lendTests, startRefusal}

@@ -19,14 +19,15 @@ use Rattle.start.specs.Coef.{dequantise, imageBlock, imageData, initDctTarget}
 use Rattle.start.specs.Auxiliary.{initPixels, auxInit}
 use Rattle.calls.specs.Jobs.{fixed}
 use Rattle.demand.specs.Solver.{coefOf}
-use Rattle.text.specs.declared.weight.Weight.the-variants as weight
+use Rattle.contents.specs.declared.Weight.the-variants as weight
 use Rattle.text.specs.Numbers.{numberOf, numberAt}
 use Rattle.text.specs.Weights.{bitForm, weightOf, weightAt}
 use Rattle.text.specs.Levels.{levelOf}
 use Rattle.text.specs.Fields.{fieldOf}
-use Rattle.text.specs.Written.{decimal}
-use Rattle.sheet.specs.declared.Sheet.{Sheet}
-use Rattle.sheet.specs.Lines.{rulesOf, fieldsFault, held, headerOf, channelOf, recordOf, noChannel}
+use Rattle.digits.specs.Written.{decimal}
+use Rattle.contents.specs.declared.Sheet.{Sheet}
+use Rattle.sheet.specs.Lines.{rulesOf, fieldsFault, headerOf, channelOf, recordOf}
+use Rattle.contents.specs.Sheets.{held, noChannel}
 use Rattle.sheet.specs.Reading.{contents, blank, lineTag, takenOf, lineFault, readText}
 use Rattle.solve.specs.Solve.{joint, alone, runBlows, last, runOf, separately, wholeOf, planes, blows}
 use Rattle.calls.specs.Buffers.{joined}

@@ -15,14 +15,14 @@ use lib.Ieee.{Float}
 use lib.Ieee.Fits.{and-i, eq→eqb}
 use lib.ListN.{length, take}
 use lib.Seq.{length-take-le}
-use Rattle.sheet.specs.declared.Header.{Header}
-use Rattle.sheet.specs.declared.Sheet.{Sheet}
+use Rattle.contents.specs.declared.Header.{Header}
+use Rattle.contents.specs.declared.Sheet.{Sheet}
 use Rattle.sheet.specs.declared.Measured.{Measured}
 use Rattle.sheet.specs.declared.Measured.the-variants as measured
 use Rattle.sheet.specs.declared.Answer as Read
 use Rattle.sheet.specs.declared.Answer.the-variants as read
-use Rattle.sheet.specs.Legal.{LegalHeader, LegalSheet, channelAt, levelsTo}
-use Rattle.sheet.specs.Lines.{Held, held}
+use Rattle.contents.specs.Legal.{LegalHeader, LegalSheet}
+use Rattle.contents.specs.Sheets.{channelAt, levelsTo, Held, held}
 use Rattle.sheet.specs.Reading.{Outcome, Contents, contents, readText}
 use Rattle.sheet.specs.Reading.Outcome.{Gives, Refused}
 use Rattle.sheet.specs.Calls.{Lengths, measuredSays, answerSays, lengthsOf, measuring, fitted, sheetIn, heldAfter, Reads}

@@ -10,9 +10,8 @@ use lib.Dec.{T, leb, eqb, le→leb}
 use lib.Ieee.{Float}
 use lib.Ieee.Fits.{and-i, eq→eqb}
 use lib.ListN.{length}
-use Rattle.text.specs.Legal.{Between, LegalSide}
-use Rattle.sheet.specs.declared.Header.{Header}
-use Rattle.sheet.specs.Legal.{LegalHeader}
+use Rattle.contents.specs.Legal.{Between, LegalSide, LegalHeader}
+use Rattle.contents.specs.declared.Header.{Header}
 use Rattle.picture.specs.Finish as Finish
 use Rattle.output.specs.Output.{pictureText, pictureInto, pictureFits, pictureRoom, refusalText, refusalInto, refusalFits}
 use Rattle.whole.specs.Printed.{limits, painted, mostPrinted}

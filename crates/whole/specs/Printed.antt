@@ -7,9 +7,9 @@ use lib.Dec.{leb}
 use lib.ListN.{length}
 use lib.IntN.{ℤ}
 use lib.Ieee.{Float}
-use Rattle.sheet.specs.declared.Limits.{Limits}
-use Rattle.sheet.specs.declared.Header.{Header}
-use Rattle.sheet.specs.declared.Sheet.{Sheet}
+use Rattle.contents.specs.declared.Limits.{Limits}
+use Rattle.contents.specs.declared.Header.{Header}
+use Rattle.contents.specs.declared.Sheet.{Sheet}
 use Rattle.sheet.specs.Reading.{Outcome, Contents, readText}
 use Rattle.sheet.specs.Reading.Outcome.{Gives, Refused}
 use Rattle.solve.specs.Solve.{planes, blows}

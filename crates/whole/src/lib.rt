@@ -1,17 +1,17 @@
 // The whole program as a function: the bytes that `smooth` prints for a text.
+use contents::Header;
+use contents::Limits;
+use contents::Sheet;
 use record::Answer;
-use sheet::Header;
-use sheet::Limits;
 use sheet::Measured;
-use sheet::Sheet;
 use solve::solve;
 ghost use mathlib.Core.Path.{_≡_};
 ghost use Prim.Native.Nat.{_*_, _≤_};
 ghost use lib.ListN.{length};
-ghost use Rattle.sheet.specs.Lines.{held};
+ghost use Rattle.contents.specs.Sheets.{held};
 ghost use Rattle.sheet.specs.Calls.{measuring, Lengths};
 ghost use Rattle.sheet.specs.Reading.Outcome.{Gives};
-ghost use Rattle.sheet.specs.Legal.{LegalHeader, LegalSheet};
+ghost use Rattle.contents.specs.Legal.{LegalHeader, LegalSheet};
 ghost use Rattle.output.specs.Output.{Wrote};
 ghost use Rattle.whole.specs.Printed.{limits, painted, sheetText, printed, mostPrinted, printedInto, SixLong};
 

@@ -4,7 +4,7 @@ use mathlib.Core.Path.{_≡_, ap, _∙_}
 use Prim.Native.Nat.{_+_, _-_, _*_, _≤_}
 use native.Mathlib.Omega.{arith}
 use lib.ListN.{length}
-use Rattle.text.specs.Written.{ended}
+use Rattle.digits.specs.Written.{ended}
 use Rattle.fold.proofs.Grid.{row-end}
 use Rattle.output.specs.Output.{each, numbersLine, rowLine, pictureText, Wrote}
 use Rattle.output.proofs.Fronts.{wrote-none, wrote-more, wrote-as}

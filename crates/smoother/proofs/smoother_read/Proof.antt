@@ -1,7 +1,7 @@
 use borrow.Author.Needs.{needs}
 use mathlib.Core.Path.{_∙_}
 use denote.Ref.{now}
-use Rattle.sheet.specs.Lines.{held}
+use Rattle.contents.specs.Sheets.{held}
 use Rattle.sheet.specs.Reading.{readText}
 use Rattle.sheet.specs.Calls.{reading}
 use Rattle.smoother.proofs.SheetLaws.{read-given, read-refused, short, short-refused}

@@ -6,7 +6,8 @@ use borrow.Author.Needs.{needs}
 use borrow.Author.Tests.{not-true, not-false}
 use lib.ListN.{length}
 use Rattle.text.specs.Pieces.{split}
-use Rattle.sheet.specs.Lines.{rulesOf, held}
+use Rattle.sheet.specs.Lines.{rulesOf}
+use Rattle.contents.specs.Sheets.{held}
 use Rattle.sheet.proofs.StateLaws.{due}
 use Rattle.sheet.proofs.WalkLaws.{good-field, places, Checking, check-begin, check-levels, check-tables, check-at, check-in, check-bad, check-step, Reading, read-begin, walk-limit, OnLine, same-levels, same-tables, end-inside, walk-long, walk-cut, on-line, walk-count, row-count, rules-count, level-room, table-room, walk-fault, walk-end, walk-after, walk-bad, walk-next}
 use Rattle.sheet.proofs.walk.walk.Statement.{statement}

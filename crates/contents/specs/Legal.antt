@@ -1,18 +1,37 @@
--- What holds of every sheet that is read: document 01's rules as facts. A theorem, `legal` of proofs/LegalLaws.antt.
-use Prim.Native.Nat.{ℕ, zero, suc, _+_, _*_, _≤_, _<_}
+-- What holds of every sheet that is read: document 01's rules as facts. A theorem of the reader, `legal` of sheet/proofs/LegalLaws.antt.
+use Prim.Native.Nat.{ℕ, _%_, _≤_, _<_, _*_}
 use mathlib.Core.Path.{_≡_}
+use lib.IntN.{ℤ, pos, negsuc}
+use Rattle.contents.specs.declared.Weight.{Weight}
+use Rattle.contents.specs.declared.Weight.the-variants as weight
 use mathlib.Core.List.{List, [], _∷_}
-use mathlib.Core.Bool.{cond}
 use mathlib.Core.Logic.{_⊎_}
 use lib.ListN.{length}
-use lib.Dec.{eqb}
-use lib.IntN.{ℤ}
-use Rattle.text.specs.Legal.{Between, LegalSide, LegalWeight, LegalLevel}
-use Rattle.sheet.specs.declared.Limits.{Limits}
-use Rattle.sheet.specs.declared.Header.{Header}
-use Rattle.sheet.specs.declared.Channel.{Channel}
-use Rattle.sheet.specs.declared.Sheet.{Sheet}
-use Rattle.sheet.specs.Lines.{Held, noChannel}
+use Rattle.contents.specs.declared.Limits.{Limits}
+use Rattle.contents.specs.declared.Header.{Header}
+use Rattle.contents.specs.declared.Channel.{Channel}
+use Rattle.contents.specs.declared.Sheet.{Sheet}
+use Rattle.contents.specs.Sheets.{Held, noChannel, channelAt, levelsTo}
+
+pub record Between (a b n : ℕ) : Type 0 where
+  pub low : a ≤ n
+  pub top : n ≤ b
+
+-- a multiple of 8 from 8 to the most
+pub record LegalSide (most n : ℕ) : Type 0 where
+  pub whole : n % 8 ≡ 0
+  pub low : 8 ≤ n
+  pub top : n ≤ most
+
+-- the bits of a finite f32 with no sign bit, or 0 to 255
+abbrev pub LegalWeight : Weight → Type 0
+LegalWeight (weight.Bits n) = n < 0x7f800000
+LegalWeight (weight.Whole n) = n ≤ 255
+
+-- −2,047 to 2,047; negsuc n is −(n + 1)
+abbrev pub LegalLevel : ℤ → Type 0
+LegalLevel (pos n) = n ≤ 2047
+LegalLevel (negsuc n) = n ≤ 2046
 
 -- What a caller may allow
 pub record LegalLimits (limits : Limits) : Type 0 where
@@ -42,15 +61,6 @@ pub record LegalChannel (h : Header) (c : Channel) : Type 0 where
   pub down : Between 1 4 (c .down)
   pub wide : c .width * c .across ≤ h .width
   pub high : c .height * c .down ≤ h .height
-
--- channel j of a sheet
-abbrev pub channelAt : Sheet → ℕ → Channel
-channelAt s j = cond (eqb j 0) (s .first) (cond (eqb j 1) (s .second) (s .third))
-
--- the levels of the first j channels
-abbrev pub levelsTo : Sheet → ℕ → ℕ
-levelsTo s zero = 0
-levelsTo s (suc j) = levelsTo s j + channelAt s j .width * channelAt s j .height
 
 abbrev pub LegalQuantisers : List ℕ → Type 0
 LegalQuantisers [] = Unit {0}

@@ -1,8 +1,8 @@
--- `text::weight::weight_value` meets its contract.
+-- `contents::weight_value` meets its contract.
 use borrow.Author.Needs.{needs}
-use Rattle.text.proofs.ValueLaws.{values}
-use Rattle.text.proofs.weight.weight_value.Statement.{statement}
-use Rattle.text.proofs.weight.weight_value.Tie as tie
+use Rattle.contents.proofs.ValueLaws.{values}
+use Rattle.contents.proofs.weight_value.Statement.{statement}
+use Rattle.contents.proofs.weight_value.Tie as tie
 
 pub weight-value-spec : {M : Type 1} → statement M
 weight-value-spec =

@@ -10,10 +10,10 @@ use lib.Ieee.{Float, nan, inf, fin, binary32, hid, odd, div, ofInt, ofBits, ofFi
 use lib.Ieee.Bits.{nanBits-is, nanBits-above}
 use lib.Ieee.Exact.{HasValue, odd-sign, round-exact}
 use borrow.Author.Tests.{ne-eqb, lt-leb, lt-ltb, le-ltb}
-use Rattle.text.specs.declared.weight.Weight.{Weight}
-use Rattle.text.specs.declared.weight.Weight.the-variants as weight
-use Rattle.text.specs.Weights.{valueOf, plain}
-use Rattle.text.specs.Legal.{LegalWeight}
+use Rattle.contents.specs.declared.Weight.{Weight}
+use Rattle.contents.specs.declared.Weight.the-variants as weight
+use Rattle.contents.specs.Weights.{valueOf, plain}
+use Rattle.contents.specs.Legal.{LegalWeight}
 
 above-is : (n : ℕ) → nanBits binary32 n ≡ ltb 0x7f800000 (n % 0x80000000)
 above-is n = nanBits-above binary32 n

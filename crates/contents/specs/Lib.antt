@@ -1,0 +1,4 @@
+-- What a sheet holds, and when it is legal. Document 01, "Sheet records".
+pub mod Weights
+pub mod Sheets
+pub mod Legal

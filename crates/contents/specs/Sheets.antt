@@ -1,0 +1,56 @@
+-- A sheet's channels, and what stands beside it: levels and tables.
+use Prim.Native.Nat.{ℕ, zero, suc, _+_, _*_}
+use mathlib.Core.List.{List, [], _∷_}
+use mathlib.Core.Bool.{cond, false}
+use lib.ListN.{take}
+use lib.Dec.{eqb}
+use lib.IntN.{ℤ}
+use Rattle.contents.specs.declared.Header.{Header}
+use Rattle.contents.specs.declared.Channel.{Channel}
+use Rattle.contents.specs.declared.Sheet.{Sheet}
+use Rattle.contents.specs.declared.Weight.the-variants as weight
+
+-- What goes to the lent buffers: levels and tables
+pub record Held : Type 0 where
+  pub levels : List ℤ
+  pub tables : List ℕ
+
+abbrev pub held : List ℤ → List ℕ → Held
+held ls ts = record { levels = ls; tables = ts }
+
+-- no header, no channel
+abbrev pub noHeader : Header
+noHeader =
+    record {
+      width = 0;
+      height = 0;
+      «picture_width» = 0;
+      «picture_height» = 0;
+      channels = 0;
+      joint = false;
+      iterations0 = 0;
+      iterations1 = 0;
+      iterations2 = 0;
+      smoothing0 = weight.Whole 0;
+      smoothing1 = weight.Whole 0;
+      smoothing2 = weight.Whole 0;
+      data0 = weight.Whole 0;
+      data1 = weight.Whole 0;
+      data2 = weight.Whole 0;
+    }
+
+abbrev pub noChannel : Channel
+noChannel = record { width = 0; height = 0; across = 0; down = 0 }
+
+-- channel j of a sheet
+abbrev pub channelAt : Sheet → ℕ → Channel
+channelAt s j = cond (eqb j 0) (s .first) (cond (eqb j 1) (s .second) (s .third))
+
+-- the levels of the first j channels
+abbrev pub levelsTo : Sheet → ℕ → ℕ
+levelsTo s zero = 0
+levelsTo s (suc j) = levelsTo s j + channelAt s j .width * channelAt s j .height
+
+-- the channels in use
+abbrev pub channelsOf : Sheet → List Channel
+channelsOf s = take (s .header .channels) (s .first ∷ s .second ∷ s .third ∷ [])
