@@ -56,9 +56,9 @@ pub picture-room : (width height : ℕ) (rgb : List ℕ) → width ≤ 512 → h
 picture-room width height rgb p q =
     omega (arith, picture-length width height rgb, numbers-length 73 width height, sides-length 73 width height p q)
 
--- a buffer of 7,242 bytes has room for every picture of the program: its sides are at most 32
-pub room-32 : (width height : ℕ) → width ≤ 32 → height ≤ 32 → pictureRoom width height ≤ 7242
-room-32 width height p q = let l : 7 * width + 2 ≤ 226 = omega arith in omega (arith, mul-le-mul q l)
+-- the larger picture has room for the smaller
+pub room-more : (width height m n : ℕ) → width ≤ m → height ≤ n → pictureRoom width height ≤ pictureRoom m n
+room-more width height m n p q = let l : 7 * width + 2 ≤ 7 * m + 2 = omega arith in omega (arith, mul-le-mul q l)
 
 -- and 13 bytes have room for every refusal
 pub refusal-length : (number line : ℕ) → number ≤ 255 → line ≤ 999999 → 4 + length (decimal number) + length (decimal line) ≤ 13
@@ -87,11 +87,6 @@ pub picture-into : (width height : ℕ) (rgb : List ℕ) (room : ℕ) → width 
     → pictureInto width height rgb room ≡ pictureText width height rgb
 unfolding pictureInto
 picture-into width height rgb room p q e r = rw (le-leb width 512 p, le-leb height 512 q, eq-eqb _ _ e, le-leb _ _ r)
-
-pub picture-into-32 : (width height : ℕ) (rgb : List ℕ) (room : ℕ) → width ≤ 32 → height ≤ 32 → length rgb ≡ 3 * (width * height) → 7242 ≤ room
-    → pictureInto width height rgb room ≡ pictureText width height rgb
-picture-into-32 width height rgb room p q e r =
-    picture-into width height rgb room (omega arith) (omega arith) e (omega (arith, room-32 width height p q))
 
 pub refusal-into : (number line room : ℕ) → line ≤ 999999 → 13 ≤ room → refusalInto number line room ≡ refusalText number line
 unfolding refusalInto

@@ -5,7 +5,7 @@ use mathlib.Core.List.{List, [], _∷_}
 use mathlib.Core.Bool.{Bool, true, false, cond}
 use mathlib.Core.Logic.{_⊎_, inl, inr}
 use mathlib.Core.Option.{Option, none, some}
-use native.Mathlib.Nat.{mul-le-mul-left, mul-le-mul-right, le-trans, suc-mul}
+use native.Mathlib.Nat.{mul-le-mul, mul-le-mul-right, le-trans, suc-mul}
 use native.Mathlib.Omega.{arith}
 use lib.ListN.{length, getD, take, drop, replicate, length-drop, length-take, drop-of-length-le}
 use lib.Seq.{drop-cons, take-all, take-nil, length-take-le}
@@ -130,9 +130,6 @@ record On (limits : Limits) (s : State) : Type 0 where
 abbrev Stage : Limits → State → Type 0
 Stage limits s = (s ≡ blank) ⊎ On limits s
 
-product : (a b m : ℕ) → a ≤ m → b ≤ m → a * b ≤ m * m
-product a b m h k = le-trans (mul-le-mul-right b h) (mul-le-mul-left m k)
-
 one-less : (c r x : ℕ) → r < c → (c - r) * x ≡ (c - (r + 1)) * x + x
 one-less c r x h = let e : c - r ≡ suc (c - (r + 1)) = omega arith in ap (λ (n : ℕ). n * x) e ∙ suc-mul (c - (r + 1)) x
 
@@ -191,7 +188,7 @@ module _ (limits : Limits) (most : limits .side ≤ 512) (p : List ℕ) where
               (omega (
                 arith,
                 row-bytes p (channelSizes (length (decimal (limits .side)))) (channel-within limits most fs n e w u),
-                product (c .width) (c .height) (limits .side) w u,
+                mul-le-mul w u,
                 one-less (s .sheet .header .channels) (s .read) (lineBytes limits) h,
               ));
         })

@@ -71,7 +71,7 @@ record Fine (r : Run) : Type 0 where
   at-start : (c : ℕ) → c < r .count → getD (r .channels) c noChannel .position ≡ 0
   unmarked : (c : ℕ) → c < r .count → getD (r .channels) c noChannel .mark ≡ false
 
-counted : (n : ℕ) → (n ≡ 1) ⊎ (n ≡ 3) → T (eqb n 1 || eqb n 3)
+pub counted : (n : ℕ) → (n ≡ 1) ⊎ (n ≡ 3) → T (eqb n 1 || eqb n 3)
 counted n (inl e) = subst (λ (k : ℕ). T (eqb k 1 || eqb k 3)) (sym e) tt
 counted n (inr e) = subst (λ (k : ℕ). T (eqb k 1 || eqb k 3)) (sym e) tt
 

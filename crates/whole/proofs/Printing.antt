@@ -4,7 +4,7 @@ use mathlib.Core.Logic.{⊎-elim}
 use mathlib.Core.Bool.{Bool, true, false}
 use mathlib.Core.List.{List, [], _∷_}
 use Prim.Native.Nat.{ℕ, zero, suc, _+_, _-_, _*_, _≤_}
-use native.Mathlib.Nat.{suc-mul}
+use native.Mathlib.Nat.{suc-mul, mul-le-mul}
 use native.Mathlib.Omega.{arith}
 use denote.Enum.Declared.{tagOf}
 use types.Run.{OneOf}
@@ -43,7 +43,7 @@ use Rattle.output.proofs.Fronts.{wrote-as}
 use Rattle.whole.specs.Printed.{limits, painted, sheetText, says, printed, mostPrinted, printedInto, SixLong}
 use Rattle.whole.proofs.Accepts.{at-most, accepts}
 use Rattle.sheet.proofs.BoundLaws.{LineTo, line-bound}
-use Rattle.whole.proofs.Sizes.{product, values-small, finished, written, refused}
+use Rattle.whole.proofs.Sizes.{values-small, finished, written, refused}
 
 -- ---- paint_with: what finish leaves, written out
 
@@ -159,7 +159,7 @@ levels-most S ls ts l (suc n) h =
       arith,
       levels-most S ls ts l n (omega arith),
       suc-mul n (S .header .width * S .header .height),
-      product (channelAt S n .width) (channelAt S n .height) (S .header .width) (S .header .height) (x .width .top) (x .height .top),
+      mul-le-mul (x .width .top) (x .height .top),
     )
 
 pub room-small : (text : List ℕ) (n m : ℕ) → measuring limits text ≡ Gives (record { levels = n; tables = m }) → (n ≤ 3072) × (m ≤ 192)
