@@ -340,24 +340,15 @@ room-first : (limits : Limits) → room limits blank ≡ longest (limits .side)
 unfolding blank
 room-first limits = refl
 
-decisive-is : (limits : Limits) → decisive (limits .side) ≡ longest (limits .side) + 1026
-unfolding decisive
-decisive-is limits = refl
-
 -- The first `decisive` bytes of a text, or more, decide it
 pub decides : (limits : Limits) (text : List ℕ) (n : ℕ) → decisive (limits .side) ≤ n → readText limits (take n text) ≡ readText limits text
-unfolding readText
+unfolding readText decisive
 decides limits text n h = two (allowed limits) refl
   where
     two : (b : Bool) → allowed limits ≡ b
         → cond b (readFrom limits blank (held [] []) 1 (split 10 (take n text))) (Refused 2 0) ≡ cond b (readFrom limits blank (held [] []) 1 (split 10 text)) (Refused 2 0)
-    two true e = decides-from limits (side-is 512 (limits .side) e .top) (length text) blank (held [] []) 1 text n (omega arith) (inl refl) (omega (arith, room-first limits, decisive-is limits))
+    two true e = decides-from limits (side-is 512 (limits .side) e .top) (length text) blank (held [] []) 1 text n (omega arith) (inl refl) (omega (arith, room-first limits))
     two false e = refl
-
--- 20,453 bytes in `smooth`
-pub decisive-32 : decisive 32 ≡ 20453
-unfolding decisive longest decimal
-decisive-32 = refl
 
 -- No legal text is longer than `longest`
 

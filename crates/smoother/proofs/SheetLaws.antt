@@ -17,7 +17,7 @@ use Rattle.contents.specs.Sheets.{held}
 use Rattle.sheet.specs.Reading.{Outcome, Contents, readText}
 use Rattle.sheet.specs.Reading.Outcome.{Gives, Refused}
 use Rattle.sheet.specs.Calls.{Lengths, measuredSays, answerSays, sheetIn, lengthsOf, measuring, fitted, reading, heldAfter}
-use Rattle.smoother.specs.Sheets.{Measures, ReadsNumbers, numbersOf, withRecord}
+use Rattle.smoother.specs.Sheets.{Measures, ReadsNumbers, numbersOf, recordCount, withRecord}
 
 pub measured-lengths : (o : Outcome Lengths) (r : Measured) (n m n₀ m₀ : ℕ) → measuredSays r ≡ o → r ≡ measured.Lengths n m → Measures o n₀ n m₀ m 0 0
 measured-lengths o r n m n₀ m₀ e p =
@@ -28,13 +28,18 @@ measured-refused o r k l n₀ m₀ e p =
     subst (λ (z : Outcome Lengths). Measures z n₀ n₀ m₀ m₀ l k) (sym (ap measuredSays p) ∙ e) (record { number = refl; line = refl; levels = refl; tables = refl })
 
 -- ---- reading into three buffers
+
+record-count : (s : Sheet) → length (numbersOf s) ≡ recordCount
+unfolding numbersOf
+record-count s = refl
+
 module _ (l₀ l : List ℤ) (t₀ t n₀ n : List ℕ) where
-  pub read-given : (o : Outcome Contents) (r : Answer) (s : Sheet) → length n₀ ≡ 27 → answerSays r ≡ sheetIn o → r ≡ answer.Sheet s → held l t ≡ heldAfter o (held l₀ t₀) → n ≡ numbersOf s
+  pub read-given : (o : Outcome Contents) (r : Answer) (s : Sheet) → length n₀ ≡ recordCount → answerSays r ≡ sheetIn o → r ≡ answer.Sheet s → held l t ≡ heldAfter o (held l₀ t₀) → n ≡ numbersOf s
       → ReadsNumbers (withRecord (length n₀) o) l₀ l t₀ t n₀ n 0 0
   read-given (Gives c) r s h e w p m =
       let v = sym (ap answerSays w) ∙ e in
       let same : s ≡ c .sheet = cc in
-      subst (λ (b : Bool). ReadsNumbers (cond b (Gives c) (Refused 8 0)) l₀ l t₀ t n₀ n 0 0) (sym (eq-eqb (length n₀) 27 h))
+      subst (λ (b : Bool). ReadsNumbers (cond b (Gives c) (Refused 8 0)) l₀ l t₀ t n₀ n 0 0) (sym (eq-eqb (length n₀) recordCount h))
       (record { number = refl; line = refl; held-after = p; numbers = m ∙ ap numbersOf same })
   read-given (Refused k a) r s h e w p m = absurd (let v = sym (ap answerSays w) ∙ e in let z : _≡_ {A = ℕ} 0 1 = cc in omega arith)
 
@@ -48,10 +53,10 @@ module _ (l₀ l : List ℤ) (t₀ t n₀ n : List ℕ) where
       record { number = number; line = line; held-after = p; numbers = refl }
 
 -- ---- no room for the record
-module _ (l₀ : List ℤ) (t₀ n₀ : List ℕ) (h : length n₀ ≡ 27 → ⊥) where
+module _ (l₀ : List ℤ) (t₀ n₀ : List ℕ) (h : length n₀ ≡ recordCount → ⊥) where
   eight : (b : Bool) (c : Contents) → ReadsNumbers (withRecord (length n₀) (cond b (Gives c) (Refused 8 0))) l₀ l₀ t₀ t₀ n₀ n₀ 0 8
   eight true c =
-      subst (λ (x : Bool). ReadsNumbers (cond x (Gives c) (Refused 8 0)) l₀ l₀ t₀ t₀ n₀ n₀ 0 8) (sym (ne-eqb (length n₀) 27 h))
+      subst (λ (x : Bool). ReadsNumbers (cond x (Gives c) (Refused 8 0)) l₀ l₀ t₀ t₀ n₀ n₀ 0 8) (sym (ne-eqb (length n₀) recordCount h))
       (record { number = refl; line = refl; held-after = refl; numbers = refl })
   eight false c = record { number = refl; line = refl; held-after = refl; numbers = refl }
 

@@ -18,6 +18,7 @@ use Rattle.contents.specs.declared.Sheet.{Sheet}
 use Rattle.solve.specs.Solve.{solveRefusal, wholeOf, Ends, SolveIs}
 use Rattle.picture.specs.declared.Answer as drawn
 use Rattle.picture.specs.Finish.{Outcome, told, finishing}
+use Rattle.smoother.specs.Sheets.{recordCount}
 use Rattle.smoother.specs.Whole.{sheetOfNumbers, numbersRefusal, SolveNumbers, toldNumber, FinishNumbers}
 
 module _ (ns : List ℕ) (levels : List ℤ) (tables : List ℕ) (B : Buffers) where
@@ -31,18 +32,18 @@ module _ (ns : List ℕ) (levels : List ℤ) (tables : List ℕ) (B : Buffers) w
   abbrev End : ℕ → ℕ → Buffers → Type 0
   End n k B′ = (a : Calls.Answer) × (k ≡ byteOf a) × Ends n (wholeOf S levels tables) B a B′
 
-  pub no-record : (length ns ≡ 27 → ⊥) → SolveNumbers ns levels tables B 8 B
+  pub no-record : (length ns ≡ recordCount → ⊥) → SolveNumbers ns levels tables B 8 B
   unfolding numbersRefusal
-  no-record h = subst (λ (b : Bool). End (cond b (cond (leb (getD ns 5 0) 1) R 13) 8) 8 B) (sym (ne-eqb (length ns) 27 h)) (Calls.refused 8, refl, (refl, refl))
+  no-record h = subst (λ (b : Bool). End (cond b (cond (leb (getD ns 5 0) 1) R 13) 8) 8 B) (sym (ne-eqb (length ns) recordCount h)) (Calls.refused 8, refl, (refl, refl))
 
-  with-record : (k : ℕ) (B′ : Buffers) → length ns ≡ 27 → End (cond (leb (getD ns 5 0) 1) R 13) k B′ → SolveNumbers ns levels tables B k B′
+  with-record : (k : ℕ) (B′ : Buffers) → length ns ≡ recordCount → End (cond (leb (getD ns 5 0) 1) R 13) k B′ → SolveNumbers ns levels tables B k B′
   unfolding numbersRefusal
-  with-record k B′ h e = subst (λ (b : Bool). End (cond b (cond (leb (getD ns 5 0) 1) R 13) 8) k B′) (sym (eq-eqb (length ns) 27 h)) e
+  with-record k B′ h e = subst (λ (b : Bool). End (cond b (cond (leb (getD ns 5 0) 1) R 13) 8) k B′) (sym (eq-eqb (length ns) recordCount h)) e
 
-  pub no-mode : length ns ≡ 27 → 1 < getD ns 5 0 → SolveNumbers ns levels tables B 13 B
+  pub no-mode : length ns ≡ recordCount → 1 < getD ns 5 0 → SolveNumbers ns levels tables B 13 B
   no-mode h m = with-record 13 B h (subst (λ (b : Bool). End (cond b R 13) 13 B) (sym (lt-leb (getD ns 5 0) 1 m)) (Calls.refused 13, refl, (refl, refl)))
 
-  pub solved : (s : Sheet) (a : Answer) (k : ℕ) (B′ : Buffers) → length ns ≡ 27 → getD ns 5 0 ≤ 1 → s ≡ S → SolveIs s levels tables B a B′ → k ≡ byteOf (answerOf a)
+  pub solved : (s : Sheet) (a : Answer) (k : ℕ) (B′ : Buffers) → length ns ≡ recordCount → getD ns 5 0 ≤ 1 → s ≡ S → SolveIs s levels tables B a B′ → k ≡ byteOf (answerOf a)
       → SolveNumbers ns levels tables B k B′
   solved s a k B′ h m p e q =
       with-record k B′ h

@@ -41,7 +41,7 @@ pub record Measures (o : Outcome Lengths) (n₀ n m₀ m l r : ℕ) : Type 0 whe
   pub levels : n ≡ levelCount o n₀
   pub tables : m ≡ tableCount o m₀
 
--- A sheet's record as 27 numbers: the header's fields in the order of the S line, 1 for joint mode and 0 for separate, weights as
+-- A sheet's record as numbers: the header's fields in the order of the S line, 1 for joint mode and 0 for separate, weights as
 -- the bits of their f32; then own sides and factors of three channels, zeros where there is none.
 abbrev pub weightBits : Weight → ℕ
 weightBits w = toBits binary32 (valueOf w)
@@ -60,9 +60,13 @@ headerNumbers h =
 unfoldable pub numbersOf : Sheet → List ℕ
 numbersOf s = headerNumbers (s .header) ++ (channelNumbers (s .first) ++ (channelNumbers (s .second) ++ channelNumbers (s .third)))
 
+-- how many these are, of every sheet
+abbrev pub recordCount : ℕ
+recordCount = 27
+
 -- "a lent buffer's length differs" (8), last: the record's numbers have a buffer too
 abbrev pub withRecord : ℕ → Outcome Contents → Outcome Contents
-withRecord n (Gives c) = cond (eqb n 27) (Gives c) (Refused 8 0)
+withRecord n (Gives c) = cond (eqb n recordCount) (Gives c) (Refused 8 0)
 withRecord n (Refused k line) = Refused k line
 
 abbrev pub numbersAfter : Outcome Contents → List ℕ → List ℕ

@@ -16,6 +16,7 @@ use Rattle.start.specs.Buffers.{Buffers}
 use Rattle.calls.specs.Calls.{Answer, lengths, allSix}
 use Rattle.serve.specs.Serve.{byteOf}
 use Rattle.solve.specs.Solve.{solveRefusal, wholeOf, Ends}
+use Rattle.smoother.specs.Sheets.{recordCount}
 use Rattle.picture.specs.Finish.{Told, done, refused, finishing}
 
 -- ---- the record
@@ -51,10 +52,10 @@ sheetOfNumbers ns = record { header = headerOf ns; first = channelFrom ns 15; se
 
 -- ---- solve
 
--- "a lent buffer's length differs" (8), first: without 27 numbers there is no record; then 13 for a mode that is neither 0 nor 1, and then what `solve` refuses
+-- "a lent buffer's length differs" (8), first: with fewer or more numbers there is no record; then 13 for a mode that is neither 0 nor 1, and then what `solve` refuses
 unfoldable pub numbersRefusal : List ℕ → List ℤ → List ℕ → List ℕ → ℕ
 numbersRefusal ns levels tables ls =
-    cond (eqb (length ns) 27) (cond (leb (getD ns 5 0) 1) (solveRefusal (sheetOfNumbers ns) levels tables ls) 13) 8
+    cond (eqb (length ns) recordCount) (cond (leb (getD ns 5 0) 1) (solveRefusal (sheetOfNumbers ns) levels tables ls) 13) 8
 
 -- `SolveIs` of the record's sheet, by the answer's number
 abbrev pub SolveNumbers : List ℕ → List ℤ → List ℕ → Buffers → ℕ → Buffers → Type 0

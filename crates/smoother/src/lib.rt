@@ -13,7 +13,10 @@ ghost use mathlib.Core.Bool.{cond};
 ghost use lib.ListN.{length};
 ghost use Rattle.contents.specs.Sheets.{held};
 ghost use Rattle.sheet.specs.Calls.{measuring, reading};
-ghost use Rattle.smoother.specs.Sheets.{Measures, ReadsNumbers, numbersOf, weightBits, withRecord};
+ghost use Rattle.smoother.specs.Sheets.{Measures, ReadsNumbers, numbersOf, recordCount, weightBits, withRecord};
+
+// How many numbers a sheet's record has.
+pub const NUMBERS: usize = 27;
 
 // A call's answer as a number, with the record as it is afterwards.
 pub struct Numbered {
@@ -68,7 +71,7 @@ fn mode_number(joint: bool) -> u32
 }
 
 // A sheet's record as numbers.
-pub fn numbers(s: Sheet) -> [u32; 27]
+pub fn numbers(s: Sheet) -> [u32; NUMBERS]
     ensures { λ r. ⌜ r ≡ numbersOf s ⌝ }
 {
     let h = s.header;
@@ -113,8 +116,8 @@ pub fn numbers(s: Sheet) -> [u32; 27]
 }
 
 // The buffer becomes the array.
-fn put(from: [u32; 27], to: &mut [u32])
-    requires { ⌜ length (now to) ≡ 27 ⌝ }
+fn put(from: [u32; NUMBERS], to: &mut [u32])
+    requires { ⌜ length (now to) ≡ recordCount ⌝ }
     ensures { λ _. ⌜ now (to .exit) ≡ from ⌝ }
 {
     for k in 0..to.len() {
@@ -122,7 +125,7 @@ fn put(from: [u32; 27], to: &mut [u32])
     }
 }
 
-// Reads a text into the lent buffers: levels, tables and the record's 27 numbers. A refusal leaves all three as they are.
+// Reads a text into the lent buffers: levels, tables and the record's numbers. A refusal leaves all three as they are.
 // Ruled out: levels of a text whose last line is bad; 8 for a text that is itself refused.
 #[no_mangle]
 pub extern "C" fn smoother_read(
@@ -136,7 +139,7 @@ pub extern "C" fn smoother_read(
     ensures { λ r. ⌜ ReadsNumbers (withRecord (length (now (header .entry))) (reading (record { side = limit }) (now (text .entry)) (held (now (levels .entry)) (now (tables .entry)))))
         (now (levels .entry)) (now (levels .exit)) (now (tables .entry)) (now (tables .exit)) (now (header .entry)) (now (header .exit)) (now (line .exit)) r ⌝ }
 {
-    if header.len() == 27 {
+    if header.len() == NUMBERS {
         match sheet::read(text, Limits { side: limit }, levels, tables) {
             Answer::Sheet(s) => {
                 put(numbers(s), header);

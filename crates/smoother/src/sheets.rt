@@ -1,4 +1,5 @@
 // The whole run of a sheet and its picture as C functions. Both answer 0 for done, or the table's number.
+use crate::NUMBERS;
 use crate::runs;
 use contents::Channel;
 use contents::Header;
@@ -8,10 +9,11 @@ ghost use mathlib.Core.Path.{_≡_};
 ghost use Prim.Native.Nat.{_+_, _<_};
 ghost use lib.ListN.{length};
 ghost use Rattle.solve.specs.Solve.{six};
+ghost use Rattle.smoother.specs.Sheets.{recordCount};
 ghost use Rattle.smoother.specs.Whole.{headerOf, channelFrom, sheetOfNumbers, SolveNumbers, FinishNumbers};
 
 fn header_of(numbers: &[u32]) -> Header
-    requires { ⌜ length (now numbers) ≡ 27 ⌝ }
+    requires { ⌜ length (now numbers) ≡ recordCount ⌝ }
     ensures { λ r. ⌜ r ≡ headerOf (now (numbers .entry)) ⌝ }
 {
     Header {
@@ -47,7 +49,7 @@ fn channel_from(numbers: &[u32], at: usize) -> Channel
 
 // The sheet that a record's numbers say.
 fn sheet_of(numbers: &[u32]) -> Sheet
-    requires { ⌜ length (now numbers) ≡ 27 ⌝ }
+    requires { ⌜ length (now numbers) ≡ recordCount ⌝ }
     ensures { λ r. ⌜ r ≡ sheetOfNumbers (now (numbers .entry)) ⌝ }
 {
     Sheet {
@@ -58,7 +60,7 @@ fn sheet_of(numbers: &[u32]) -> Sheet
     }
 }
 
-// The whole run of a sheet, by the 27 numbers that `smoother_read` lends out. 8 for another count of them, 13 for a mode that is neither 0 nor 1, and
+// The whole run of a sheet, by the numbers that `smoother_read` lends out. 8 for another count of them, 13 for a mode that is neither 0 nor 1, and
 // else what `solve` answers. Ruled out: the planes of separate mode for a record whose mode is 1; 8 for six good buffers where a weight is infinite (13).
 #[no_mangle]
 pub extern "C" fn smoother_solve(
@@ -76,7 +78,7 @@ pub extern "C" fn smoother_solve(
         (six (now (plane .entry)) (now (prior .entry)) (now (gradient .entry)) (now (across .entry)) (now (down .entry)) (now (saved .entry))) r
         (six (now (plane .exit)) (now (prior .exit)) (now (gradient .exit)) (now (across .exit)) (now (down .exit)) (now (saved .exit))) ⌝ }
 {
-    if numbers.len() != 27 {
+    if numbers.len() != NUMBERS {
         return 8;
     }
     if 1 < numbers[5] {

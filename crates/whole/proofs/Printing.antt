@@ -27,7 +27,9 @@ use Rattle.sheet.specs.Reading.{Outcome, Contents, contents, readText}
 use Rattle.sheet.specs.Reading.Outcome.{Gives, Refused}
 use Rattle.sheet.specs.Calls.{Lengths, measuredSays, answerSays, lengthsOf, measuring, fitted, sheetIn, heldAfter, Reads}
 use Rattle.sheet.proofs.LegalLaws.{legal}
-use Rattle.sheet.proofs.PrefixLaws.{decides, decisive-32}
+use Rattle.sheet.specs.Longest.{longest, decisive}
+use Rattle.sheet.proofs.PrefixLaws.{decides}
+use Rattle.digits.specs.Written.{decimal}
 use Rattle.start.specs.Buffers.{Buffers}
 use Rattle.calls.specs.Buffers.{Name, Plane, Prior, Gradient, Across, Down, Saved, get, Sized}
 use Rattle.calls.specs.Calls.{all, allSix, lengths}
@@ -185,10 +187,18 @@ same-room o n m n′ m′ e p q = e ∙ (λ i. Gives (record { levels = sym p i;
 
 -- ---- answer: the refusal of measuring is that of reading
 
+-- the code's constant
+abbrev decided : ℕ
+decided = 20453
+
+pub decisive-32 : decisive 32 ≡ decided
+unfolding decisive longest decimal
+decisive-32 = refl
+
 pub measured-room : (o : Outcome Lengths) (r : Measured) (n m : ℕ) → measuredSays r ≡ o → r ≡ measured.Lengths n m → o ≡ Gives (record { levels = n; tables = m })
 measured-room o r n m e p = sym e ∙ ap measuredSays p
 
-pub refusal-text : (text : List ℕ) → length text ≤ 20453 → (r : Measured) (k line : ℕ) → measuredSays r ≡ measuring limits text → r ≡ measured.Refused k line
+pub refusal-text : (text : List ℕ) → length text ≤ decisive 32 → (r : Measured) (k line : ℕ) → measuredSays r ≡ measuring limits text → r ≡ measured.Refused k line
     → (out : List ℕ) (n : ℕ) (out′ : List ℕ) → mostPrinted ≤ length out → Wrote 0 (refusalInto k line (length out)) out n out′ → Wrote 0 (printed text) out n out′
 unfolding printed says
 refusal-text text h r k line e p out n out′ m w = by (readText limits text) (line-bound limits text) (sym (ap measuredSays p) ∙ e)
@@ -198,7 +208,7 @@ refusal-text text h r k line e p out n out′ m w = by (readText limits text) (l
     by (Refused k′ line′) b q =
         let number : k ≡ k′ = cc in
         let same : line ≡ line′ = cc in
-        wrote-as (refused k line (length out) (omega arith) m ∙ (λ i. refusalText (number i) (same i))) w
+        wrote-as (refused k line (length out) (omega (arith, decisive-32)) m ∙ (λ i. refusalText (number i) (same i))) w
 
 -- ---- smooth_text: enough room, and as much of the text as decides
 
@@ -207,8 +217,8 @@ pub roomy : (text out : List ℕ) (n : ℕ) (out′ : List ℕ) → mostPrinted 
 unfolding printedInto
 roomy text out n out′ h w = rw (le-leb mostPrinted (length out) h) w
 
-pub first-bytes : (text part out : List ℕ) (n : ℕ) (out′ : List ℕ) → mostPrinted ≤ length out → Wrote 0 (printed part) out n out′ → part ≡ take 20453 text
+pub first-bytes : (text part out : List ℕ) (n : ℕ) (out′ : List ℕ) → mostPrinted ≤ length out → Wrote 0 (printed part) out n out′ → part ≡ take decided text
     → Wrote 0 (printedInto text (length out)) out n out′
 unfolding printed
 first-bytes text part out n out′ h w e =
-    roomy text out n out′ h (wrote-as (ap printed e ∙ ap says (decides limits text 20453 (omega (arith, decisive-32)))) w)
+    roomy text out n out′ h (wrote-as (ap printed e ∙ ap says (decides limits text decided (omega (arith, decisive-32)))) w)

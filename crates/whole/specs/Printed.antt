@@ -14,7 +14,7 @@ use Rattle.sheet.specs.Reading.{Outcome, Contents, readText}
 use Rattle.sheet.specs.Reading.Outcome.{Gives, Refused}
 use Rattle.solve.specs.Solve.{planes, blows}
 use Rattle.picture.specs.Finish.{picture}
-use Rattle.output.specs.Output.{pictureText, refusalText}
+use Rattle.output.specs.Output.{pictureText, pictureRoom, refusalText}
 
 -- the text of a header's picture of these planes
 unfoldable pub painted : Header → List Float → List ℕ
@@ -39,9 +39,9 @@ limits = record { side = 32 }
 unfoldable pub printed : List ℕ → List ℕ
 printed text = says (readText limits text)
 
--- No text that it prints takes more room: a picture of 32 by 32.
+-- No text that it prints takes more room: a picture of 32 by 32
 abbrev pub mostPrinted : ℕ
-mostPrinted = 7242
+mostPrinted = pictureRoom 32 32
 
 -- what the call writes to a buffer of `room` bytes: the text, or nothing where the buffer could be too small for some text
 unfoldable pub printedInto : List ℕ → ℕ → List ℕ

@@ -10,10 +10,16 @@ ghost use Prim.Native.Nat.{_*_, _≤_};
 ghost use lib.ListN.{length};
 ghost use Rattle.contents.specs.Sheets.{held};
 ghost use Rattle.sheet.specs.Calls.{measuring, Lengths};
+ghost use Rattle.sheet.specs.Longest.{decisive};
 ghost use Rattle.sheet.specs.Reading.Outcome.{Gives};
 ghost use Rattle.contents.specs.Legal.{LegalHeader, LegalSheet};
 ghost use Rattle.output.specs.Output.{Wrote};
 ghost use Rattle.whole.specs.Printed.{limits, painted, sheetText, printed, mostPrinted, printedInto, SixLong};
+
+// So many bytes of a text decide what is printed for it: `decisive 32`.
+const DECISIVE: usize = 20453;
+// No text that is printed takes more bytes: `mostPrinted`.
+const MOST_PRINTED: usize = 7242;
 
 // The text of the picture of solved planes; rgb is room for its bytes.
 fn paint_with(h: Header, planes: &[f32], rgb: &mut [u8], out: &mut [u8]) -> usize
@@ -120,7 +126,7 @@ fn read_and_solve(text: &[u8], n: usize, m: usize, out: &mut [u8]) -> usize
 
 // The text of a refusal, or of a sheet. What is read is short enough that a line's number has few digits.
 fn answer(text: &[u8], out: &mut [u8]) -> usize
-    requires { ⌜ (length (now text) ≤ 20453) × (mostPrinted ≤ length (now out)) ⌝ }
+    requires { ⌜ (length (now text) ≤ decisive 32) × (mostPrinted ≤ length (now out)) ⌝ }
     ensures { λ r. ⌜ Wrote 0 (printed (now (text .entry))) (now (out .entry)) r (now (out .exit)) ⌝ }
 {
     match sheet::measure(text, Limits { side: 32 }) {
@@ -132,17 +138,17 @@ fn answer(text: &[u8], out: &mut [u8]) -> usize
     }
 }
 
-// What `smooth` prints for a text, written to the front of `out`, and how many bytes that is; 0, with nothing written, where `out` has fewer than
-// 7,242 bytes. Of a longer text the first 20,453 bytes decide.
+// What `smooth` prints for a text, written to the front of `out`, and how many bytes that is; 0, with nothing written, where `out` could be too
+// small for some text. Of a long text the first bytes decide.
 // Ruled out: a grey picture for every sheet; a refusal for a sheet that keeps every rule.
 pub fn smooth_text(text: &[u8], out: &mut [u8]) -> usize
     ensures { λ r. ⌜ Wrote 0 (printedInto (now (text .entry)) (length (now (out .entry)))) (now (out .entry)) r (now (out .exit)) ⌝ }
 {
-    if out.len() < 7242 {
+    if out.len() < MOST_PRINTED {
         return 0;
     }
-    if 20453 < text.len() {
-        return answer(&text[0..20453], out);
+    if DECISIVE < text.len() {
+        return answer(&text[0..DECISIVE], out);
     }
     answer(text, out)
 }
