@@ -91,21 +91,21 @@ abbrev pub fitting : ℕ → ℕ → ℕ → ℕ → ℕ → ℕ → ℕ → Boo
 fitting w h width height channels values bytes = eqb values (channels * (w * h)) && eqb bytes (3 * (width * height))
 
 -- document 01's answers, and which of them each case of the code's answer is: done, or the refusal's number in the table
-pub data Told : Type 0 where
-  done : Told
-  refused : ℕ → Told
+pub data Verdict : Type 0 where
+  done : Verdict
+  refused : ℕ → Verdict
 
-abbrev pub told : Answer → Told
-told answer.Done = done
-told (answer.Refused n) = refused n
+abbrev pub verdict : Answer → Verdict
+verdict answer.Done = done
+verdict (answer.Refused n) = refused n
 
 -- what a call answers, and the bytes that it leaves
-pub record Outcome : Type 0 where
-  pub answer : Told
+pub record Finished : Type 0 where
+  pub answer : Verdict
   pub bytes : List ℕ
 
 -- the call: 13, then 8; a refusal leaves the lent bytes, rgb, unchanged
-unfoldable pub finishing : ℕ → ℕ → ℕ → ℕ → ℕ → List Float → List ℕ → Outcome
+unfoldable pub finishing : ℕ → ℕ → ℕ → ℕ → ℕ → List Float → List ℕ → Finished
 unfolding pixel upto
 finishing w h width height channels planes rgb =
     cond (not (legal w h width height channels)) (record { answer = refused 13; bytes = rgb })

@@ -5,7 +5,7 @@ ghost use Prim.Native.Nat.{_+_, _*_, _≤_, _<_};
 ghost use lib.ListN.{length};
 ghost use lib.Ieee.{lt};
 ghost use Rattle.float.specs.Names.{f255};
-ghost use Rattle.picture.specs.Finish.{toByte, shade, colour, grey, pixel, row, picture, side, within, legal, fitting, told, finishing};
+ghost use Rattle.picture.specs.Finish.{toByte, shade, colour, grey, pixel, row, picture, side, within, legal, fitting, verdict, finishing};
 
 // The answer: done, or refused with a number of document 01's table.
 pub enum Answer {
@@ -155,7 +155,7 @@ pub fn finish(
     planes: &[f32],
     rgb: &mut [u8],
 ) -> Answer
-    ensures { λ r. ⌜ record { answer = told r; bytes = now (rgb .exit) } ≡ finishing w h width height channels (now (planes .entry)) (now (rgb .entry)) ⌝ }
+    ensures { λ r. ⌜ record { answer = verdict r; bytes = now (rgb .exit) } ≡ finishing w h width height channels (now (planes .entry)) (now (rgb .entry)) ⌝ }
 {
     if !legal(w, h, width, height, channels) {
         return Answer::Refused(13);

@@ -17,9 +17,9 @@ use Rattle.serve.specs.Serve.{byteOf}
 use Rattle.contents.specs.declared.Sheet.{Sheet}
 use Rattle.solve.specs.Solve.{solveRefusal, wholeOf, Ends, SolveIs}
 use Rattle.picture.specs.declared.Answer as drawn
-use Rattle.picture.specs.Finish.{Outcome, told, finishing}
+use Rattle.picture.specs.Finish.{Finished, verdict, finishing}
 use Rattle.smoother.specs.Sheets.{recordCount}
-use Rattle.smoother.specs.Whole.{sheetOfNumbers, numbersRefusal, SolveNumbers, toldNumber, FinishNumbers}
+use Rattle.smoother.specs.Whole.{sheetOfNumbers, numbersRefusal, SolveNumbers, verdictNumber, FinishNumbers}
 
 module _ (ns : List ℕ) (levels : List ℤ) (tables : List ℕ) (B : Buffers) where
   abbrev S : Sheet
@@ -53,6 +53,6 @@ module _ (ns : List ℕ) (levels : List ℤ) (tables : List ℕ) (B : Buffers) w
 -- ---- the picture
 
 module _ (w h width height channels : ℕ) (planes : List Float) (rgb rgb′ : List ℕ) (r : drawn.Answer) (k : ℕ) where
-  pub finished : _≡_ {A = Outcome} (record { answer = told r; bytes = rgb′ }) (finishing w h width height channels planes rgb) → k ≡ toldNumber (told r)
+  pub finished : _≡_ {A = Finished} (record { answer = verdict r; bytes = rgb′ }) (finishing w h width height channels planes rgb) → k ≡ verdictNumber (verdict r)
       → FinishNumbers w h width height channels planes rgb k rgb′
-  finished e p = record { number = p ∙ ap (λ (o : Outcome). toldNumber (o .answer)) e; bytes = ap (λ (o : Outcome). o .bytes) e }
+  finished e p = record { number = p ∙ ap (λ (o : Finished). verdictNumber (o .answer)) e; bytes = ap (λ (o : Finished). o .bytes) e }

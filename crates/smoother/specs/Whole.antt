@@ -17,13 +17,13 @@ use Rattle.calls.specs.Calls.{Answer, lengths, allSix}
 use Rattle.serve.specs.Serve.{byteOf}
 use Rattle.solve.specs.Solve.{solveRefusal, wholeOf, Ends}
 use Rattle.smoother.specs.Sheets.{recordCount}
-use Rattle.picture.specs.Finish.{Told, done, refused, finishing}
+use Rattle.picture.specs.Finish.{Verdict, done, refused, finishing}
 
 -- ---- the record
 
 -- The sheet of a record's numbers, in the order of `numbersOf`: 1 is joint mode, a weight is its f32's bits.
-abbrev pub headerOf : List ℕ → Header
-headerOf ns =
+abbrev pub headerFrom : List ℕ → Header
+headerFrom ns =
     record {
       width = getD ns 0 0;
       height = getD ns 1 0;
@@ -48,7 +48,7 @@ channelFrom ns i =
     record { width = getD ns i 0; height = getD ns (i + 1) 0; across = getD ns (i + 2) 0; down = getD ns (i + 3) 0 }
 
 unfoldable pub sheetOfNumbers : List ℕ → Sheet
-sheetOfNumbers ns = record { header = headerOf ns; first = channelFrom ns 15; second = channelFrom ns 19; third = channelFrom ns 23 }
+sheetOfNumbers ns = record { header = headerFrom ns; first = channelFrom ns 15; second = channelFrom ns 19; third = channelFrom ns 23 }
 
 -- ---- solve
 
@@ -64,11 +64,11 @@ SolveNumbers ns levels tables B k B′ =
 
 -- ---- finish
 
-abbrev pub toldNumber : Told → ℕ
-toldNumber done = 0
-toldNumber (refused n) = n
+abbrev pub verdictNumber : Verdict → ℕ
+verdictNumber done = 0
+verdictNumber (refused n) = n
 
 -- what `finish` answers and the bytes that it leaves
 pub record FinishNumbers (w h width height channels : ℕ) (planes : List Float) (rgb : List ℕ) (k : ℕ) (rgb′ : List ℕ) : Type 0 where
-  pub number : k ≡ toldNumber (finishing w h width height channels planes rgb .answer)
+  pub number : k ≡ verdictNumber (finishing w h width height channels planes rgb .answer)
   pub bytes : rgb′ ≡ finishing w h width height channels planes rgb .bytes

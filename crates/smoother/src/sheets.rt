@@ -10,11 +10,11 @@ ghost use Prim.Native.Nat.{_+_, _<_};
 ghost use lib.ListN.{length};
 ghost use Rattle.solve.specs.Solve.{six};
 ghost use Rattle.smoother.specs.Sheets.{recordCount};
-ghost use Rattle.smoother.specs.Whole.{headerOf, channelFrom, sheetOfNumbers, SolveNumbers, FinishNumbers};
+ghost use Rattle.smoother.specs.Whole.{headerFrom, channelFrom, sheetOfNumbers, SolveNumbers, FinishNumbers};
 
-fn header_of(numbers: &[u32]) -> Header
+fn header_from(numbers: &[u32]) -> Header
     requires { ⌜ length (now numbers) ≡ recordCount ⌝ }
-    ensures { λ r. ⌜ r ≡ headerOf (now (numbers .entry)) ⌝ }
+    ensures { λ r. ⌜ r ≡ headerFrom (now (numbers .entry)) ⌝ }
 {
     Header {
         width: numbers[0],
@@ -53,7 +53,7 @@ fn sheet_of(numbers: &[u32]) -> Sheet
     ensures { λ r. ⌜ r ≡ sheetOfNumbers (now (numbers .entry)) ⌝ }
 {
     Sheet {
-        header: header_of(numbers),
+        header: header_from(numbers),
         first: channel_from(numbers, 15),
         second: channel_from(numbers, 19),
         third: channel_from(numbers, 23),

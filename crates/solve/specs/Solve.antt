@@ -28,8 +28,8 @@ use Rattle.record.specs.Model.{sheetOf, placesOf, givenOf, answerOf}
 -- ---- the runs of a sheet
 
 -- a channel line as a channel of a run with this data weight, at position 0 and not marked
-abbrev pub channelOf : Line.Channel → Weight → Channel
-channelOf x w =
+abbrev pub runChannel : Line.Channel → Weight → Channel
+runChannel x w =
     record { width = x .width; height = x .height; across = x .across; down = x .down; weight = valueOf w; position = 0; mark = false }
 
 -- "Joint mode uses the first smoothing weight, the first iteration count and each channel's data weight."
@@ -42,7 +42,7 @@ joint S =
       n = h .iterations0;
       smoothing = valueOf (h .smoothing0);
       count = h .channels;
-      channels = channelOf (S .first) (h .data0) ∷ channelOf (S .second) (h .data1) ∷ channelOf (S .third) (h .data2) ∷ [];
+      channels = runChannel (S .first) (h .data0) ∷ runChannel (S .second) (h .data1) ∷ runChannel (S .third) (h .data2) ∷ [];
     }
 
 -- Channel c's own iteration count and smoothing weight.
@@ -56,7 +56,7 @@ smoothingAt S c = cond (eqb c 0) (S .header .smoothing0) (cond (eqb c 1) (S .hea
 -- weights." A run of one channel, the first of three places; no call reads the other two.
 unfoldable pub alone : Sheet → ℕ → Run
 alone S c =
-    let x = channelOf (channelAt S c) (S .header .data0) in
+    let x = runChannel (channelAt S c) (S .header .data0) in
     record {
       w = S .header .width;
       h = S .header .height;

@@ -8,11 +8,11 @@ use record::Run;
 use record::legal::legal;
 ghost use mathlib.Core.Path.{_≡_};
 ghost use Rattle.contents.specs.Sheets.{channelAt};
-ghost use Rattle.solve.specs.Solve.{channelOf, joint, alone, iterationsAt, smoothingAt, allLegal, solveRefusal};
+ghost use Rattle.solve.specs.Solve.{runChannel, joint, alone, iterationsAt, smoothingAt, allLegal, solveRefusal};
 
 // A channel line as a channel of a fresh run, with this data weight.
-fn channel_of(x: contents::Channel, weight: Weight) -> record::Channel
-    ensures { λ r. ⌜ r ≡ channelOf x weight ⌝ }
+fn run_channel(x: contents::Channel, weight: Weight) -> record::Channel
+    ensures { λ r. ⌜ r ≡ runChannel x weight ⌝ }
 {
     record::Channel {
         width: x.width,
@@ -37,9 +37,9 @@ pub fn joint_of(s: Sheet) -> Run
     let first = s.first;
     let second = s.second;
     let third = s.third;
-    let a = channel_of(first, d0);
-    let b = channel_of(second, d1);
-    let c = channel_of(third, d2);
+    let a = run_channel(first, d0);
+    let b = run_channel(second, d1);
+    let c = run_channel(third, d2);
     Run {
         w: h.width,
         h: h.height,
@@ -97,7 +97,7 @@ pub fn alone_of(s: Sheet, c: u32) -> Run
 {
     let h = s.header;
     let d0 = h.data0;
-    let x = channel_of(line_at(s, c), d0);
+    let x = run_channel(line_at(s, c), d0);
     Run {
         w: h.width,
         h: h.height,

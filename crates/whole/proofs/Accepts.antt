@@ -30,7 +30,7 @@ use Rattle.record.specs.declared.Run.{Run}
 use Rattle.record.specs.declared.Channel.{Channel}
 use Rattle.record.specs.Model.{sheetOf, placesOf, ownOf, placeOf, noChannel}
 use Rattle.record.proofs.Channels.{at-own, at-position, at-mark, first-long}
-use Rattle.solve.specs.Solve.{joint, alone, channelOf, jointGiven, isLegal, allLegal, solveRefusal}
+use Rattle.solve.specs.Solve.{joint, alone, runChannel, jointGiven, isLegal, allLegal, solveRefusal}
 
 -- ---- tests from facts
 
@@ -129,9 +129,9 @@ own-test r m n x wide high across down cover-across cover-down w =
 
 -- a channel line and a weight of a legal sheet, as a channel of a run with the sheet's sides
 channel-test : (r : Run) (h : Header) (x : Line.Channel) (w : Weight) → r .w ≡ h .width → r .h ≡ h .height → LegalChannel h x → LegalWeight w
-    → T (ownOk (sheetOf r) (ownOf (channelOf x w)))
+    → T (ownOk (sheetOf r) (ownOf (runChannel x w)))
 channel-test r h x w e f l lw =
-    own-test r (h .width) (h .height) (channelOf x w) (l .width) (l .height) (l .across) (l .down) (omega (arith, l .wide)) (omega (arith, l .high)) (weight-test w lw)
+    own-test r (h .width) (h .height) (runChannel x w) (l .width) (l .height) (l .across) (l .down) (omega (arith, l .wide)) (omega (arith, l .high)) (weight-test w lw)
 
 -- a run's channel c below its count, of three
 below-3 : (A : ℕ → Type 0) → A 0 → A 1 → A 2 → (c : ℕ) → c < 3 → A c

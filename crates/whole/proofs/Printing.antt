@@ -50,13 +50,13 @@ use Rattle.whole.proofs.Sizes.{values-small, finished, written, refused
 -- ---- paint_with: what finish leaves, written out
 
 pub paints : (h : Header) → LegalHeader limits h → (ps : List Float) → length ps ≡ h .channels * (h .width * h .height)
-    → (rgb rgb′ : List ℕ) → length rgb ≡ 3 * (h .«picture_width» * h .«picture_height») → (t : Finish.Told)
+    → (rgb rgb′ : List ℕ) → length rgb ≡ 3 * (h .«picture_width» * h .«picture_height») → (t : Finish.Verdict)
     → record { answer = t; bytes = rgb′ } ≡ Finish.finishing (h .width) (h .height) (h .«picture_width») (h .«picture_height») (h .channels) ps rgb
     → (out : List ℕ) (r : ℕ) (out′ : List ℕ) → mostPrinted ≤ length out
     → Wrote 0 (pictureInto (h .«picture_width») (h .«picture_height») rgb′ (length out - 0)) out r out′ → Wrote 0 (painted h ps) out r out′
 paints h l ps long rgb rgb′ room t e out r out′ m w =
     let is : rgb′ ≡ Finish.picture (h .width) (h .height) (h .«picture_width») (h .«picture_height») (h .channels) ps =
-    ap (λ (o : Finish.Outcome). o .bytes) (e ∙ finished h l ps long rgb room) in
+    ap (λ (o : Finish.Finished). o .bytes) (e ∙ finished h l ps long rgb room) in
     wrote-as
     (written h l ps rgb′ (length out - 0) is (ap length is ∙ picture-length (h .width) (h .height) (h .«picture_width») (h .«picture_height») (h .channels) ps) (omega arith))
     w

@@ -6,7 +6,7 @@ use Rattle.solve.proofs.modes.joint_of.Tie as tie
 
 returns : tie.Need-returns
 unfolding joint
-returns c = rw (c .before .before .before .channel-of .ensures, c .before .before .channel-of2 .ensures, c .before .channel-of3 .ensures, c .weight-value .ensures)
+returns c = rw (c .before .before .before .run-channel .ensures, c .before .before .run-channel2 .ensures, c .before .run-channel3 .ensures, c .weight-value .ensures)
 
 pub joint-of-spec : {M : Type 1} → statement M
 joint-of-spec =
