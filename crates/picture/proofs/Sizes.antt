@@ -1,7 +1,7 @@
 -- Legal sizes as facts, and the products of them. Assumes nothing.
 use mathlib.Core.Path.{_≡_, _∙_, sym, subst}
 use Prim.Native.Nat.{ℕ, _+_, _*_, _^_, _%_, _≤_, _<_}
-use mathlib.Core.Bool.{Bool, true, false, _||_}
+use mathlib.Core.Bool.{Bool, true, false, _&&_, _||_}
 use native.Mathlib.Nat.{mul-le-mul-right, mul-le-mul-left, mul-comm, mul-left-comm}
 use native.Mathlib.Omega.{arith}
 use lib.Dec.{T, leb, eqb, leb→le, eqb→eq}
@@ -45,8 +45,8 @@ sizes w h width height channels e =
     let sw = and-l (side w) _ t in
     let sh = and-l (side h) _ t1 in
     record {
-      wide = leb→le w 512 (and-r (leb 8 w) _ (and-r (eqb (w % 8) 0) _ sw));
-      high = leb→le h 512 (and-r (leb 8 h) _ (and-r (eqb (h % 8) 0) _ sh));
+      wide = leb→le w 512 (and-r (eqb (w % 8) 0 && leb 8 w) _ sw);
+      high = leb→le h 512 (and-r (eqb (h % 8) 0 && leb 8 h) _ sh);
       width-in = leb→le width w (and-r (leb 1 width) _ (and-l (within w width) _ t2));
       height-in = leb→le height h (and-r (leb 1 height) _ (and-l (within h height) _ t3));
       some = counts channels t4 .0;

@@ -75,7 +75,7 @@ picture w h width height channels planes = joinUpto (λ y. row channels (w * h) 
 
 -- "multiples of 8, 8 to 512"
 abbrev pub side : ℕ → Bool
-side n = eqb (n % 8) 0 && (leb 8 n && leb n 512)
+side n = (eqb (n % 8) 0 && leb 8 n) && leb n 512
 
 -- "1 to W", "1 to H"
 abbrev pub within : ℕ → ℕ → Bool

@@ -108,7 +108,7 @@ fn rows(
 fn side(n: u32) -> bool
     ensures { λ r. ⌜ r ≡ side n ⌝ }
 {
-    (n % 8 == 0) & ((8 <= n) & (n <= 512))
+    ((n % 8 == 0) & (8 <= n)) & (n <= 512)
 }
 
 // A picture side: 1 to the full one.

@@ -41,8 +41,11 @@ six a b c d e f ta tb tc td te tf =
 side-test : (m n : ℕ) → LegalSide m n → T (side n)
 side-test m n l = and-i (eqb (n % 8) 0) (leb 8 n) (eq→eqb (l .whole)) (le→leb 8 n (l .low))
 
-full-test : (n : ℕ) → LegalSide 512 n → T (fullSide n)
+pub full-test : (n : ℕ) → LegalSide 512 n → T (fullSide n)
 full-test n l = and-i (side n) (leb n 512) (side-test 512 n l) (le→leb n 512 (l .top))
+
+pub wider : (m k n : ℕ) → LegalSide m n → m ≤ k → LegalSide k n
+wider m k n l h = record { whole = l .whole; low = l .low; top = omega (arith, l .top) }
 
 factor-test : (n : ℕ) → Between 1 4 n → T (factor n)
 factor-test n l = and-i (leb 1 n) (leb n 4) (le→leb 1 n (l .low)) (le→leb n 4 (l .top))
@@ -159,7 +162,7 @@ is-true false t = absurd t
 
 module _ (limits : Limits) (S : Sheet) (ls : List ℤ) (ts : List ℕ) (l : LegalSheet limits S (held ls ts)) where
   full : (n : ℕ) → LegalSide (limits .side) n → LegalSide 512 n
-  full n s = record { whole = s .whole; low = s .low; top = omega (arith, s .top, l .limits-legal .side .top) }
+  full n s = wider (limits .side) 512 n s (l .limits-legal .side .top)
 
   joint-fine : Fine (joint S)
   unfolding joint

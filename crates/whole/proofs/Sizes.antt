@@ -2,7 +2,7 @@
 use mathlib.Core.Path.{_≡_, refl, ap, _∙_}
 use mathlib.Core.Bool.{_&&_, _||_}
 use mathlib.Core.List.{List}
-use Prim.Native.Nat.{ℕ, _+_, _*_, _%_, _≤_}
+use Prim.Native.Nat.{ℕ, _+_, _*_, _≤_}
 use native.Mathlib.Nat.{mul-le-mul}
 use native.Mathlib.Omega.{arith}
 use lib.Dec.{T, leb, eqb, le→leb}
@@ -15,7 +15,7 @@ use Rattle.picture.specs.Finish as Finish
 use Rattle.output.specs.Output.{pictureText, pictureInto, refusalText, refusalInto}
 use Rattle.output.proofs.Sizes.{room-more, picture-into, refusal-into}
 use Rattle.whole.specs.Printed.{limits, painted, mostPrinted}
-use Rattle.whole.proofs.Accepts.{at-most, is-true, counted}
+use Rattle.whole.proofs.Accepts.{at-most, is-true, counted, wider, full-test}
 
 module _ (h : Header) (l : LegalHeader limits h) where
   pub area-small : h .width * h .height ≤ 1024
@@ -29,7 +29,7 @@ module _ (h : Header) (l : LegalHeader limits h) where
 
   -- finish does its work
   side-test : (n : ℕ) → LegalSide 32 n → T (Finish.side n)
-  side-test n s = and-i (eqb (n % 8) 0) (leb 8 n && leb n 512) (eq→eqb (s .whole)) (and-i (leb 8 n) (leb n 512) (le→leb 8 n (s .low)) (le→leb n 512 (omega (arith, s .top))))
+  side-test n s = full-test n (wider 32 512 n s (omega arith))
 
   within-test : (m n : ℕ) → Between 1 m n → T (Finish.within m n)
   within-test m n b = and-i (leb 1 n) (leb n m) (le→leb 1 n (b .low)) (le→leb n m (b .top))
