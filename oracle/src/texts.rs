@@ -352,7 +352,7 @@ pub fn fixed() -> Vec<(&'static str, Vec<u8>, Option<Refusal>)> {
         ("lines end with 13", replaced("\n", "\r"), Some((7, 1))),
         ("byte order mark", replaced("S", "\u{feff}S"), Some((1, 1))),
     ];
-    let edits: [(&[Edit], Option<Refusal>); 61] = [
+    let edits: [(&[Edit], Option<Refusal>); 65] = [
         (&[(S, 1, "12"), (S, 2, "x")], Some((2, 1))), // range of a field before the spelling of a later one
         (&[(B, 1, "2048"), (B, 2, "-0")], Some((5, 3))),
         (&[(C, 3, "5"), (C, 5, "0")], Some((3, 2))),
@@ -374,6 +374,7 @@ pub fn fixed() -> Vec<(&'static str, Vec<u8>, Option<Refusal>)> {
         (&[(S, 1, "40"), (S, 6, "k")], Some((2, 1))), // the limit 32 at its field
         (&[(S, 1, "40"), (S, 2, "x")], Some((2, 1))),
         (&[(S, 1, "520")], Some((2, 1))),
+        (&[(S, 1, "40")], Some((2, 1))),
         (&[(S, 1, "32")], None),
         (&[(S, 2, "32")], None),
         (&[(S, 1, "0")], Some((2, 1))),
@@ -384,8 +385,11 @@ pub fn fixed() -> Vec<(&'static str, Vec<u8>, Option<Refusal>)> {
         (&[(S, 1, "+8")], Some((1, 1))),
         (&[(S, 3, "0")], Some((2, 1))),
         (&[(S, 3, "9")], Some((2, 1))),
+        (&[(S, 4, "9")], Some((2, 1))),
         (&[(S, 2, "x"), (S, 3, "9")], Some((1, 1))),
         (&[(S, 5, "2"), (S, 6, "x")], Some((2, 1))),
+        (&[(S, 5, "0")], Some((2, 1))),
+        (&[(S, 5, "4")], Some((2, 1))),
         (&[(S, 5, "3")], Some((1, 4))),    // E where a second channel is due
         (&[(S, 9, "1001")], Some((2, 1))), // spare fields must be legal
         (&[(S, 9, "1000")], None),

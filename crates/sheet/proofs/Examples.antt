@@ -1,4 +1,5 @@
--- The whole example of document 01, and edits of it that tell readings of the paper apart, read by computation.
+-- The whole example of document 01, and edits of it that show how its rules are read, by computation. More of them, with the answers of the oracle's own reader, are in the list
+-- that the crate `replay` reads.
 use Prim.Native.Nat.{ℕ, zero, suc, _-_}
 use Prim.Native.Char.{code}
 use Prim.Native.String.{String, len, charAt}
@@ -104,109 +105,55 @@ whole-reads : readText (at 32) (text whole) ≡ contents
 unfolding readText blank lineTag takenOf recordOf headerOf channelOf lineFault fieldsFault rulesOf numberAt weightAt numberOf bitForm weightOf levelOf fieldOf
 whole-reads = refl
 
--- T1: 1,024 bytes are allowed; a line that is both too long and unended is 1; the length comes before every field
+-- 1,024 bytes are allowed; a line that is both too long and unended is 1; the length comes before every field
 too-long : answers 32 (replicate 1025 97 ∷ replicate 1024 97 ∷ text (padded 987) ∷ text (padded 988) ∷ [])
     ≡ (1, 1) ∷ (7, 1) ∷ (2, 1) ∷ (1, 1) ∷ []
 unfolding answer
 too-long = refl
 
--- T2: an unended line is 7 whatever it holds, at its own number
+-- an unended line is 7 whatever it holds, at its own number
 unended : answers 32 (b "x" ∷ cut 1 (text (take 3 whole)) ∷ cut 1 (text whole) ∷ [])
     ≡ (7, 1) ∷ (7, 3) ∷ (7, 4) ∷ []
 unfolding answer
 unended = refl
 
--- T3: all lines ended and good, but no more
-stops : answers 32 ([] ∷ text (take 1 whole) ∷ text (take 3 whole) ∷ [])
-    ≡ (7, 1) ∷ (7, 2) ∷ (7, 4) ∷ []
-unfolding answer
-stops = refl
-
--- T4: `E` too early or too late, and not alone
-end-early : answers 32 (text (drop 3 whole) ∷ text (take 1 whole ++ drop 3 whole) ∷ (text (take 1 whole ++ drop 3 whole) ++ b "x") ∷ text (take 3 whole ++ take 1 (drop 2 whole)) ∷ one 3 0 "E\t" ∷ one 3 0 "E\r" ∷ [])
-    ≡ (1, 1) ∷ (1, 2) ∷ (1, 2) ∷ (1, 4) ∷ (1, 4) ∷ (1, 4) ∷ []
-unfolding answer
-end-early = refl
-
--- T5: a byte after `E`, before any other test of it
+-- a byte after `E`, before any other test of it
 after-end : answers 32 ((text whole ++ 10 ∷ []) ∷ (text whole ++ replicate 1025 97) ∷ (text whole ++ b "S") ∷ (two 0 7 "1" 0 13 "h7f000000" ++ 10 ∷ []) ∷ [])
     ≡ (7, 5) ∷ (7, 5) ∷ (7, 5) ∷ (7, 5) ∷ []
 unfolding answer
 after-end = refl
 
--- T6: an empty line has one field, the empty one; a tag alone
-empty-line : answers 32 ((10 ∷ []) ∷ (10 ∷ text whole) ∷ b "S\n" ∷ [])
-    ≡ (1, 1) ∷ (1, 1) ∷ (1, 1) ∷ []
-unfolding answer
-empty-line = refl
-
--- T7: per field, spelling and then range
+-- per field, spelling and then range
 field-by-field : answers 32 (two 0 1 "12" 0 2 "x" ∷ two 2 1 "2048" 2 2 "-0" ∷ two 1 3 "5" 1 5 "0" ∷ [])
     ≡ (2, 1) ∷ (5, 3) ∷ (3, 2) ∷ []
 unfolding answer
 field-by-field = refl
 
--- T8: "a bad mode letter is 1"
-mode-letter : answers 32 (two 0 6 "k" 0 7 "1001" ∷ one 0 6 "js" ∷ one 0 6 "J" ∷ one 0 6 "" ∷ [])
-    ≡ (1, 1) ∷ (1, 1) ∷ (1, 1) ∷ (1, 1) ∷ []
-unfolding answer
-mode-letter = refl
-
--- T9: cover comes after all 68 fields of its line
+-- cover comes after all 68 fields of its line
 cover : answers 32 (two 1 1 "16" 1 68 "256" ∷ one 1 3 "2" ∷ [])
     ≡ (4, 2) ∷ (2, 2) ∷ []
 unfolding answer
 cover = refl
 
--- T10: own sides have no upper end at their field
-own-side : answers 32 (two 1 1 "520" 1 3 "5" ∷ two 1 1 "999992" 1 3 "4" ∷ one 1 1 "65544" ∷ [])
-    ≡ (3, 2) ∷ (2, 2) ∷ (2, 2) ∷ []
-unfolding answer
-own-side = refl
-
--- T11: the limit 32 of `smooth`, at that field
+-- the limit 32 of `smooth`, at that field
 limit-32 : answers 32 (two 0 1 "40" 0 6 "k" ∷ two 0 1 "40" 0 2 "x" ∷ one 0 1 "520" ∷ one 0 1 "40" ∷ one 0 1 "32" ∷ [])
     ≡ (2, 1) ∷ (2, 1) ∷ (2, 1) ∷ (2, 1) ∷ (0, 0) ∷ []
 unfolding answer
 limit-32 = refl
 
--- T11: 512 in the library
-limit-512 : answers 512 (two 0 1 "40" 0 6 "k" ∷ one 0 1 "520" ∷ one 0 1 "40" ∷ one 0 1 "512" ∷ [])
-    ≡ (1, 1) ∷ (2, 1) ∷ (0, 0) ∷ (0, 0) ∷ []
-unfolding answer
-limit-512 = refl
-
--- T12: one to six digits, no zero before another digit, no minus
-six-digits : answers 32 (one 0 1 "1000000" ∷ one 0 1 "999999" ∷ one 0 1 "08" ∷ one 0 1 "-8" ∷ one 0 1 "+8" ∷ one 0 3 "0" ∷ [])
-    ≡ (1, 1) ∷ (2, 1) ∷ (1, 1) ∷ (1, 1) ∷ (1, 1) ∷ (2, 1) ∷ []
-unfolding answer
-six-digits = refl
-
--- T13: the six digits don't count the minus; "never before 0"
+-- the six digits don't count the minus; "never before 0"
 minus : answers 32 (one 2 1 "-0" ∷ one 2 1 "-999999" ∷ one 2 1 "-1000000" ∷ one 2 1 "-01" ∷ one 2 1 "-2047" ∷ one 2 1 "-2048" ∷ [])
     ≡ (1, 3) ∷ (5, 3) ∷ (1, 3) ∷ (1, 3) ∷ (0, 0) ∷ (5, 3) ∷ []
 unfolding answer
 minus = refl
 
--- T14: a bit form is exactly `h` and eight of 0-9a-f; else `w` and a number; else 1
-weights : answers 32 (one 0 10 "w256" ∷ one 0 10 "w255" ∷ one 0 10 "w0256" ∷ one 0 10 "w1000000" ∷ one 0 10 "w" ∷ one 0 10 "h7F800000" ∷ one 0 10 "h80000000" ∷ one 0 10 "h7f80000" ∷ one 0 10 "hw1" ∷ one 0 10 "1" ∷ one 0 10 "w-1" ∷ one 0 10 "h7f800001" ∷ one 0 10 "h7f800000" ∷ one 0 10 "h7f7fffff" ∷ one 0 10 "h00000001" ∷ one 0 10 "hffffffff" ∷ [])
-    ≡ (6, 1) ∷ (0, 0) ∷ (1, 1) ∷ (1, 1) ∷ (1, 1) ∷ (1, 1) ∷ (6, 1) ∷ (1, 1) ∷ (1, 1) ∷ (1, 1) ∷ (1, 1) ∷ (6, 1) ∷ (6, 1) ∷ (0, 0) ∷ (0, 0) ∷ (6, 1) ∷ []
+-- a bit form is exactly `h` and eight of 0-9a-f; else `w` and a number; else 1
+weights : answers 32 (one 0 10 "w255" ∷ one 0 10 "w256" ∷ one 0 10 "w0256" ∷ one 0 10 "h7f7fffff" ∷ one 0 10 "h7f800000" ∷ one 0 10 "h80000000" ∷ one 0 10 "h7F800000" ∷ one 0 10 "h7f80000" ∷ one 0 10 "hw1" ∷ [])
+    ≡ (0, 0) ∷ (6, 1) ∷ (1, 1) ∷ (0, 0) ∷ (6, 1) ∷ (6, 1) ∷ (1, 1) ∷ (1, 1) ∷ (1, 1) ∷ []
 unfolding answer
 weights = refl
 
--- T15: spare fields must be legal
-spare : answers 32 (one 0 9 "1001" ∷ one 0 15 "w256" ∷ one 0 15 "x" ∷ one 0 6 "j" ∷ [])
-    ≡ (2, 1) ∷ (6, 1) ∷ (1, 1) ∷ (0, 0) ∷ []
-unfolding answer
-spare = refl
-
--- T16: 1 or 3, before the mode letter
-channel-count : answers 32 (two 0 5 "2" 0 6 "x" ∷ one 0 5 "0" ∷ one 0 5 "4" ∷ one 0 5 "3" ∷ [])
-    ≡ (2, 1) ∷ (2, 1) ∷ (2, 1) ∷ (1, 4) ∷ []
-unfolding answer
-channel-count = refl
-
--- T17: no byte but 10 and 9 has a meaning of its own
+-- no byte but 10 and 9 has a meaning of its own
 carriage : ℕ → ℕ
 carriage x = cond (eqb x 10) 13 x
 
@@ -215,24 +162,12 @@ bytes : answers 32 (one 0 15 "w0\t" ∷ one 0 3 "2\t" ∷ one 0 15 "w0\r" ∷ ma
 unfolding answer carriage
 bytes = refl
 
--- T18: picture sides against this sheet's W and H, at their own fields
-picture : answers 32 (two 0 2 "x" 0 3 "9" ∷ one 0 3 "9" ∷ one 0 4 "9" ∷ [])
-    ≡ (1, 1) ∷ (2, 1) ∷ (2, 1) ∷ []
-unfolding answer
-picture = refl
-
--- "Quantiser 255 read, 256 is 4"
-quantiser : answers 32 (one 1 5 "255" ∷ one 1 5 "256" ∷ one 1 68 "0" ∷ [])
-    ≡ (0, 0) ∷ (4, 2) ∷ (4, 2) ∷ []
-unfolding answer
-quantiser = refl
-
 -- a limit that could not be a side
 bad-limit : (answer 0 (text whole) ≡ (2, 0)) × (answer 12 (text whole) ≡ (2, 0)) × (answer 520 (text whole) ≡ (2, 0))
 unfolding answer
 bad-limit = (refl, refl, refl)
 
--- T20: measuring gives both lengths; reading refuses other lengths, last
+-- measuring gives both lengths; reading refuses other lengths, last
 unfoldable measured : ℕ → List ℕ → Outcome Lengths
 unfolding readText blank lineTag takenOf recordOf headerOf channelOf lineFault fieldsFault rulesOf numberAt weightAt numberOf bitForm weightOf levelOf fieldOf
 measured side t = measuring (at side) t
