@@ -82,14 +82,22 @@ static struct smoother_run run_of(const uint32_t *s)
     return run;
 }
 
-/* Ends the program at a refusal. True where the channel is now blown. */
-static bool blown(const char *call, uint32_t answer)
+/* Ends the program unless the call was done. */
+static void done(const char *call, uint32_t answer)
 {
-    if (answer != SMOOTHER_OK && answer != SMOOTHER_NOW_BLOWN) {
+    if (answer != SMOOTHER_OK) {
         fprintf(stderr, "%s: refused, %" PRIu32 "\n", call, answer);
         exit(1);
     }
-    return answer == SMOOTHER_NOW_BLOWN;
+}
+
+/* The same of project, the one call here that can blow its channel: true where it did. */
+static bool blown(uint32_t answer)
+{
+    if (answer == SMOOTHER_NOW_BLOWN)
+        return true;
+    done("project", answer);
+    return false;
 }
 
 int main(int argc, char **argv)
@@ -108,7 +116,7 @@ int main(int argc, char **argv)
     int16_t *levels = space(n, sizeof *levels);
     uint16_t *tables = space(m, sizeof *tables);
     uint32_t sheet[SMOOTHER_NUMBERS];
-    blown("read", smoother_read(text, text_len, SMOOTHER_LIMIT, levels, n, tables, m, sheet, SMOOTHER_NUMBERS, &line));
+    done("read", smoother_read(text, text_len, SMOOTHER_LIMIT, levels, n, tables, m, sheet, SMOOTHER_NUMBERS, &line));
 
     struct smoother_run run = run_of(sheet);
     n = 0;
@@ -118,19 +126,19 @@ int main(int argc, char **argv)
     size_t k = (size_t)run.count * run.w * run.h;
     float *plane = space(k, sizeof(float)), *prior = space(k, sizeof(float)), *gradient = space(k, sizeof(float));
     float *across = space(k, sizeof(float)), *down = space(k, sizeof(float)), *saved = space(k, sizeof(float));
-    blown("start", smoother_start(&run, levels, n, tables, m, plane, k, prior, k, gradient, k, across, k, down, k, saved, k));
+    done("start", smoother_start(&run, levels, n, tables, m, plane, k, prior, k, gradient, k, across, k, down, k, saved, k));
 
     unsigned long steps = argc > 2 ? strtoul(argv[2], NULL, 10) : run.n;
     bool ended = false;
     for (unsigned long step = 0; step < steps && step < run.n && !ended; step++) {
         for (uint32_t c = 0; c < run.count; c++) {
-            blown("push", smoother_push(&run, c, plane, k, prior, k));
-            blown("data", smoother_data(&run, c, levels, n, tables, m, gradient, k, saved, k));
+            done("push", smoother_push(&run, c, plane, k, prior, k));
+            done("data", smoother_data(&run, c, levels, n, tables, m, gradient, k, saved, k));
         }
-        blown("blend", smoother_blend(&run, plane, k, gradient, k, across, k, down, k));
+        done("blend", smoother_blend(&run, plane, k, gradient, k, across, k, down, k));
         for (uint32_t c = 0; c < run.count; c++) {
-            blown("move", smoother_move(&run, c, plane, k, gradient, k));
-            if (blown("project", smoother_project(&run, c, levels, n, tables, m, plane, k, across, k, down, k, saved, k))) {
+            done("move", smoother_move(&run, c, plane, k, gradient, k));
+            if (blown(smoother_project(&run, c, levels, n, tables, m, plane, k, across, k, down, k, saved, k))) {
                 fprintf(stderr, "channel %" PRIu32 " is blown in step %lu\n", c, step + 1);
                 ended = true;
             }

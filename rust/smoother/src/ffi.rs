@@ -1,7 +1,8 @@
-//! The library's C functions, as include/smoother.h has them. A slice is a pointer and a length.
-use crate::Run;
+//! The library's C functions, as include/smoother.h has them: a slice is a pointer and a length. This file is also the oracle's, which has a macro
+//! `exports!` and a type `Run` of its own.
+use super::Run;
 
-unsafe extern "C" {
+exports! {
     pub fn smoother_measure(
         text: *const u8,
         text_len: usize,
@@ -153,3 +154,22 @@ unsafe extern "C" {
         rgb_len: usize,
     ) -> u32;
 }
+
+/// A call of one of them: `read x` and `write x` lend a slice, as its pointer and its length; `six b` lends the fields of `b` to be written; anything
+/// else is handed on.
+macro_rules! lend {
+    ($f:ident($($args:tt)*)) => { lend!(@ $f [] $($args)*) };
+    (@ $f:ident [$($done:tt)*]) => { $f($($done)*) };
+    (@ $f:ident [$($done:tt)*] read $x:expr $(, $($rest:tt)*)?) => {
+        lend!(@ $f [$($done)* $x.as_ptr(), $x.len(),] $($($rest)*)?)
+    };
+    (@ $f:ident [$($done:tt)*] write $x:expr $(, $($rest:tt)*)?) => {
+        lend!(@ $f [$($done)* $x.as_mut_ptr(), $x.len(),] $($($rest)*)?)
+    };
+    (@ $f:ident [$($done:tt)*] six $b:ident $(, $($rest:tt)*)?) => {
+        lend!(@ $f [$($done)*] write $b.plane, write $b.prior, write $b.gradient, write $b.across, write $b.down, write $b.saved
+            $(, $($rest)*)?)
+    };
+    (@ $f:ident [$($done:tt)*] $x:expr $(, $($rest:tt)*)?) => { lend!(@ $f [$($done)* $x,] $($($rest)*)?) };
+}
+pub(crate) use lend;

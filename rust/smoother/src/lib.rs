@@ -10,12 +10,17 @@
 //! assert!(buffers.plane.iter().all(|x| *x == 1.0 - 2.0_f32.powi(-24)));
 //! # Ok::<(), Box<dyn std::error::Error>>(())
 //! ```
+/// Declares C functions.
+macro_rules! exports {
+    ($($functions:tt)*) => { unsafe extern "C" { $($functions)* } };
+}
+
 mod ffi;
 mod refusal;
 mod run;
 mod sheet;
 
-pub use refusal::{Fault, Refusal};
+pub use refusal::{Error, Fault, Refusal};
 pub use run::{
     Answers, Buffers, Channel, Job, Outcome, Run, blend, call, data, move_plane, project, push, serve, serve_numbers,
     start,

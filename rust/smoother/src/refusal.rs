@@ -1,5 +1,5 @@
-//! Document 01's table of refusals.
-use std::{error::Error, fmt};
+//! Document 01's table of refusals, and what else a call may answer.
+use std::fmt;
 
 /// Why a call was refused. A refused call leaves the record and every buffer as they were.
 #[derive(Clone, Copy, Debug, PartialEq, Eq, Hash)]
@@ -79,12 +79,45 @@ impl fmt::Display for Refusal {
     }
 }
 
-impl Error for Refusal {}
+impl std::error::Error for Refusal {}
 
-/// A refused text: why, and the line, counted from 1; 0 for a fault that no line has.
+/// Why a call gave nothing.
+#[derive(Clone, Copy, Debug, PartialEq, Eq, Hash)]
+pub enum Error {
+    Refused(Refusal),
+    /// A number that the call has no meaning for: the library is another than the one that this crate was written for. Nothing is known of what was lent.
+    Unknown(u32),
+}
+
+impl From<Refusal> for Error {
+    fn from(refusal: Refusal) -> Self {
+        Self::Refused(refusal)
+    }
+}
+
+impl fmt::Display for Error {
+    fn fmt(&self, f: &mut fmt::Formatter) -> fmt::Result {
+        match self {
+            Self::Refused(refusal) => refusal.fmt(f),
+            Self::Unknown(number) => write!(f, "{number}: no answer of this call"),
+        }
+    }
+}
+
+impl std::error::Error for Error {}
+
+/// What the answer of a call says that can't blow a channel: 0 is the only success.
+pub(crate) fn done(number: u32) -> Result<(), Error> {
+    match number {
+        0 => Ok(()),
+        _ => Err(Refusal::of_number(number).map_or(Error::Unknown(number), Error::Refused)),
+    }
+}
+
+/// A text that wasn't read: why, and the line, counted from 1; 0 for a fault that no line has.
 #[derive(Clone, Copy, Debug, PartialEq, Eq, Hash)]
 pub struct Fault {
-    pub refusal: Refusal,
+    pub error: Error,
     pub line: usize,
 }
 
@@ -93,8 +126,8 @@ impl fmt::Display for Fault {
         if self.line > 0 {
             write!(f, "line {}: ", self.line)?;
         }
-        self.refusal.fmt(f)
+        self.error.fmt(f)
     }
 }
 
-impl Error for Fault {}
+impl std::error::Error for Fault {}

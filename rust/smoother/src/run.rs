@@ -1,5 +1,9 @@
 //! A run: its record, its buffers, and the calls.
-use crate::{Refusal, ffi};
+use crate::{
+    Error,
+    ffi::{lend, *},
+    refusal::done,
+};
 
 /// A channel of the run's record; the layout is the library's.
 #[repr(C)]
@@ -64,7 +68,7 @@ impl Run {
 #[derive(Clone, Copy, Debug, PartialEq, Eq, Hash)]
 pub enum Outcome {
     Done,
-    /// Done, and the channel is now marked blown. Project alone says so.
+    /// Done, and the channel is now marked blown (`project`), or a channel blew in the run (`solve_into`). No other call says so.
     Blown,
 }
 
@@ -79,110 +83,50 @@ pub enum Job {
     Project,
 }
 
-fn told(number: u32) -> Result<Outcome, Refusal> {
-    match Refusal::of_number(number) {
-        Some(refusal) => Err(refusal),
-        None if number == 255 => Ok(Outcome::Blown),
-        None => Ok(Outcome::Done),
-    }
+/// What the answer of `project` and of `solve_into` says.
+pub(crate) fn told(number: u32) -> Result<Outcome, Error> {
+    if number == 255 { Ok(Outcome::Blown) } else { plain(number) }
+}
+
+/// What the answer of any other call says.
+fn plain(number: u32) -> Result<Outcome, Error> {
+    done(number).map(|()| Outcome::Done)
 }
 
 // SAFETY, of every call below: each pointer and length are of one slice or vector, `&mut` keeps them apart, and the library writes only within the
 // lengths and only legal records.
 
 /// A fresh run: plane and prior are the start, saved is level × quantiser, other values 0; positions 0, no marks. Takes any legal record.
-pub fn start(run: &mut Run, levels: &[i16], tables: &[u16], b: &mut Buffers) -> Result<Outcome, Refusal> {
-    told(unsafe {
-        ffi::smoother_start(
-            run,
-            levels.as_ptr(),
-            levels.len(),
-            tables.as_ptr(),
-            tables.len(),
-            b.plane.as_mut_ptr(),
-            b.plane.len(),
-            b.prior.as_mut_ptr(),
-            b.prior.len(),
-            b.gradient.as_mut_ptr(),
-            b.gradient.len(),
-            b.across.as_mut_ptr(),
-            b.across.len(),
-            b.down.as_mut_ptr(),
-            b.down.len(),
-            b.saved.as_mut_ptr(),
-            b.saved.len(),
-        )
-    })
+pub fn start(run: &mut Run, levels: &[i16], tables: &[u16], b: &mut Buffers) -> Result<Outcome, Error> {
+    plain(unsafe { lend!(smoother_start(run, read levels, read tables, six b)) })
 }
 
 /// Push of channel `c`: writes its part of plane and prior.
-pub fn push(run: &mut Run, c: u32, b: &mut Buffers) -> Result<Outcome, Refusal> {
-    told(unsafe {
-        ffi::smoother_push(run, c, b.plane.as_mut_ptr(), b.plane.len(), b.prior.as_mut_ptr(), b.prior.len())
-    })
+pub fn push(run: &mut Run, c: u32, b: &mut Buffers) -> Result<Outcome, Error> {
+    plain(unsafe { lend!(smoother_push(run, c, write b.plane, write b.prior)) })
 }
 
 /// Data of channel `c`: writes its part of the gradient, reads saved.
-pub fn data(run: &mut Run, c: u32, levels: &[i16], tables: &[u16], b: &mut Buffers) -> Result<Outcome, Refusal> {
-    told(unsafe {
-        ffi::smoother_data(
-            run,
-            c,
-            levels.as_ptr(),
-            levels.len(),
-            tables.as_ptr(),
-            tables.len(),
-            b.gradient.as_mut_ptr(),
-            b.gradient.len(),
-            b.saved.as_ptr(),
-            b.saved.len(),
-        )
-    })
+pub fn data(run: &mut Run, c: u32, levels: &[i16], tables: &[u16], b: &mut Buffers) -> Result<Outcome, Error> {
+    plain(unsafe { lend!(smoother_data(run, c, read levels, read tables, write b.gradient, read b.saved)) })
 }
 
 /// Blend of all channels: writes gradient, across and down, reads the plane.
-pub fn blend(run: &mut Run, b: &mut Buffers) -> Result<Outcome, Refusal> {
-    told(unsafe {
-        ffi::smoother_blend(
-            run,
-            b.plane.as_ptr(),
-            b.plane.len(),
-            b.gradient.as_mut_ptr(),
-            b.gradient.len(),
-            b.across.as_mut_ptr(),
-            b.across.len(),
-            b.down.as_mut_ptr(),
-            b.down.len(),
-        )
-    })
+pub fn blend(run: &mut Run, b: &mut Buffers) -> Result<Outcome, Error> {
+    plain(unsafe { lend!(smoother_blend(run, read b.plane, write b.gradient, write b.across, write b.down)) })
 }
 
 /// Move of channel `c`: writes its part of the plane, reads the gradient.
-pub fn move_plane(run: &mut Run, c: u32, b: &mut Buffers) -> Result<Outcome, Refusal> {
-    told(unsafe {
-        ffi::smoother_move(run, c, b.plane.as_mut_ptr(), b.plane.len(), b.gradient.as_ptr(), b.gradient.len())
-    })
+pub fn move_plane(run: &mut Run, c: u32, b: &mut Buffers) -> Result<Outcome, Error> {
+    plain(unsafe { lend!(smoother_move(run, c, write b.plane, read b.gradient)) })
 }
 
 /// Project of channel `c`: writes its part of plane, across, down and saved.
-pub fn project(run: &mut Run, c: u32, levels: &[i16], tables: &[u16], b: &mut Buffers) -> Result<Outcome, Refusal> {
+pub fn project(run: &mut Run, c: u32, levels: &[i16], tables: &[u16], b: &mut Buffers) -> Result<Outcome, Error> {
     told(unsafe {
-        ffi::smoother_project(
-            run,
-            c,
-            levels.as_ptr(),
-            levels.len(),
-            tables.as_ptr(),
-            tables.len(),
-            b.plane.as_mut_ptr(),
-            b.plane.len(),
-            b.across.as_mut_ptr(),
-            b.across.len(),
-            b.down.as_mut_ptr(),
-            b.down.len(),
-            b.saved.as_mut_ptr(),
-            b.saved.len(),
-        )
+        lend!(smoother_project(
+            run, c, read levels, read tables, write b.plane, write b.across, write b.down, write b.saved
+        ))
     })
 }
 
@@ -194,7 +138,7 @@ pub fn call(
     levels: &[i16],
     tables: &[u16],
     b: &mut Buffers,
-) -> Result<Outcome, Refusal> {
+) -> Result<Outcome, Error> {
     match job {
         Job::Push => push(run, c, b),
         Job::Data => data(run, c, levels, tables, b),
@@ -205,7 +149,7 @@ pub fn call(
 }
 
 /// What each call of a list answers.
-pub type Answers = Vec<Result<Outcome, Refusal>>;
+pub type Answers = Vec<Result<Outcome, Error>>;
 
 /// A fresh run and a list of calls, each a job and a channel. The inner answers are the calls', the outer one is refused where nothing was done.
 pub fn serve(
@@ -214,12 +158,13 @@ pub fn serve(
     levels: &[i16],
     tables: &[u16],
     b: &mut Buffers,
-) -> Result<Answers, Refusal> {
+) -> Result<Answers, Error> {
     let jobs: Vec<u8> = calls.iter().map(|(job, _)| *job as u8).collect();
     let channels: Vec<u32> = calls.iter().map(|(_, c)| *c).collect();
     let mut answers = vec![0; calls.len()];
     serve_numbers(run, &jobs, &channels, &mut answers, levels, tables, b)?;
-    Ok(answers.into_iter().map(|number| told(number.into())).collect())
+    let of_job = |job: Job| if job == Job::Project { told } else { plain };
+    Ok(calls.iter().zip(answers).map(|((job, _), number)| of_job(*job)(number.into())).collect())
 }
 
 /// The same with the library's numbers: jobs 0 to 4, and an answer 0 for done, 255 for done and blown, else the refusal's number.
@@ -231,33 +176,26 @@ pub fn serve_numbers(
     levels: &[i16],
     tables: &[u16],
     b: &mut Buffers,
-) -> Result<(), Refusal> {
-    let number = unsafe {
-        ffi::smoother_serve(
-            run,
-            jobs.as_ptr(),
-            jobs.len(),
-            channels.as_ptr(),
-            channels.len(),
-            answers.as_mut_ptr(),
-            answers.len(),
-            levels.as_ptr(),
-            levels.len(),
-            tables.as_ptr(),
-            tables.len(),
-            b.plane.as_mut_ptr(),
-            b.plane.len(),
-            b.prior.as_mut_ptr(),
-            b.prior.len(),
-            b.gradient.as_mut_ptr(),
-            b.gradient.len(),
-            b.across.as_mut_ptr(),
-            b.across.len(),
-            b.down.as_mut_ptr(),
-            b.down.len(),
-            b.saved.as_mut_ptr(),
-            b.saved.len(),
-        )
-    };
-    told(number).map(|_| ())
+) -> Result<(), Error> {
+    done(unsafe {
+        lend!(smoother_serve(run, read jobs, read channels, write answers, read levels, read tables, six b))
+    })
+}
+
+#[cfg(test)]
+mod tests {
+    use super::*;
+    use crate::Refusal;
+
+    #[test]
+    fn only_0_is_done() {
+        assert_eq!([plain(0), told(0), told(255)], [Ok(Outcome::Done), Ok(Outcome::Done), Ok(Outcome::Blown)]);
+        for refusal in Refusal::ALL {
+            assert_eq!([plain, told].map(|say| say(refusal.number())), [Err(refusal.into()); 2]);
+        }
+        for number in [14, 254, 256, u32::MAX] {
+            assert_eq!([plain, told].map(|say| say(number)), [Err(Error::Unknown(number)); 2]);
+        }
+        assert_eq!(plain(255), Err(Error::Unknown(255)));
+    }
 }

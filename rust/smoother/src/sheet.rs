@@ -1,5 +1,10 @@
 //! Sheet texts: measured, and read into a sheet.
-use crate::{Buffers, Channel, Fault, Refusal, Run, ffi};
+use crate::{
+    Buffers, Channel, Error, Fault, Outcome, Run,
+    ffi::{lend, *},
+    refusal::done,
+    run::told,
+};
 
 /// Lengths of the levels and tables of a text.
 #[derive(Clone, Copy, Debug, PartialEq, Eq)]
@@ -39,20 +44,16 @@ pub struct Sheet {
 /// Numbers of a sheet's record.
 pub const NUMBERS: usize = 27;
 
-fn told(number: u32, line: usize) -> Result<(), Fault> {
-    match Refusal::of_number(number) {
-        None => Ok(()),
-        Some(refusal) => Err(Fault { refusal, line }),
-    }
+fn at(line: usize) -> impl FnOnce(Error) -> Fault {
+    move |error| Fault { error, line }
 }
 
 /// The lengths that a legal text needs; for any other, what `read` refuses it for. `limit` is the largest full side: a multiple of 8, 8 to 512.
 pub fn measure(text: &[u8], limit: u32) -> Result<Lengths, Fault> {
     let (mut levels, mut tables, mut line) = (0, 0, 0);
     // SAFETY: pointer and length are of one slice, the other three are references to locals.
-    let number =
-        unsafe { ffi::smoother_measure(text.as_ptr(), text.len(), limit, &mut levels, &mut tables, &mut line) };
-    told(number, line).map(|()| Lengths { levels, tables })
+    let number = unsafe { lend!(smoother_measure(read text, limit, &mut levels, &mut tables, &mut line)) };
+    done(number).map(|()| Lengths { levels, tables }).map_err(at(line))
 }
 
 /// Reads a text into lent buffers: `levels` and `tables` of the measured lengths, and `header` of 27 places, for the fields of line `S` (mode 1
@@ -66,21 +67,8 @@ pub fn read_into(
 ) -> Result<(), Fault> {
     let mut line = 0;
     // SAFETY: each pointer and length are of one slice, and the slices do not overlap.
-    let number = unsafe {
-        ffi::smoother_read(
-            text.as_ptr(),
-            text.len(),
-            limit,
-            levels.as_mut_ptr(),
-            levels.len(),
-            tables.as_mut_ptr(),
-            tables.len(),
-            header.as_mut_ptr(),
-            header.len(),
-            &mut line,
-        )
-    };
-    told(number, line)
+    let number = unsafe { lend!(smoother_read(read text, limit, write levels, write tables, write header, &mut line)) };
+    done(number).map_err(at(line))
 }
 
 /// Reads a text.
@@ -174,15 +162,15 @@ impl Sheet {
         n
     }
 
-    /// The planes after the sheet's last job, in its mode. `Refusal::Blown` where a channel is blown.
-    pub fn solve(&self) -> Result<Vec<f32>, Refusal> {
+    /// The planes after the sheet's last job, in its mode; none where a channel blew in the run.
+    pub fn solve(&self) -> Result<Option<Vec<f32>>, Error> {
         let mut b = self.joint_run().buffers();
-        solve_into(&self.numbers(), &self.levels, &self.tables, &mut b)?;
-        Ok(b.plane)
+        let outcome = solve_into(&self.numbers(), &self.levels, &self.tables, &mut b)?;
+        Ok((outcome == Outcome::Done).then_some(b.plane))
     }
 
     /// The picture of solved planes: red, green and blue of each pixel, row by row.
-    pub fn finish(&self, planes: &[f32]) -> Result<Vec<u8>, Refusal> {
+    pub fn finish(&self, planes: &[f32]) -> Result<Vec<u8>, Error> {
         let within = |n: u32, most: u32| n.min(most).min(512) as usize;
         let bytes = 3 * within(self.picture_width, self.width) * within(self.picture_height, self.height);
         let mut rgb = vec![0; bytes];
@@ -191,45 +179,16 @@ impl Sheet {
     }
 }
 
-fn done(number: u32) -> Result<(), Refusal> {
-    Refusal::of_number(number).map_or(Ok(()), Err)
-}
-
 /// The whole run of a sheet by its record's numbers, in lent buffers of channels × W × H values each, which become each channel's after its last
-/// job. Where it is refused, but for `Refusal::Blown`, the buffers are unchanged.
-pub fn solve_into(header: &[u32], levels: &[i16], tables: &[u16], b: &mut Buffers) -> Result<(), Refusal> {
+/// job. `Outcome::Blown`: a channel blew in the run, and nothing is promised of the buffers.
+pub fn solve_into(header: &[u32], levels: &[i16], tables: &[u16], b: &mut Buffers) -> Result<Outcome, Error> {
     // SAFETY: each pointer and length are of one slice, and the slices do not overlap.
-    let number = unsafe {
-        ffi::smoother_solve(
-            header.as_ptr(),
-            header.len(),
-            levels.as_ptr(),
-            levels.len(),
-            tables.as_ptr(),
-            tables.len(),
-            b.plane.as_mut_ptr(),
-            b.plane.len(),
-            b.prior.as_mut_ptr(),
-            b.prior.len(),
-            b.gradient.as_mut_ptr(),
-            b.gradient.len(),
-            b.across.as_mut_ptr(),
-            b.across.len(),
-            b.down.as_mut_ptr(),
-            b.down.len(),
-            b.saved.as_mut_ptr(),
-            b.saved.len(),
-        )
-    };
-    // 255: a channel blew in the run
-    if number == 255 { Err(Refusal::Blown) } else { done(number) }
+    told(unsafe { lend!(smoother_solve(read header, read levels, read tables, six b)) })
 }
 
 /// The picture of planes, in lent bytes; `sides` are W, H and the picture's.
-pub fn finish_into(sides: [u32; 4], channels: u32, planes: &[f32], rgb: &mut [u8]) -> Result<(), Refusal> {
+pub fn finish_into(sides: [u32; 4], channels: u32, planes: &[f32], rgb: &mut [u8]) -> Result<(), Error> {
     let [w, h, width, height] = sides;
     // SAFETY: each pointer and length are of one slice, and the slices do not overlap.
-    done(unsafe {
-        ffi::smoother_finish(w, h, width, height, channels, planes.as_ptr(), planes.len(), rgb.as_mut_ptr(), rgb.len())
-    })
+    done(unsafe { lend!(smoother_finish(w, h, width, height, channels, read planes, write rgb)) })
 }

@@ -65,10 +65,10 @@ fn refused(
     why: Refusal,
     run: &mut Run,
     b: &mut Buffers,
-    f: impl FnOnce(&mut Run, &mut Buffers) -> Result<Outcome, Refusal>,
+    f: impl FnOnce(&mut Run, &mut Buffers) -> Result<Outcome, Error>,
 ) {
     let (run_before, before) = (*run, bits(b));
-    assert_eq!(f(run, b), Err(why));
+    assert_eq!(f(run, b), Err(why.into()));
     assert_eq!((*run, bits(b)), (run_before, before));
 }
 
@@ -126,7 +126,7 @@ fn start_is_reordered_repeatedly() {
 #[test]
 fn texts_refused() {
     let edit = |old: &str, new: &str| whole().replacen(&tabs(old).replace('\n', ""), &tabs(new).replace('\n', ""), 1);
-    let fault = |refusal, line| Some(Fault { refusal, line });
+    let fault = |refusal, line| Some(Fault { error: Error::Refused(refusal), line });
     let cases = [
         (edit("S 8 8", "S 8 x"), 512, fault(Refusal::Form, 1)),
         (edit("S 8 8", "S 512 8"), 512, None),
@@ -152,7 +152,7 @@ fn texts_refused() {
 fn reading_into_wrong_lengths() {
     for (n, m, k) in [(63, 64, 27), (64, 65, 27), (64, 64, 26), (0, 0, 0)] {
         let (mut levels, mut tables, mut header) = (vec![7; n], vec![7; m], vec![7; k]);
-        let due = Err(Fault { refusal: Refusal::Length, line: 0 });
+        let due = Err(Fault { error: Refusal::Length.into(), line: 0 });
         assert_eq!(read_into(whole().as_bytes(), 512, &mut levels, &mut tables, &mut header), due);
         assert!(levels.iter().all(|x| *x == 7) && tables.iter().all(|x| *x == 7) && header.iter().all(|x| *x == 7));
     }
@@ -273,7 +273,7 @@ fn calls_and_a_served_list_agree() {
     assert_eq!((served, bits(&buffers)), (run, bits(&b)));
     assert_eq!(run.channels.map(|c| c.position), [35; 3]);
     assert_eq!(one_by_one.iter().filter(|answer| answer.is_ok()).count(), 7 * 13);
-    let seen = |why| one_by_one.contains(&Err(why));
+    let seen = |why: Refusal| one_by_one.contains(&Err(why.into()));
     assert!(seen(Refusal::Turn) && seen(Refusal::Channel) && seen(Refusal::Done));
     let (_, fresh) = started(&sheet);
     assert_ne!(bits(&b), bits(&fresh));
@@ -315,7 +315,7 @@ fn separate_runs_of_a_sheet() {
 #[test]
 fn whole_example() {
     let sheet = sheet_of(&whole());
-    let planes = sheet.solve().expect("planes");
+    let planes = sheet.solve().expect("legal").expect("planes");
     assert_eq!(sheet.finish(&planes), Ok(vec![0x81; 6]));
 }
 
@@ -329,22 +329,33 @@ fn solve_is_the_calls() {
         }
     }
     let bits = |values: &[f32]| values.iter().map(|x| x.to_bits()).collect::<Vec<_>>();
-    assert_eq!(bits(&sheet.solve().expect("planes")), bits(&b.plane));
+    assert_eq!(bits(&sheet.solve().expect("legal").expect("planes")), bits(&b.plane));
+}
+
+#[test]
+fn solve_blows() {
+    // document 01: "First data weight h7f000000, first iteration count 1: channel 0 blows in step 1."
+    let sheet = sheet_of(&joint(1, "h7f000000 w1 w1"));
+    let mut b = sheet.joint_run().buffers();
+    assert_eq!(solve_into(&sheet.numbers(), &sheet.levels, &sheet.tables, &mut b), Ok(Outcome::Blown));
+    assert_eq!(sheet.solve(), Ok(None));
 }
 
 #[test]
 fn solve_refuses() {
-    // document 01: "First data weight h7f000000, first iteration count 1: channel 0 blows in step 1."
-    assert_eq!(sheet_of(&joint(1, "h7f000000 w1 w1")).solve(), Err(Refusal::Blown));
     let sheet = sheet_of(&joint(1, "w1 w1 w1"));
     let mut b = sheet.joint_run().buffers();
     let before = bits(&b);
-    assert_eq!(solve_into(&sheet.numbers()[1..], &sheet.levels, &sheet.tables, &mut b), Err(Refusal::Length));
-    assert_eq!(solve_into(&sheet.numbers(), &sheet.levels[1..], &sheet.tables, &mut b), Err(Refusal::Length));
     let mut numbers = sheet.numbers();
     numbers[6] = 1001;
-    assert_eq!(solve_into(&numbers, &sheet.levels, &sheet.tables, &mut b), Err(Refusal::Record));
+    for (numbers, levels, why) in [
+        (&sheet.numbers()[1..], &sheet.levels[..], Refusal::Length),
+        (&sheet.numbers(), &sheet.levels[1..], Refusal::Length),
+        (&numbers, &sheet.levels, Refusal::Record),
+    ] {
+        assert_eq!(solve_into(numbers, levels, &sheet.tables, &mut b), Err(why.into()));
+    }
     assert_eq!(bits(&b), before);
-    assert_eq!(finish_into([16, 16, 17, 9], 3, &b.plane, &mut [0; 459]), Err(Refusal::Record));
-    assert_eq!(finish_into([16, 16, 13, 9], 3, &b.plane, &mut [0; 352]), Err(Refusal::Length));
+    assert_eq!(finish_into([16, 16, 17, 9], 3, &b.plane, &mut [0; 459]), Err(Refusal::Record.into()));
+    assert_eq!(finish_into([16, 16, 13, 9], 3, &b.plane, &mut [0; 352]), Err(Refusal::Length.into()));
 }
