@@ -3,7 +3,7 @@
 use crate::{
     floats::bits,
     jobs::Buffers,
-    probe::*,
+    probe::{ffi::lend, *},
     run::{Run, coefficient},
     sheet::{self, Sheet},
 };
@@ -368,81 +368,31 @@ impl Lent {
 
 /// The proved call, by the library.
 pub fn proved(x: &mut Lent, job: Job, c: u32) -> u32 {
-    let run = &raw mut x.record;
-    let (levels, levels_len) = (x.levels.as_ptr(), x.levels.len());
-    let (tables, tables_len) = (x.tables.as_ptr(), x.tables.len());
-    let lengths: [usize; 6] = std::array::from_fn(|b| x.buffers[b].len());
-    let [plane, prior, gradient, across, down, saved] = x.buffers.each_mut().map(|b| b.as_mut_ptr());
-    let [plane_len, prior_len, gradient_len, across_len, down_len, saved_len] = lengths;
-    match job {
-        Start => unsafe {
-            smoother_start(
-                run,
-                levels,
-                levels_len,
-                tables,
-                tables_len,
-                plane,
-                plane_len,
-                prior,
-                prior_len,
-                gradient,
-                gradient_len,
-                across,
-                across_len,
-                down,
-                down_len,
-                saved,
-                saved_len,
-            )
-        },
-        Push => unsafe { smoother_push(run, c, plane, plane_len, prior, prior_len) },
-        Data => unsafe {
-            smoother_data(run, c, levels, levels_len, tables, tables_len, gradient, gradient_len, saved, saved_len)
-        },
-        Blend => unsafe {
-            smoother_blend(run, plane, plane_len, gradient, gradient_len, across, across_len, down, down_len)
-        },
-        Move => unsafe { smoother_move(run, c, plane, plane_len, gradient, gradient_len) },
-        Project => unsafe {
-            smoother_project(
-                run, c, levels, levels_len, tables, tables_len, plane, plane_len, across, across_len, down, down_len,
-                saved, saved_len,
-            )
-        },
+    let Lent { record: run, levels, tables, buffers: [plane, prior, gradient, across, down, saved] } = x;
+    unsafe {
+        match job {
+            Start => lend!(smoother_start(
+                run, read levels, read tables, write plane, write prior, write gradient, write across, write down, write saved
+            )),
+            Push => lend!(smoother_push(run, c, write plane, write prior)),
+            Data => lend!(smoother_data(run, c, read levels, read tables, write gradient, read saved)),
+            Blend => lend!(smoother_blend(run, read plane, write gradient, write across, write down)),
+            Move => lend!(smoother_move(run, c, write plane, read gradient)),
+            Project => lend!(smoother_project(
+                run, c, read levels, read tables, write plane, write across, write down, write saved
+            )),
+        }
     }
 }
 
 /// The proved list of calls, by the library.
 pub fn proved_serve(x: &mut Lent, jobs: &[u8], channels: &[u32], answers: &mut [u8]) -> u32 {
-    let lengths: [usize; 6] = std::array::from_fn(|b| x.buffers[b].len());
-    let [plane, prior, gradient, across, down, saved] = x.buffers.each_mut().map(|b| b.as_mut_ptr());
+    let Lent { record: run, levels, tables, buffers: [plane, prior, gradient, across, down, saved] } = x;
     unsafe {
-        smoother_serve(
-            &raw mut x.record,
-            jobs.as_ptr(),
-            jobs.len(),
-            channels.as_ptr(),
-            channels.len(),
-            answers.as_mut_ptr(),
-            answers.len(),
-            x.levels.as_ptr(),
-            x.levels.len(),
-            x.tables.as_ptr(),
-            x.tables.len(),
-            plane,
-            lengths[0],
-            prior,
-            lengths[1],
-            gradient,
-            lengths[2],
-            across,
-            lengths[3],
-            down,
-            lengths[4],
-            saved,
-            lengths[5],
-        )
+        lend!(smoother_serve(
+            run, read jobs, read channels, write answers, read levels, read tables, write plane, write prior,
+            write gradient, write across, write down, write saved
+        ))
     }
 }
 

@@ -437,13 +437,11 @@ fn drive(all: &mut Compare, count: u64, seed: u64) {
     for i in 0..count {
         let limit = if i % 16 == 0 { 40 } else { 24 };
         all.list(&mut r, limit);
-        if HAS_SERVE && i % 4 == 0 {
+        if i % 4 == 0 {
             all.serve(&mut r, limit);
         }
     }
 }
-
-const HAS_SERVE: bool = oracle::probe::HAS_SERVE;
 
 fn compare(count: u64, seed: u64) -> ExitCode {
     println!("seed {seed}, {count} lists");
@@ -451,9 +449,6 @@ fn compare(count: u64, seed: u64) -> ExitCode {
     drive(&mut all, count, seed);
     all.met.iter().for_each(|(what, times)| println!("{what}: {times}"));
     println!("{} calls", all.calls);
-    if !HAS_SERVE {
-        println!("the library has no smoother_serve");
-    }
     all.tally.close()
 }
 
@@ -461,9 +456,6 @@ fn compare(count: u64, seed: u64) -> ExitCode {
 fn faults() -> ExitCode {
     let mut unseen = 0;
     for fault in FAULTS {
-        if fault == Fault::ServeByte && !HAS_SERVE {
-            continue;
-        }
         let mut all = Compare::new(fault);
         drive(&mut all, 1000, 1);
         let seen = all.planted > 0 && all.tally.differ() == all.planted;

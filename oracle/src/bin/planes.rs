@@ -11,7 +11,7 @@ use oracle::{
     bench::best,
     floats::{any, same},
     picture::{drawn, planes, solved},
-    probe::{smoother_finish, smoother_measure, smoother_read, smoother_solve},
+    probe,
     random::Random,
     sheet::{Channel, Sheet, Weight},
     tally::Tally,
@@ -47,10 +47,9 @@ impl Lent {
     /// By the proved reader. The six hold values left over from something else.
     fn read(r: &mut Random, text: &[u8]) -> Self {
         let (mut n, mut m, mut line) = (0, 0, 0);
-        let measured = unsafe { smoother_measure(text.as_ptr(), text.len(), 512, &mut n, &mut m, &mut line) };
+        let measured = probe::measure(text, 512, &mut n, &mut m, &mut line);
         let (mut levels, mut tables, mut numbers) = (vec![0; n], vec![0; m], vec![0; 27]);
-        let (l, t, h) = (levels.as_mut_ptr(), tables.as_mut_ptr(), numbers.as_mut_ptr());
-        let read = unsafe { smoother_read(text.as_ptr(), text.len(), 512, l, n, t, m, h, 27, &mut line) };
+        let read = probe::read(text, 512, &mut levels, &mut tables, &mut numbers, &mut line);
         assert_eq!((measured, read), (0, 0), "a legal text");
         let all = (numbers[4] * numbers[0] * numbers[1]) as usize;
         let left = any(r);
@@ -59,12 +58,7 @@ impl Lent {
     }
 
     fn solve(&mut self) -> u32 {
-        let Self { numbers: n, levels: l, tables: t, six: [a, b, c, d, e, f] } = self;
-        let [a, b, c, d, e, f] = [a, b, c, d, e, f].map(|x| (x.as_mut_ptr(), x.len()));
-        let (n, l, t) = ((n.as_ptr(), n.len()), (l.as_ptr(), l.len()), (t.as_ptr(), t.len()));
-        unsafe {
-            smoother_solve(n.0, n.1, l.0, l.1, t.0, t.1, a.0, a.1, b.0, b.1, c.0, c.1, d.0, d.1, e.0, e.1, f.0, f.1)
-        }
+        probe::solve(&self.numbers, &self.levels, &self.tables, &mut self.six)
     }
 
     /// By document 01 and docs/DECISIONS.md, in order: no record (8), no legal record (13), lengths (8), quantisers (4), levels (5).
@@ -354,11 +348,9 @@ fn finished(tally: &mut Tally, r: &mut Random, sheet: &Sheet, plane: Option<Vec<
 }
 
 /// The proved `finish` on bytes that are 7.
-fn finish([w, h, width, height, channels]: [u32; 5], planes: &[f32], bytes: usize) -> (u32, Vec<u8>) {
+fn finish(sizes: [u32; 5], planes: &[f32], bytes: usize) -> (u32, Vec<u8>) {
     let mut rgb = vec![7; bytes];
-    let answer = unsafe {
-        smoother_finish(w, h, width, height, channels, planes.as_ptr(), planes.len(), rgb.as_mut_ptr(), rgb.len())
-    };
+    let answer = probe::finish(sizes, planes, &mut rgb);
     (answer, rgb)
 }
 

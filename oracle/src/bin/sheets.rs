@@ -7,7 +7,7 @@
 //!     sheets --bench [ROUNDS]             times both readers on a sheet of 512 by 512 with three channels
 use oracle::{
     bench::best,
-    probe::*,
+    probe,
     random::Random,
     sheet::{Channel, Refusal, Sheet, Weight, joined, read},
     tally::Tally,
@@ -60,7 +60,7 @@ fn expected(text: &[u8], limit: u32) -> Given {
 /// refusal must leave them so.
 fn proved(text: &[u8], limit: u32, spare: (usize, usize, usize)) -> Given {
     let (mut n, mut m, mut line) = (7, 7, 7);
-    let measured = unsafe { smoother_measure(text.as_ptr(), text.len(), limit, &mut n, &mut m, &mut line) };
+    let measured = probe::measure(text, limit, &mut n, &mut m, &mut line);
     let measured_line = line;
     if measured != 0 {
         assert_eq!((n, m), (7, 7), "a refusal leaves both lengths");
@@ -68,20 +68,7 @@ fn proved(text: &[u8], limit: u32, spare: (usize, usize, usize)) -> Given {
     let mut levels = vec![7i16; n + spare.0];
     let mut tables = vec![7u16; m + spare.1];
     let mut header = vec![7u32; 27 + spare.2];
-    let number = unsafe {
-        smoother_read(
-            text.as_ptr(),
-            text.len(),
-            limit,
-            levels.as_mut_ptr(),
-            levels.len(),
-            tables.as_mut_ptr(),
-            tables.len(),
-            header.as_mut_ptr(),
-            header.len(),
-            &mut line,
-        )
-    };
+    let number = probe::read(text, limit, &mut levels, &mut tables, &mut header, &mut line);
     if number == 0 {
         assert_eq!((measured, line), (0, 0), "measuring accepts what reading accepts");
         return Given::Sheet(levels, tables, header);
@@ -228,9 +215,6 @@ fn bench(rounds: usize) {
     println!("{} bytes read in {} by the oracle", text.len(), each(time));
     let (mut levels, mut tables) = (vec![0i16; 3 * 512 * 512], vec![0u16; 192]);
     let (mut header, mut line) = ([0u32; 27], 0);
-    let time = best(rounds, 1, || unsafe {
-        let (l, t, h) = (levels.as_mut_ptr(), tables.as_mut_ptr(), header.as_mut_ptr());
-        smoother_read(text.as_ptr(), text.len(), 512, l, 3 * 512 * 512, t, 192, h, 27, &mut line)
-    });
+    let time = best(rounds, 1, || probe::read(&text, 512, &mut levels, &mut tables, &mut header, &mut line));
     println!("{} by the proved reader", each(time));
 }
