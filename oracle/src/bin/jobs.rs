@@ -2,6 +2,7 @@
 //!
 //!     jobs [SEED [COUNT]]     COUNT sheets (2,400) of sides up to 64, job after job; as many with other values in the buffers before each
 //!                             job; and six of 512 by 512
+//!     jobs --faults           plants wrong values, in one buffer after another, and wrong marks, and fails unless each is reported
 //!     jobs --list N SEED      N of Rust's answers
 use oracle::{
     floats::{any, at, bits, same, special, subnormal},
@@ -19,7 +20,20 @@ fn main() -> ExitCode {
     let number = |i: usize, default: u64| args.get(i).map_or(default, |a| a.parse().expect("a whole number"));
     match args.first().map(String::as_str) {
         Some("--list") => list(number(1, 60), number(2, 1)),
-        _ => compare(number(0, 1), number(1, 2_400)),
+        Some("--faults") => faults(),
+        _ => {
+            let (seed, count) = (number(0, 1), number(1, 2_400));
+            println!("seed {seed}, {count} sheets");
+            let (mut r, mut all) = (Random::new(seed), Compare::default());
+            compare(&mut all, &mut r, count);
+            for one in LARGE {
+                let sheet = large(&mut r, one);
+                all.sheet("512 by 512", &sheet, f32::NAN);
+            }
+            all.met.iter().for_each(|(what, times)| println!("{what}: {times}"));
+            println!("{} values", all.values);
+            all.tally.close()
+        }
     }
 }
 
@@ -100,6 +114,9 @@ struct Compare {
     tally: Tally,
     values: u64,
     met: BTreeMap<&'static str, u64>,
+    /// A wrong answer of the proved side, planted to see that it is reported: which, a buffer's name or `blown`, and how often.
+    fault: &'static str,
+    planted: u64,
 }
 
 impl Compare {
@@ -112,8 +129,14 @@ impl Compare {
         let buffers = run.buffers(c);
         let row = format!("{kind}: {job}");
         for (k, (name, rust)) in buffers.iter().enumerate() {
-            let proved = lent.part(k, c);
+            let mut proved = lent.part(k, c).to_vec();
             assert_eq!(rust.len(), proved.len());
+            if *name == self.fault {
+                let last = proved.last_mut().expect("a value");
+                let other = f32::from_bits(last.to_bits() ^ 1);
+                self.planted += u64::from(!same(*last, other));
+                *last = other;
+            }
             self.values += rust.len() as u64;
             let first = (0..rust.len()).find(|i| !same(rust[*i], proved[*i]));
             self.tally.count_in(&row, first.is_none(), || {
@@ -122,7 +145,9 @@ impl Compare {
                 format!("channel {c}, {name} at {i}: Rust's {x:08x}, proved {y:08x}, position {}", run.positions[c])
             });
         }
-        let equal = is_blown(&buffers, lent.own_count(c)) == lent.is_blown(c);
+        let planted = self.fault == "blown";
+        self.planted += u64::from(planted);
+        let equal = is_blown(&buffers, lent.own_count(c)) == (lent.is_blown(c) != planted);
         self.tally.count_in(&format!("{kind}: blown"), equal, || format!("channel {c} after {job}"));
     }
 
@@ -263,26 +288,35 @@ fn large(r: &mut Random, (owns, joint, count, weight): (&[(u32, u32)], bool, u32
     }
 }
 
-fn compare(seed: u64, count: u64) -> ExitCode {
-    let (mut r, mut all) = (Random::new(seed), Compare::default());
-    println!("seed {seed}, {count} sheets");
+fn compare(all: &mut Compare, r: &mut Random, count: u64) {
     for (i, (kind, make)) in (0..count as usize).map(|i| (i, KINDS[i % KINDS.len()])) {
-        let (sheet, left_over) = (make(&mut r, i / KINDS.len()), any(&mut r));
+        let (sheet, left_over) = (make(r, i / KINDS.len()), any(r));
         all.sheet(kind, &sheet, left_over);
     }
     for i in 0..count as usize {
         let (_, make) = KINDS[i % KINDS.len()];
-        let sheet = make(&mut r, i / KINDS.len());
-        all.values(&mut r, &sheet, VALUES[i / KINDS.len() % VALUES.len()].1);
+        let sheet = make(r, i / KINDS.len());
+        all.values(r, &sheet, VALUES[i / KINDS.len() % VALUES.len()].1);
     }
-    for one in LARGE {
-        let sheet = large(&mut r, one);
-        all.sheet("512 by 512", &sheet, f32::NAN);
-    }
-    all.met.iter().for_each(|(what, times)| println!("{what}: {times}"));
-    println!("{} values", all.values);
-    all.tally.close()
 }
+
+const FAULTS: [&str; 7] = ["plane", "prior", "gradient", "across", "down", "saved", "blown"];
+
+/// Each has to be reported as often as it was planted, at least once.
+fn faults() -> ExitCode {
+    let mut missed = vec![];
+    for fault in FAULTS {
+        let mut all = Compare { fault, ..Compare::default() };
+        compare(&mut all, &mut Random::new(1), 16);
+        println!("{fault}: planted {}, reported {}", all.planted, all.tally.differ());
+        if all.planted == 0 || all.planted != all.tally.differ() {
+            missed.push(fault);
+        }
+    }
+    println!("{} kinds of fault planted, {} missed: {missed:?}", FAULTS.len(), missed.len());
+    u8::from(!missed.is_empty()).into()
+}
+
 /// `solve`, iterations, smoothing weight, data weight, a digest of all six buffers after each step, 64 levels and 64 quantisers less one, all
 /// in hexadecimal: sheets of one block. The digest is 31 times what it was plus the bits of the next value, modulo 2^32.
 fn list(count: u64, seed: u64) -> ExitCode {

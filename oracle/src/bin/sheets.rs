@@ -3,6 +3,7 @@
 //!     sheets --make N SEED DIR [LIMIT]    DIR/00001.tsv .. and DIR/answers, a line per text
 //!     sheets --pack N SEED DIR [LIMIT]    DIR/texts, each text after its length in five digits, and DIR/answers
 //!     sheets --compare [N [SEED]]         the proved reader beside the oracle's, on N texts at each of the limits 32 and 512
+//!     sheets --faults                     plants wrong answers, one kind after another, and fails unless each is reported
 //!     sheets --list N SEED                lines for replay: the fixed texts and N at random that are not long
 //!     sheets --bench [ROUNDS]             times both readers on a sheet of 512 by 512 with three channels
 use oracle::{
@@ -24,10 +25,14 @@ fn main() -> ExitCode {
             make(form == "--pack", number(1, 0), number(2, 1), Path::new(folder), number(4, 32) as u32);
         }
         Some("--list") => list(number(1, 100), number(2, 1)),
-        Some("--compare") => return compare(number(1, 100_000), number(2, 1)),
+        Some("--compare") => {
+            println!("seed {}", number(2, 1));
+            return compare(number(1, 100_000), number(2, 1), &mut Faults::default()).close();
+        }
+        Some("--faults") => return faults(),
         Some("--bench") => bench(number(1, 20) as usize),
         _ => eprintln!(
-            "sheets --make N SEED DIR [LIMIT] | --pack N SEED DIR [LIMIT] | --list N SEED | --compare [N [SEED]] | --bench [ROUNDS]"
+            "sheets --make N SEED DIR [LIMIT] | --pack N SEED DIR [LIMIT] | --list N SEED | --compare [N [SEED]] | --faults | --bench [ROUNDS]"
         ),
     }
     ExitCode::SUCCESS
@@ -105,25 +110,95 @@ fn digest(levels: &[i16], tables: &[u16], header: &[u32]) -> u64 {
     all.fold(0, |digest, number| (digest * 31 + number) % (1 << 32))
 }
 
-fn compare(count: u64, seed: u64) -> ExitCode {
+/// Wrong answers of the proved side, planted to see that they are reported: which kind, and how many.
+#[derive(Default)]
+struct Faults {
+    kind: &'static str,
+    planted: u64,
+}
+
+const FAULTS: [&str; 7] = [
+    "another refusal",
+    "another line",
+    "the last level",
+    "the last quantiser",
+    "the lowest bit of a weight",
+    "a sheet refused",
+    "another length taken",
+];
+
+impl Faults {
+    fn plant(&mut self, mut given: Given) -> Given {
+        let planted = match (&mut given, self.kind) {
+            (Given::Refused(number, _), "another refusal") => {
+                *number = *number % 7 + 1;
+                true
+            }
+            (Given::Refused(_, line), "another line") => {
+                *line += 1;
+                true
+            }
+            (Given::Sheet(levels, ..), "the last level") => levels.last_mut().is_some_and(|d| {
+                *d ^= 1;
+                true
+            }),
+            (Given::Sheet(_, tables, _), "the last quantiser") => tables.last_mut().is_some_and(|q| {
+                *q ^= 1;
+                true
+            }),
+            (Given::Sheet(_, _, header), "the lowest bit of a weight") => {
+                header[14] ^= 1;
+                true
+            }
+            (Given::Sheet(..), "a sheet refused") => {
+                given = Given::Refused(7, 1);
+                true
+            }
+            (Given::Refused(8, 0), "another length taken") => {
+                given = Given::Sheet(vec![], vec![], vec![]);
+                true
+            }
+            _ => false,
+        };
+        self.planted += u64::from(planted);
+        given
+    }
+}
+
+/// Each kind has to be reported as often as it was planted, at least once.
+fn faults() -> ExitCode {
+    let missed: Vec<_> = FAULTS
+        .into_iter()
+        .filter(|kind| {
+            let mut faults = Faults { kind, planted: 0 };
+            let reported = compare(300, 1, &mut faults).differ();
+            println!("{kind}: planted {}, reported {reported}", faults.planted);
+            faults.planted == 0 || faults.planted != reported
+        })
+        .collect();
+    println!("{} kinds of fault planted, {} missed: {missed:?}", FAULTS.len(), missed.len());
+    u8::from(!missed.is_empty()).into()
+}
+
+fn compare(count: u64, seed: u64, faults: &mut Faults) -> Tally {
     let mut tally = Tally::default();
-    println!("seed {seed}");
     for limit in [32, 512] {
         for (kind, text) in texts::all(seed, count, limit, 1000) {
             tally.start(&format!("{kind}, limit {limit}"));
             let rust = expected(&text, limit);
-            tally.count(rust == proved(&text, limit, (0, 0, 0)), || String::from_utf8_lossy(&text).into_owned());
+            let answer = faults.plant(proved(&text, limit, (0, 0, 0)));
+            tally.count(rust == answer, || String::from_utf8_lossy(&text).into_owned());
             for spare in [(1, 0, 0), (0, 1, 0), (0, 0, 1)] {
                 if let Given::Sheet(..) = rust {
-                    let eight = proved(&text, limit, spare) == Given::Refused(8, 0);
-                    tally.count(eight, || format!("a buffer too long: {spare:?}"));
+                    let answer = faults.plant(proved(&text, limit, spare));
+                    tally.count(answer == Given::Refused(8, 0), || format!("a buffer too long: {spare:?}"));
                 }
             }
         }
     }
     tally.kind("limits that are no side");
     for limit in [0, 1, 4, 7, 9, 31, 33, 513, 520, 1024, u32::MAX] {
-        let answer = proved(&texts::example(), limit, (0, 0, 0));
+        let answer = faults.plant(proved(&texts::example(), limit, (0, 0, 0)));
         tally.count(answer == Given::Refused(2, 0), || format!("{limit}: {answer:?}"));
     }
     tally.kind("fixed texts, answers as written down");
@@ -135,7 +210,7 @@ fn compare(count: u64, seed: u64) -> ExitCode {
         };
         tally.count(right, || format!("{name}: {answer:?}"));
     }
-    tally.close()
+    tally
 }
 
 /// `X number line`, or `M`, both lengths, the header's fields, four numbers of each of three channels (0 where there is none),

@@ -1,6 +1,7 @@
 //! The proved transforms and reorderings beside those of docs/src (utils/dct.rs, blocks.rs, auxiliary.rs).
 //!
 //!     utils [SEED [BLOCKS]]       compares BLOCKS blocks (100,000) and all shapes of sides up to 64
+//!     utils --faults              plants wrong results, one kind after another, and fails unless each is reported
 //!     utils --list N [SEED]       prints N of Rust's answers
 use artefact::pipeline::open::{auxiliary::upsample_pixels, blocks, dct};
 use oracle::{
@@ -70,8 +71,50 @@ fn main() -> ExitCode {
     let number = |i: usize, default: u64| args.get(i).map_or(default, |a| a.parse().expect("a whole number"));
     match args.first().map(String::as_str) {
         Some("--list") => list(number(1, 500), number(2, 1)),
-        _ => compare(number(0, 1), number(1, 100_000)),
+        Some("--faults") => faults(),
+        _ => {
+            println!("seed {}", number(0, 1));
+            compare(number(0, 1), number(1, 100_000), &mut Faults::default()).close()
+        }
     }
+}
+
+/// Wrong results of the proved side, planted to see that they are reported: which kind, and how many.
+#[derive(Default)]
+struct Faults {
+    kind: &'static str,
+    planted: u64,
+}
+
+const FAULTS: [&str; 3] = ["the lowest bit of the last value", "the sign of the first zero", "two values exchanged"];
+
+impl Faults {
+    fn plant(&mut self, results: &mut [f32]) {
+        let before = results.to_vec();
+        let last = results.len() - 1;
+        match self.kind {
+            "the lowest bit of the last value" => results[last] = f32::from_bits(results[last].to_bits() ^ 1),
+            "the sign of the first zero" => results.iter_mut().filter(|x| **x == 0.0).take(1).for_each(|x| *x = -*x),
+            "two values exchanged" => results.swap(0, last),
+            _ => (),
+        }
+        self.planted += u64::from(!equal(&before, results));
+    }
+}
+
+/// Each kind has to be reported as often as it was planted, at least once.
+fn faults() -> ExitCode {
+    let missed: Vec<_> = FAULTS
+        .into_iter()
+        .filter(|kind| {
+            let mut faults = Faults { kind, planted: 0 };
+            let reported = compare(1, 800, &mut faults).differ();
+            println!("{kind}: planted {}, reported {reported}", faults.planted);
+            faults.planted == 0 || faults.planted != reported
+        })
+        .collect();
+    println!("{} kinds of fault planted, {} missed: {missed:?}", FAULTS.len(), missed.len());
+    u8::from(!missed.is_empty()).into()
 }
 
 fn equal(xs: &[f32], ys: &[f32]) -> bool {
@@ -93,9 +136,8 @@ const CONSTANTS: [(&str, f32); 8] = [
 /// The definitions of the transforms, whose constants are written as bits.
 const DEFINITIONS: &str = include_str!("../../../crates/utils/specs/Dct.antt");
 
-fn compare(seed: u64, count: u64) -> ExitCode {
+fn compare(seed: u64, count: u64, faults: &mut Faults) -> Tally {
     let (mut r, mut tally) = (Random::new(seed), Tally::default());
-    println!("seed {seed}");
     tally.kind("constants of the definitions");
     for (name, value) in CONSTANTS {
         let line = format!("\n{name} = ofBits binary32 0x{:08x}\n", value.to_bits());
@@ -109,6 +151,7 @@ fn compare(seed: u64, count: u64) -> ExitCode {
                 let (mut x, mut y) = (input, input);
                 rust(&mut x);
                 unsafe { proved(y.as_mut_ptr(), 64) };
+                faults.plant(&mut y);
                 tally.count(equal(&x, &y), || words(&input));
             }
         }
@@ -122,6 +165,7 @@ fn compare(seed: u64, count: u64) -> ExitCode {
                 let x = rearranged(rust, &input, &before, (w, h));
                 let mut y = before;
                 unsafe { proved(input.as_ptr(), input.len(), y.as_mut_ptr(), y.len(), w, h) };
+                faults.plant(&mut y);
                 tally.count(equal(&x, &y), || format!("{w} by {h}"));
             }
         }
@@ -135,9 +179,10 @@ fn compare(seed: u64, count: u64) -> ExitCode {
         let ((w, across, full_w), (h, down, full_h)) = (x, y);
         let p = out.as_mut_ptr();
         unsafe { probe_upsample_pixels(image.as_ptr(), image.len(), w, h, across, down, full_w, full_h, p, out.len()) };
+        faults.plant(&mut out);
         tally.count(equal(&rust, &out), || format!("own, factor, full: {x:?} across, {y:?} down"));
     }
-    tally.close()
+    tally
 }
 
 fn words(xs: &[f32]) -> String {
