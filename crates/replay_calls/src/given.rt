@@ -11,19 +11,20 @@ ghost use mathlib.Core.Path.{_≡_};
 ghost use Prim.Native.Nat.{_≤_};
 ghost use lib.ListN.{length};
 
+// -1 - n.
 fn below_zero(n: u32) -> i16
     requires { ⌜ n ≤ 32767 ⌝ }
 {
-    -(n as i16)
+    -1 - (n as i16)
 }
 
-// A number modulo 2^16 as a level; the least, which no list has, is read as 0.
+// A number modulo 2^16 as a level.
 fn level(n: u32) -> i16 {
     let low = n % 65536;
-    if low <= 32768 {
-        return (low % 32768) as i16;
+    if low < 32768 {
+        return low as i16;
     }
-    below_zero(65536 - low)
+    below_zero(65535 - low)
 }
 
 fn quantiser(n: u32) -> u16 {
