@@ -102,6 +102,11 @@ struct smoother_run {
     struct smoother_channel channels[3];
 };
 
+/* Bytes of the struct smoother_run that the library was built with, and the count of a sheet's numbers: where they differ from
+ * sizeof(struct smoother_run) and SMOOTHER_NUMBERS, this header is not the library's. */
+uint32_t smoother_run_bytes(void);
+uint32_t smoother_sheet_numbers(void);
+
 /* The buffers. plane, prior, gradient, across, down and saved have count x W x H values each, channel after channel, row by row; levels
  * and tables are those of the run's channels, in their order: w x h levels and 64 quantisers a channel. A call is lent those buffers
  * that it reads or writes, whole. All calls look for 13 first, then 8, then (where levels and tables are lent) 4 and 5 in all

@@ -106,6 +106,10 @@ int main(int argc, char **argv)
         fputs("usage: start FILE [STEPS]\n", stderr);
         return 2;
     }
+    if (smoother_run_bytes() != sizeof(struct smoother_run) || smoother_sheet_numbers() != SMOOTHER_NUMBERS) {
+        fputs("the library is another than the header's\n", stderr);
+        return 2;
+    }
     size_t text_len, n, m, line;
     uint8_t *text = contents(argv[1], &text_len);
     uint32_t refused = smoother_measure(text, text_len, SMOOTHER_LIMIT, &n, &m, &line);

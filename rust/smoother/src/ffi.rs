@@ -153,6 +153,8 @@ exports! {
         rgb: *mut u8,
         rgb_len: usize,
     ) -> u32;
+    pub fn smoother_run_bytes() -> u32;
+    pub fn smoother_sheet_numbers() -> u32;
 }
 
 /// A call of one of them: `read x` and `write x` lend a slice, as its pointer and its length; `six b` lends the fields of `b` to be written; anything

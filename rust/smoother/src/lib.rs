@@ -15,6 +15,7 @@ macro_rules! exports {
     ($($functions:tt)*) => { unsafe extern "C" { $($functions)* } };
 }
 
+#[allow(dead_code)] // smoother_sheet_numbers, which only a test calls
 mod ffi;
 mod refusal;
 mod run;

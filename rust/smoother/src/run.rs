@@ -93,39 +93,50 @@ fn plain(number: u32) -> Result<Outcome, Error> {
     done(number).map(|()| Outcome::Done)
 }
 
+/// The record, for the library to write.
+///
+/// # Panics
+/// Where the library's record has another size: the library is another than the one that this crate was written for.
+fn lent(run: &mut Run) -> &mut Run {
+    // SAFETY: it takes nothing and answers a number.
+    let bytes = unsafe { smoother_run_bytes() } as usize;
+    assert_eq!(bytes, size_of::<Run>(), "bytes of the record in libsmoother.a and in the crate `smoother`");
+    run
+}
+
 // SAFETY, of every call below: each pointer and length are of one slice or vector, `&mut` keeps them apart, and the library writes only within the
 // lengths and only legal records.
 
 /// A fresh run: plane and prior are the start, saved is level × quantiser, other values 0; positions 0, no marks. Takes any legal record.
 pub fn start(run: &mut Run, levels: &[i16], tables: &[u16], b: &mut Buffers) -> Result<Outcome, Error> {
-    plain(unsafe { lend!(smoother_start(run, read levels, read tables, six b)) })
+    plain(unsafe { lend!(smoother_start(lent(run), read levels, read tables, six b)) })
 }
 
 /// Push of channel `c`: writes its part of plane and prior.
 pub fn push(run: &mut Run, c: u32, b: &mut Buffers) -> Result<Outcome, Error> {
-    plain(unsafe { lend!(smoother_push(run, c, write b.plane, write b.prior)) })
+    plain(unsafe { lend!(smoother_push(lent(run), c, write b.plane, write b.prior)) })
 }
 
 /// Data of channel `c`: writes its part of the gradient, reads saved.
 pub fn data(run: &mut Run, c: u32, levels: &[i16], tables: &[u16], b: &mut Buffers) -> Result<Outcome, Error> {
-    plain(unsafe { lend!(smoother_data(run, c, read levels, read tables, write b.gradient, read b.saved)) })
+    plain(unsafe { lend!(smoother_data(lent(run), c, read levels, read tables, write b.gradient, read b.saved)) })
 }
 
 /// Blend of all channels: writes gradient, across and down, reads the plane.
 pub fn blend(run: &mut Run, b: &mut Buffers) -> Result<Outcome, Error> {
-    plain(unsafe { lend!(smoother_blend(run, read b.plane, write b.gradient, write b.across, write b.down)) })
+    plain(unsafe { lend!(smoother_blend(lent(run), read b.plane, write b.gradient, write b.across, write b.down)) })
 }
 
 /// Move of channel `c`: writes its part of the plane, reads the gradient.
 pub fn move_plane(run: &mut Run, c: u32, b: &mut Buffers) -> Result<Outcome, Error> {
-    plain(unsafe { lend!(smoother_move(run, c, write b.plane, read b.gradient)) })
+    plain(unsafe { lend!(smoother_move(lent(run), c, write b.plane, read b.gradient)) })
 }
 
 /// Project of channel `c`: writes its part of plane, across, down and saved.
 pub fn project(run: &mut Run, c: u32, levels: &[i16], tables: &[u16], b: &mut Buffers) -> Result<Outcome, Error> {
     told(unsafe {
         lend!(smoother_project(
-            run, c, read levels, read tables, write b.plane, write b.across, write b.down, write b.saved
+            lent(run), c, read levels, read tables, write b.plane, write b.across, write b.down, write b.saved
         ))
     })
 }
@@ -178,7 +189,7 @@ pub fn serve_numbers(
     b: &mut Buffers,
 ) -> Result<(), Error> {
     done(unsafe {
-        lend!(smoother_serve(run, read jobs, read channels, write answers, read levels, read tables, six b))
+        lend!(smoother_serve(lent(run), read jobs, read channels, write answers, read levels, read tables, six b))
     })
 }
 
@@ -186,6 +197,12 @@ pub fn serve_numbers(
 mod tests {
     use super::*;
     use crate::Refusal;
+
+    #[test]
+    fn sizes_are_the_librarys() {
+        let library = unsafe { (smoother_run_bytes(), smoother_sheet_numbers()) };
+        assert_eq!((size_of::<Run>() as u32, crate::NUMBERS as u32), library);
+    }
 
     #[test]
     fn only_0_is_done() {

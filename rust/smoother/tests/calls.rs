@@ -1,6 +1,5 @@
 //! Expected values are document 01's, or come from doing the same another way.
 use smoother::*;
-use std::mem::{offset_of, size_of};
 
 fn tabs(line: &str) -> String {
     line.replace(' ', "\t") + "\n"
@@ -70,12 +69,6 @@ fn refused(
     let (run_before, before) = (*run, bits(b));
     assert_eq!(f(run, b), Err(why.into()));
     assert_eq!((*run, bits(b)), (run_before, before));
-}
-
-#[test]
-fn layout() {
-    assert_eq!((size_of::<Channel>(), size_of::<Run>()), (28, 104));
-    assert_eq!((offset_of!(Channel, weight), offset_of!(Channel, mark), offset_of!(Run, channels)), (16, 24, 20));
 }
 
 #[test]
