@@ -7,11 +7,13 @@ out=../crates/replay
     cargo run -q --release --bin arith -- --list 3000
     cargo run -q --release --bin utils -- --list 64
     cargo run -q --release --bin sheets -- --list 120 1
-    cargo run -q --release --bin jobs -- --list 60 1
 } > $out/stdin
 echo "$(wc -l < $out/stdin) same, 0 other" > $out/stdout
 out=../crates/replay_calls
-cargo run -q --release --bin calls -- --list 600 1 > $out/stdin
+{
+    cargo run -q --release --bin calls -- --list 600 1
+    cargo run -q --release --bin runs
+} > $out/stdin
 echo "$(wc -l < $out/stdin) same, 0 other" > $out/stdout
 # texts, each after its length, and what the published Rust makes of them
 out=../crates/replay_pictures

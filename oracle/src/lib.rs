@@ -8,6 +8,7 @@ pub mod picture;
 pub mod probe;
 pub mod program;
 pub mod random;
+pub mod replay;
 pub mod run;
 pub mod sheet;
 pub mod tally;

@@ -42,6 +42,22 @@ fn weight(r: &mut Random) -> Weight {
     }
 }
 
+/// Weights at the ends of what is legal, and where the arithmetic changes.
+pub const WEIGHTS: [Weight; 12] = [
+    Weight::Whole(0),
+    Weight::Whole(1),
+    Weight::Whole(255),
+    Weight::Bits(0x0000_0001),
+    Weight::Bits(0x007f_ffff),
+    Weight::Bits(0x0080_0000),
+    Weight::Bits(0x3380_0000),
+    Weight::Bits(0x7100_0000),
+    Weight::Bits(0x7ab5_baae), // the largest data weight with a finite alpha, and the next
+    Weight::Bits(0x7ab5_baaf),
+    Weight::Bits(0x7f00_0000),
+    Weight::Bits(0x7f7f_ffff),
+];
+
 /// A factor and an own side; half of them cover as much as they can.
 fn cover(r: &mut Random, full: u32) -> (u32, u32) {
     let factor = r.between(1, (full / 8).min(4).into()) as u32;

@@ -1,7 +1,6 @@
 // Replays the oracle's answers: each line of standard input has an operation, its operands and the answer of the Rust.
 // Writes how many of the lines have the answer that the proved code gives, and how many have another.
 mod arith;
-mod block;
 mod sheets;
 mod transforms;
 
@@ -29,11 +28,6 @@ fn same_line(s: &[u8], at: usize) -> bool
     }
     if first == b'u' {
         return transforms::same_up(s, at);
-    }
-    if second == b'o' {
-        if first == b's' {
-            return block::same_solve(s, at);
-        }
     }
     if first == b'r' {
         return sheets::same_read(s, at);

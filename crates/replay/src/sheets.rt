@@ -12,14 +12,14 @@ ghost use Prim.Native.Nat.{_≤_, _<_};
 ghost use lib.ListN.{length};
 
 // A digest with one more number.
-pub fn with(digest: u64, n: u64) -> u64
+fn with(digest: u64, n: u64) -> u64
     requires { ⌜ (digest < 4294967296) × (n < 4294967296) ⌝ }
     ensures { λ r. ⌜ r < 4294967296 ⌝ }
 {
     (digest * 31 + n) % 4294967296
 }
 
-pub fn wide32(x: u32) -> u64
+fn wide32(x: u32) -> u64
     ensures { λ r. ⌜ r < 4294967296 ⌝ }
 {
     x as u64
@@ -124,7 +124,7 @@ fn read_bytes(text: &[u8], n: usize, limit: u32) -> Given
 }
 
 // Whether word k is this number.
-pub fn is_word(s: &[u8], at: usize, k: usize, n: u64) -> bool
+fn is_word(s: &[u8], at: usize, k: usize, n: u64) -> bool
     requires { ⌜ at ≤ length (now s) ⌝ }
 {
     number(s, word_at(s, at, k)) as u64 == n

@@ -11,6 +11,7 @@ use oracle::{
     calls::{BLOWN, JOBS, Job, Lent, NAMES, Record, lent, proved, proved_serve},
     floats::{any, at, bits, same, special, subnormal},
     random::Random,
+    replay::{Calls, digest, fits, line},
     tally::Tally,
     texts::legal,
 };
@@ -466,13 +467,7 @@ fn faults() -> ExitCode {
     unseen.into()
 }
 
-/// Room for what is lent in the program that replays the lists.
-const ROOM: [usize; 2] = [3072, 256];
-
-/// A line per list, all numbers in hexadecimal: `serve`; the digest of what `smoother_serve` has to leave; what all values of the six buffers are before; the
-/// lengths of plane, prior, gradient, across, down, saved, levels, tables, jobs, channels and answers; the record's 26 numbers; levels (modulo
-/// 2^16), quantisers, jobs and channels. Answers are 77 before. The digest is of the call's answer, the list's answers, the record and the six: 31 times what it
-/// was plus the next number, modulo 2^32.
+/// The lines that `replay` describes.
 fn list(count: u64, seed: u64) -> ExitCode {
     let mut r = Random::new(seed);
     let mut made = 0;
@@ -491,30 +486,14 @@ fn list(count: u64, seed: u64) -> ExitCode {
         if r.one_in(5) {
             damage_lists(&mut r, &mut x, &mut jobs, &mut channels, &mut answers);
             x.buffers.iter_mut().for_each(|b| b.fill(fill));
-            x.levels.iter_mut().for_each(|d| *d = (*d).max(-i16::MAX)); // the program cannot read the least i16
         }
-        let lengths: Vec<usize> = x.buffers.iter().map(Vec::len).collect();
-        let small = [x.tables.len(), jobs.len(), channels.len(), answers.len()];
-        if lengths.iter().chain([&x.levels.len()]).any(|n| *n > ROOM[0]) || small.iter().any(|n| *n > ROOM[1]) {
+        let calls = Calls { jobs: &jobs, channels: &channels, answers: answers.len() };
+        if !fits(&x, &calls) {
             continue;
         }
-        let lengths = lengths.into_iter().chain([x.levels.len()]).chain(small);
-        let record = x.record.numbers();
-        let given = x.levels.iter().map(|d| u32::from(*d as u16)).chain(x.tables.iter().map(|q| u32::from(*q)));
-        let words: Vec<u32> = [bits(fill)]
-            .into_iter()
-            .chain(lengths.map(|n| n as u32))
-            .chain(record)
-            .chain(given)
-            .chain(jobs.iter().map(|j| u32::from(*j)))
-            .chain(channels.iter().copied())
-            .collect();
+        let before = x.clone();
         let answer = x.serve(&jobs, &channels, &mut answers);
-        let left = [answer].into_iter().chain(answers.iter().map(|a| u32::from(*a))).chain(x.record.numbers());
-        let values = x.buffers.iter().flatten().map(|v| bits(*v));
-        let digest = left.chain(values).fold(0u64, |digest, n| (digest * 31 + u64::from(n)) % (1 << 32));
-        let words: String = words.iter().map(|n| format!(" {n:x}")).collect();
-        println!("serve {digest:x}{words}");
+        println!("{}", line(digest(answer, &answers, &x.record, &x.buffers), fill, &before, &calls));
         made += 1;
     }
     ExitCode::SUCCESS

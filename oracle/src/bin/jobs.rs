@@ -3,7 +3,6 @@
 //!     jobs [SEED [COUNT]]     COUNT sheets (2,400) of sides up to 64, job after job; as many with other values in the buffers before each
 //!                             job; and six of 512 by 512
 //!     jobs --faults           plants wrong values, in one buffer after another, and wrong marks, and fails unless each is reported
-//!     jobs --list N SEED      N of Rust's answers
 use oracle::{
     floats::{any, at, bits, same, special, subnormal},
     jobs::{self, JOBS, Lent},
@@ -11,7 +10,7 @@ use oracle::{
     run::{Run, runs},
     sheet::{Channel, Sheet, Weight},
     tally::Tally,
-    texts::legal,
+    texts::{WEIGHTS, legal},
 };
 use std::{collections::BTreeMap, process::ExitCode};
 
@@ -19,7 +18,6 @@ fn main() -> ExitCode {
     let args: Vec<String> = std::env::args().skip(1).collect();
     let number = |i: usize, default: u64| args.get(i).map_or(default, |a| a.parse().expect("a whole number"));
     match args.first().map(String::as_str) {
-        Some("--list") => list(number(1, 60), number(2, 1)),
         Some("--faults") => faults(),
         _ => {
             let (seed, count) = (number(0, 1), number(1, 2_400));
@@ -51,21 +49,6 @@ const KINDS: [(&str, fn(&mut Random, usize) -> Sheet); 4] = [
         sheet.channels.iter_mut().for_each(|c| extreme(r, c));
         sheet
     }),
-];
-
-const WEIGHTS: [Weight; 12] = [
-    Weight::Whole(0),
-    Weight::Whole(1),
-    Weight::Whole(255),
-    Weight::Bits(0x0000_0001),
-    Weight::Bits(0x007f_ffff),
-    Weight::Bits(0x0080_0000),
-    Weight::Bits(0x3380_0000),
-    Weight::Bits(0x7100_0000),
-    Weight::Bits(0x7ab5_baae), // the largest data weight with a finite alpha, and the next
-    Weight::Bits(0x7ab5_baaf),
-    Weight::Bits(0x7f00_0000),
-    Weight::Bits(0x7f7f_ffff),
 ];
 
 /// Three channels, all pairs of factors in turn, whose own sides cover as much as they can or a part; levels as pictures have them.
@@ -315,41 +298,4 @@ fn faults() -> ExitCode {
     }
     println!("{} kinds of fault planted, {} missed: {missed:?}", FAULTS.len(), missed.len());
     u8::from(!missed.is_empty()).into()
-}
-
-/// `solve`, iterations, smoothing weight, data weight, a digest of all six buffers after each step, 64 levels and 64 quantisers less one, all
-/// in hexadecimal: sheets of one block. The digest is 31 times what it was plus the bits of the next value, modulo 2^32.
-fn list(count: u64, seed: u64) -> ExitCode {
-    let mut r = Random::new(seed);
-    for i in 0..count {
-        let levels: Vec<i32> =
-            (0..64).map(|_| if r.one_in(3) { r.between(0, 2047 >> (i % 11)) as i32 } else { 0 }).collect();
-        let table: Vec<u32> = (0..64).map(|_| r.between(1, 255 >> (i % 7)) as u32).collect();
-        let (smoothing, data, n) = (r.pick(&WEIGHTS), r.pick(&WEIGHTS), r.between(1, 20) as u32);
-        let words = |xs: Vec<u32>| xs.iter().map(|x| format!(" {x:x}")).collect::<String>();
-        let listed =
-            words(levels.iter().map(|level| *level as u32).collect()) + &words(table.iter().map(|q| q - 1).collect());
-        let sheet = Sheet {
-            w: 8,
-            h: 8,
-            picture_w: 8,
-            picture_h: 8,
-            joint: true,
-            counts: [n; 3],
-            smoothing: [smoothing; 3],
-            data: [data; 3],
-            channels: vec![Channel { w: 8, h: 8, across: 1, down: 1, table, levels }],
-        };
-        let mut run = runs(&sheet).remove(0);
-        let mut digest = 0u64;
-        for _ in 0..n {
-            run.step(|_, _, _| ());
-            let buffers = run.buffers(0);
-            let values = buffers.iter().flat_map(|(_, values)| values);
-            digest = values.fold(digest, |digest, x| (digest * 31 + u64::from(bits(*x))) % (1 << 32));
-        }
-        let [smoothing, data] = [smoothing, data].map(|weight| weight.value().to_bits());
-        println!("solve {n:x} {smoothing:x} {data:x} {digest:x}{listed}");
-    }
-    ExitCode::SUCCESS
 }
