@@ -13,7 +13,7 @@ pub struct Grid {
     pub h: usize,
 }
 
-// The place of column x of row y in channel c.
+// The place of column x of row y in channel c. Rules out: row and column exchanged, and a place of another channel.
 pub fn px(g: Grid, c: usize, y: usize, x: usize) -> usize
     requires { ⌜ (c < g .n) × Inside g y x × (g .n * (g .w * g .h) < 2 ^ 63) ⌝ }
     ensures { λ r. ⌜ (r ≡ pxIdx (g .w) (g .h) c y x) × (r < g .n * (g .w * g .h)) ⌝ }
@@ -23,7 +23,7 @@ pub fn px(g: Grid, c: usize, y: usize, x: usize) -> usize
     c * (w * h) + (y * w + x)
 }
 
-// The difference from (y, x) to (ty, tx), 0 at an edge.
+// The difference from (y, x) to (ty, tx), 0 at an edge. Rules out: its sign turned, and a value read beyond an edge.
 pub fn difference(
     edge: bool,
     xs: &[f32],
@@ -45,7 +45,7 @@ pub fn difference(
     xs[to] - xs[from]
 }
 
-// alpha.mul_add(v / norm, ..) at (y, x).
+// alpha.mul_add(v / norm, ..) at (y, x). Rules out: product and sum rounded one after the other, and alpha × v divided by the norm.
 pub fn bump(
     gradient: &mut [f32],
     g: Grid,
@@ -63,7 +63,7 @@ pub fn bump(
     gradient[k] = float::mul_add(alpha, v / norm, gradient[k]);
 }
 
-// The same, and nothing at an edge.
+// The same, and nothing at an edge. Rules out: a change at an edge, and 0 added there, which turns a −0.
 pub fn bump_unless(
     edge: bool,
     gradient: &mut [f32],

@@ -301,7 +301,7 @@ fn alpha_of(n: usize, alpha: f32) -> f32
     alpha / steps::solve::root_of(n as u32)
 }
 
-// tgv_gradient: every pixel, row by row.
+// tgv_gradient: every pixel, row by row. Rules out: alpha not divided by √n, and a NaN norm taken for 0.
 pub fn tgv_gradient(across: &[f32], down: &[f32], gradient: &mut [f32], g: Grid, alpha: f32)
     requires { ⌜ (g .n ≤ 3) × Fills g (length (now across)) × Fills g (length (now down)) × Fills g (length (now gradient)) ⌝ }
     ensures { λ _. ⌜ now (gradient .exit)

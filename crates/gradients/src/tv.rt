@@ -140,7 +140,7 @@ fn alpha_of(n: usize) -> f32
     1.0 / steps::solve::root_of(n as u32)
 }
 
-// tv_gradient: every pixel, row by row.
+// tv_gradient: every pixel, row by row. Rules out: a norm of each channel alone, and a pixel whose differences are left as they were.
 pub fn tv_gradient(
     plane: &[f32],
     gradient: &mut [f32],

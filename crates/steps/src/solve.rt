@@ -35,7 +35,7 @@ fn term_of(step: u32) -> f32
     term
 }
 
-// √n of a whole number.
+// √n of a whole number. Rules out: a root cut to a whole number, and a number above 2 ^ 24 cut, and not rounded, to f32.
 pub fn root_of(n: u32) -> f32
     ensures { λ r. ⌜ r ≡ root (float n) ⌝ }
 {
@@ -73,7 +73,7 @@ pub fn push(plane: &mut [f32], prior: &mut [f32], k: Constants)
     }
 }
 
-// Job 1 on the part of channel c, of n values.
+// Job 1 on the part of channel c, of n values. Rules out: another channel's part pushed, and a place beyond the part changed.
 pub fn push_channel(plane: &mut [f32], prior: &mut [f32], k: Constants, c: usize, n: usize)
     requires { ⌜ (c * n + n ≤ length (now plane)) × (length (now plane) ≡ length (now prior)) ⌝ }
     ensures { λ _. ⌜ record { plane = now (plane .exit); prior = now (prior .exit) }

@@ -5,7 +5,7 @@ ghost use Prim.Native.Nat.{_+_, _*_, _≤_};
 ghost use lib.ListN.{length};
 ghost use Rattle.steps.specs.Step.{dataAlpha, gradientNorm, moved, movedPart};
 
-// The data term's alpha: pweight * 2.0 * 255.0 * 2.0_f32.sqrt().
+// The data term's alpha: pweight * 2.0 * 255.0 * 2.0_f32.sqrt(). Rules out: the factors in another order, and one constant in their place.
 pub fn data_alpha(weight: f32) -> f32
     ensures { λ r. ⌜ r ≡ dataAlpha weight ⌝ }
 {
@@ -39,7 +39,7 @@ pub fn move_plane(plane: &mut [f32], gradient: &[f32], k: Constants)
     }
 }
 
-// Job 4 on the part of channel c, of n values.
+// Job 4 on the part of channel c, of n values. Rules out: the norm of all channels' gradients, and a place beyond the part moved.
 pub fn move_channel(plane: &mut [f32], gradient: &[f32], k: Constants, c: usize, n: usize)
     requires { ⌜ (c * n + n ≤ length (now plane)) × (length (now plane) ≡ length (now gradient)) ⌝ }
     ensures { λ _. ⌜ now (plane .exit) ≡ movedPart (k .«step_size») (c * n) (c * n + n) (now (gradient .entry)) (now (plane .entry)) ⌝ }
