@@ -1,4 +1,1 @@
-// The solver's jobs as the model has them, and demand 3 of them. The work is in specs/ and proofs/.
-pub fn jobs_in_a_step() -> u32 {
-    5
-}
+// The solver's jobs as the model has them, and demand 3 of them. This crate has no code: the work is in specs/ and proofs/.
