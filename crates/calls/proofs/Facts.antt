@@ -4,15 +4,15 @@ use mathlib.Core.Logic.{_⊎_, inl, inr}
 use Prim.Native.Nat.{ℕ, _*_, _%_, _≤_, _<_}
 use native.Mathlib.Nat.{le-trans, mul-le-mul-left, mul-le-mul-right}
 use native.Mathlib.Omega.{arith}
-use mathlib.Core.Bool.{Bool, true, false, _&&_, _||_}
+use mathlib.Core.Bool.{Bool, true, false, _||_}
 use lib.Dec.{T, leb, eqb, leb→le, eqb→eq}
 use lib.ListN.{length}
 use lib.Ieee.Fits.{and-l, and-r}
-use Rattle.calls.specs.Run.{Own, Sheet, Given, own, count, area, coefs, every, side, fullSide, factor, weight, ownOk, headerOk, sheetOk}
+use Rattle.calls.specs.Run.{Numbers, Sheet, Given, own, count, area, coefs, every, weight, ownOk, headerOk, sheetOk}
 use Rattle.calls.specs.Between.{GivenOk}
 use Rattle.calls.proofs.Tests.{every-at}
 
-pub record OwnIs (S : Sheet) (o : Own) : Type 0 where
+pub record OwnIs (S : Sheet) (o : Numbers) : Type 0 where
   pub width-8 : o .width % 8 ≡ 0
   pub width-pos : 8 ≤ o .width
   pub height-8 : o .height % 8 ≡ 0
@@ -25,7 +25,7 @@ pub record OwnIs (S : Sheet) (o : Own) : Type 0 where
   pub covers-down : o .height * o .down ≤ S .H
   pub weight-ok : T (weight (o .data-weight))
 
-pub own-is : (S : Sheet) (o : Own) → T (ownOk S o) → OwnIs S o
+pub own-is : (S : Sheet) (o : Numbers) → T (ownOk S o) → OwnIs S o
 unfolding ownOk
 own-is S o t =
     record {
@@ -80,7 +80,7 @@ sheet-is S t =
     }
 
 -- a channel's coefficients fit its part of a lent buffer
-pub own-fits : (S : Sheet) (o : Own) → OwnIs S o → o .width * o .height ≤ S .W * S .H
+pub own-fits : (S : Sheet) (o : Numbers) → OwnIs S o → o .width * o .height ≤ S .W * S .H
 own-fits S o h =
     let wide : o .width ≤ S .W = omega (arith, mul-le-mul-left (o .width) (h .across-pos), h .covers-across) in
     let high : o .height ≤ S .H = omega (arith, mul-le-mul-left (o .height) (h .down-pos), h .covers-down) in

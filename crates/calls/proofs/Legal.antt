@@ -1,18 +1,18 @@
 -- An accepted call keeps the record legal.
 use mathlib.Core.Path.{_≡_, refl, sym, ap, _∙_, subst}
 use mathlib.Core.Logic.{_≢_}
-use Prim.Native.Nat.{ℕ, zero, suc, _+_, _*_, _/_, _%_, _≤_, _<_}
+use Prim.Native.Nat.{ℕ, suc, _*_, _%_, _<_}
 use native.Mathlib.Omega.{arith}
 use native.Mathlib.Decide.{ℕ-discrete}
 use mathlib.Core.Bool.{Bool, true, false, not, _&&_, _||_}
 use mathlib.Core.List.{List, map}
 use lib.Dec.{T, leb, ltb, eqb, leb→le, le→leb, ltb→lt, lt→ltb, eqb→eq}
 use lib.Ieee.Fits.{and-l, and-r, and-i, eq→eqb}
-use lib.ListN.{length, getD, set, length-set, length-map}
+use lib.ListN.{length, set, length-set, length-map}
 use lib.Seq.{getD-set-same, getD-set-other}
 use borrow.Author.Tests.{eqb-false}
 use Rattle.calls.specs.Run.{Sheet, Place, fresh, place, every, among, blendsIn, placeOk, placesOk}
-use Rattle.calls.specs.Jobs.{Job, push, fidelity, move, project, Call, on, blend, turn, blendTurn, Seen}
+use Rattle.calls.specs.Jobs.{Job, push, fidelity, move, project, on, blend, turn, blendTurn, Seen}
 use Rattle.calls.specs.Calls.{first, turnTests, advance, onward}
 use Rattle.calls.specs.Between.{PlaceIs, PlacesAre}
 use Rattle.calls.proofs.Tests.{never, or-r, or-i, every-at, every-of, none-at, getD-map-lt, silent, holds, passed-of}

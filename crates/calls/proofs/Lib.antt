@@ -1,5 +1,4 @@
 -- The laws of the model; `Runs.demand3` is the theorem.
-pub mod Laws
 pub mod Parts
 pub mod Tests
 pub mod Legal

@@ -5,11 +5,10 @@ use Prim.Native.Nat.{ℕ, zero, suc, _+_, _-_, _*_, _≤_, _<_}
 use native.Mathlib.Nat.{eq-or-lt-of-le, le-of-eq, suc-mul}
 use native.Mathlib.Omega.{arith}
 use native.Mathlib.Decide.{decLt}
-use mathlib.Core.List.{List, [], _++_}
+use mathlib.Core.List.{List, _++_}
 use lib.ListN.{length, take, drop, length-append, length-drop, take-append-drop}
 use lib.Seq.{take-all, take-append-le, drop-append-le, drop-at, take-add}
 use lib.Ieee.{Float, nan}
-use Rattle.fold.specs.Part.{part, splice}
 use Rattle.fold.proofs.Grid.{row-end}
 use Rattle.fold.proofs.Parts.{part-length, splice-length, part-splice, part-before, part-after}
 use Rattle.start.specs.Buffers.{Buffers}

@@ -1,24 +1,22 @@
 -- Demand 3: every list of calls from a fresh run.
 use mathlib.Core.Path.{_≡_, refl, sym, ap, _∙_, subst}
-use Prim.Native.Nat.{ℕ, zero, suc, _+_, _*_, _/_, _%_, _≤_, _<_}
+use Prim.Native.Nat.{ℕ, zero, suc, _<_}
 use native.Mathlib.Omega.{arith}
-use mathlib.Core.Bool.{Bool, true, false, not, _&&_, _||_}
-use mathlib.Core.List.{List, [], _∷_, _++_, map}
-use lib.Dec.{T, eqb, eqb→eq, leb}
-use lib.Ieee.Fits.{and-l, and-r, and-i, eq→eqb}
-use lib.ListN.{length, getD, replicate, length-replicate, getD-replicate}
-use Rattle.calls.specs.Run.{Sheet, Place, Given, fresh, place, count, area, levelsBefore, blendsIn, sheetOk, placesOk, legal}
-use Rattle.start.specs.Buffers.{Buffers}
+use mathlib.Core.Bool.{true, false}
+use mathlib.Core.List.{List, [], _∷_, map}
+use lib.Ieee.Fits.{and-l, and-r}
+use lib.ListN.{length, replicate, length-replicate, getD-replicate}
+use Rattle.calls.specs.Run.{Place, Given, fresh, place, count, area, blendsIn, sheetOk, placesOk}
 use Rattle.calls.specs.Buffers.{channel, joined, Sized}
 use Rattle.calls.specs.Jobs.{Call, Jobs, fixed}
-use Rattle.calls.specs.Calls.{Answer, refused, done, State, Outcome, first, lendTests, allSix, lengths, startRefusal, settle, call, begin, start, answers, final, noneYet, plain, plainAnswers, plainPlaces}
-use Rattle.calls.specs.Demand.{Demand3}
+use Rattle.calls.specs.Calls.{Answer, done, State, first, lendTests, allSix, lengths, startRefusal, settle, call, begin, start, answers, final, noneYet, plainAnswers, plainPlaces}
+use Rattle.calls.specs.Demand.{Demand3, MeetsDemand3}
 use Rattle.calls.specs.Between.{GivenOk, PlaceIs, PlacesAre, AllIn, Inv}
-use Rattle.calls.proofs.Laws.{Laws}
+use Rattle.calls.specs.Laws.{Laws}
 use Rattle.calls.proofs.Parts.{joined-sized, channel-joined, joined-channels}
 use Rattle.calls.proofs.Tests.{never, Lent, lent-of}
 use Rattle.calls.proofs.Legal.{places-are}
-use Rattle.calls.proofs.Step.{Good, call-good}
+use Rattle.calls.proofs.Step.{call-good}
 
 -- ---- a list of calls
 
@@ -140,6 +138,6 @@ pub between : (J : Jobs) → Laws J → (G : Given) (s : State) → start J G s 
 between J laws G s e xs =
     subst (λ (t : State). Inv J G (final J G xs t)) (sym (started J G s e)) (list-good J laws G (given-ok J G s e) xs (s₀ J G s e) (start-good J G s e laws) .last)
 
--- Demand 3: for every record, levels, tables and lent buffers that start accepts, and every list of calls after it.
-pub demand3 : (J : Jobs) → Laws J → (G : Given) (s : State) → start J G s .answer ≡ done → (xs : List Call) → Demand3 J G xs (start J G s .after)
+-- Demand 3, of jobs that meet the laws.
+pub demand3 : (J : Jobs) → Laws J → MeetsDemand3 J
 demand3 J laws G s e xs = subst (Demand3 J G xs) (sym (started J G s e)) (from-start J G s e laws xs)

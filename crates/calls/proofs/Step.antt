@@ -1,43 +1,37 @@
 -- What holds between the calls (`Inv`), and that a call keeps it and answers as the plain run does.
 use mathlib.Core.Path.{_≡_, refl, sym, ap, _∙_, subst}
 use mathlib.Core.Logic.{_≢_}
-use Prim.Native.Nat.{ℕ, zero, suc, _+_, _*_, _/_, _%_, _≤_, _<_}
+use Prim.Native.Nat.{ℕ, zero, suc, _*_, _/_, _%_, _≤_, _<_}
 use native.Mathlib.Nat.{not-suc-le-zero, le-of-suc-le-suc}
 use native.Mathlib.Omega.{arith}
 use native.Mathlib.Decide.{ℕ-discrete}
-use mathlib.Core.Bool.{Bool, true, false, not, _&&_, _||_}
-use mathlib.Core.List.{List, [], _∷_, _++_, map}
-use lib.Dec.{T, eqb}
-use lib.Ieee.Fits.{and-l, and-r, and-i, eq→eqb}
-use lib.ListN.{length, getD, set, take, length-map, length-set}
+use mathlib.Core.Bool.{Bool, true, false}
+use mathlib.Core.List.{List, [], _∷_, map}
+use lib.Ieee.Fits.{and-i}
+use lib.ListN.{length, getD, set, take}
 use lib.Seq.{getD-take, length-take-le}
 use lib.Ieee.{Float, nan}
-use Rattle.calls.specs.Run.{Sheet, Place, Given, fresh, place, count, area, coefs, levelsBefore, sheetOk, placesOk, legal}
+use Rattle.calls.specs.Run.{Place, Given, place, count, area, coefs, sheetOk, placesOk}
 use Rattle.start.specs.Buffers.{Buffers}
-use Rattle.calls.specs.Buffers.{Name, Saved, get, channel, putChannel, joined, Sized}
-use Rattle.calls.specs.Jobs.{Job, push, fidelity, move, project, Call, on, blend, turn, blendTurn, Jobs, next, fixed, isBlown, Seen, seen, seenAt}
-use Rattle.projection.specs.Blown.{bad, anyBad}
-use Rattle.projection.specs.Blown as Blown
-use Rattle.calls.specs.Calls.{Answer, refused, done, blown, State, Outcome, first, turnTests, lent, lentLevels, all, lengths, lendTests, refusal, advance, onward, reply, worked, told, accept, settle, call, Plain, plainAccept, plainSettle, plain}
+use Rattle.calls.specs.Buffers.{Name, Saved, channel, putChannel, joined, Sized}
+use Rattle.calls.specs.Jobs.{Job, push, fidelity, move, project, Call, on, blend, turn, blendTurn, Jobs, next, fixed, channelBlown, Seen, seen, seenAt}
+use Rattle.projection.specs.Blown.{bad, anyBad, isBlown}
+use Rattle.calls.specs.Calls.{State, Called, first, turnTests, lent, lentLevels, lengths, lendTests, refusal, advance, onward, reply, worked, seenIn, accept, settle, call, Plain, plainAccept, plainSettle, plain}
 use Rattle.calls.specs.Between.{GivenOk, AllIn, Inv}
-use Rattle.calls.proofs.Laws.{Laws}
+use Rattle.calls.specs.Laws.{Laws}
 use Rattle.calls.proofs.Parts.{channel-sized, put-sized, put-same, put-other, joined-channels}
-use Rattle.calls.proofs.Tests.{never, or-false-l, or-false-r, Passed, skip, of-lent}
+use Rattle.calls.proofs.Tests.{never, or-false-l, or-false-r, Passed, skip, sized-names, of-lent}
 use Rattle.calls.proofs.Facts.{coefs-fit}
 use Rattle.calls.proofs.Legal.{Ready, ready-of, blend-ready-of, places-ok, advance-position, place-here, place-elsewhere, job-legal, blend-same, place-blended, blend-legal}
 
 module _ (J : Jobs) (G : Given) where
   -- what a call must give: the plain run's answer and places, and the same between the calls
-  pub record Good (o : Outcome) (p : Plain) : Type 0 where
+  pub record Good (o : Called) (p : Plain) : Type 0 where
     pub same-answer : o .answer ≡ p .answer
     pub same-places : o .after .places ≡ p .places
     pub again : Inv J G (o .after)
 
 -- ---- 13, 8, 4 and 5 are never given
-
-sized-names : (m : ℕ) (B : Buffers) → Sized m B → (names : List Name) → T (all (λ n. eqb n m) (lengths names B))
-sized-names m B h [] = tt
-sized-names m B h (b ∷ bs) = and-i (eqb (length (get b B)) m) (all (λ n. eqb n m) (lengths bs B)) (eq→eqb (h b)) (sized-names m B h bs)
 
 module _ (J : Jobs) (G : Given) (ok : GivenOk G) where
   pub lend-passed : (s : State) → Inv J G s → (names : List Name) (levels : Bool) → Passed (lendTests G (s .places) (lengths names (s .buffers)) levels)
@@ -67,8 +61,8 @@ none-bad (x ∷ xs) e zero h = or-false-l (bad x) (anyBad xs) e
 none-bad (x ∷ xs) e (suc i) h = none-bad xs (or-false-r (bad x) (anyBad xs) e) i (le-of-suc-le-suc h)
 
 -- a channel that is not blown has finite coefficients
-coefs-fine : (G : Given) (c : ℕ) (b : Buffers) → coefs (G .sheet) c ≤ length (b .saved) → isBlown G c b ≡ false → (k : ℕ) → k < coefs (G .sheet) c → bad (getD (b .saved) k nan) ≡ false
-unfolding Blown.isBlown
+coefs-fine : (G : Given) (c : ℕ) (b : Buffers) → coefs (G .sheet) c ≤ length (b .saved) → channelBlown G c b ≡ false → (k : ℕ) → k < coefs (G .sheet) c → bad (getD (b .saved) k nan) ≡ false
+unfolding isBlown
 coefs-fine G c b fits e k h =
     let l : List Float = take (coefs (G .sheet) c) (b .saved) in
     ap bad (sym (getD-take (coefs (G .sheet) c) (b .saved) k nan h))
@@ -86,14 +80,14 @@ module _ (J : Jobs) (laws : Laws J) (G : Given) (ok : GivenOk G) (s : State) (in
         ∙ ap (λ (r : ℕ). next J G r (q / 5) (fixed J G q) c) (sym (t .next))
 
     -- and what it tells is told of the buffers fixed for both counts
-    told-is : told J G j c s ≡ seenAt J G (place (s .places) c .position) c
+    told-is : seenIn J G j c s ≡ seenAt J G (place (s .places) c .position) c
     told-is = λ i. seen J G c (inv .as-fixed c below i) (worked-is i)
 
     x : Buffers
     x = worked J G j c s
 
     o : Place
-    o = advance j (told J G j c s) (place (s .places) c)
+    o = advance j (seenIn J G j c s) (place (s .places) c)
 
     -- the lent part, and the part handed back, have the channel's length
     part-sized : Sized (area G) (channel (area G) c (s .buffers))
@@ -127,11 +121,11 @@ module _ (J : Jobs) (laws : Laws J) (G : Given) (ok : GivenOk G) (s : State) (in
         go project e = λ k h. laws .project-in G ok c step below b part-sized was k h (coefs-fine G c (J .work project G c step b) long e k h)
 
     -- a mark is new, and tells that the job's result is blown
-    x-marked : o .mark ≡ true → isBlown G c x ≡ true
+    x-marked : o .mark ≡ true → channelBlown G c x ≡ true
     unfolding o x
     x-marked = go j
       where
-        go : (i : Job) → advance i (told J G j c s) (place (s .places) c) .mark ≡ true → isBlown G c (worked J G j c s) ≡ true
+        go : (i : Job) → advance i (seenIn J G j c s) (place (s .places) c) .mark ≡ true → channelBlown G c (worked J G j c s) ≡ true
         go push e = never (place (s .places) c .mark) (t .unmarked) e
         go fidelity e = never (place (s .places) c .mark) (t .unmarked) e
         go move e = never (place (s .places) c .mark) (t .unmarked) e
@@ -166,7 +160,7 @@ module _ (J : Jobs) (laws : Laws J) (G : Given) (ok : GivenOk G) (s : State) (in
         here
         ∙ worked-is
         ∙ ap (λ (r : ℕ). fixed J G r c)
-        (sym (ap (λ (q : Place). q .position) at-here ∙ advance-position j (told J G j c s) (place (s .places) c)))
+        (sym (ap (λ (q : Place). q .position) at-here ∙ advance-position j (seenIn J G j c s) (place (s .places) c)))
 
     after-fixed : (d : ℕ) → d < count G → channel (area G) d B′ ≡ fixed J G (place ps′ d .position) d
     after-fixed d q =
@@ -184,16 +178,16 @@ module _ (J : Jobs) (laws : Laws J) (G : Given) (ok : GivenOk G) (s : State) (in
           | no f ↦ λ m. subst (AllIn G d) (sym (elsewhere d q f)) (inv .inside d q (ap (λ (r : Place). r .mark) (sym (at-elsewhere d f)) ∙ m))
         ]
 
-    marked-here : place ps′ c .mark ≡ true → isBlown G c (fixed J G (place ps′ c .position) c) ≡ true
-    marked-here m = ap (isBlown G c) (sym fixed-here ∙ here) ∙ x-marked (ap (λ (r : Place). r .mark) (sym at-here) ∙ m)
+    marked-here : place ps′ c .mark ≡ true → channelBlown G c (fixed J G (place ps′ c .position) c) ≡ true
+    marked-here m = ap (channelBlown G c) (sym fixed-here ∙ here) ∙ x-marked (ap (λ (r : Place). r .mark) (sym at-here) ∙ m)
 
-    after-marked : (d : ℕ) → d < count G → place ps′ d .mark ≡ true → isBlown G d (fixed J G (place ps′ d .position) d) ≡ true
+    after-marked : (d : ℕ) → d < count G → place ps′ d .mark ≡ true → channelBlown G d (fixed J G (place ps′ d .position) d) ≡ true
     after-marked d q =
         elim (ℕ-discrete c d) [
-          | yes e ↦ subst (λ (i : ℕ). place ps′ i .mark ≡ true → isBlown G i (fixed J G (place ps′ i .position) i) ≡ true) e marked-here
+          | yes e ↦ subst (λ (i : ℕ). place ps′ i .mark ≡ true → channelBlown G i (fixed J G (place ps′ i .position) i) ≡ true) e marked-here
           | no f ↦
               λ m.
-              ap (λ (r : Place). isBlown G d (fixed J G (r .position) d)) (at-elsewhere d f)
+              ap (λ (r : Place). channelBlown G d (fixed J G (r .position) d)) (at-elsewhere d f)
               ∙ inv .marked d q (ap (λ (r : Place). r .mark) (sym (at-elsewhere d f)) ∙ m)
         ]
 
@@ -205,7 +199,7 @@ module _ (J : Jobs) (laws : Laws J) (G : Given) (ok : GivenOk G) (s : State) (in
           same-places = ap (λ (x : Seen). set (s .places) c (advance j x (place (s .places) c))) told-is;
           again =
               record {
-                legal-places = job-legal (G .sheet) (s .places) j c (told J G j c s) (inv .legal-places) below t;
+                legal-places = job-legal (G .sheet) (s .places) j c (seenIn J G j c s) (inv .legal-places) below t;
                 sized = put-sized (area G) c (count G) (s .buffers) (inv .sized) below x x-sized;
                 as-fixed = after-fixed;
                 inside = after-inside;

@@ -15,8 +15,10 @@ use lib.ListN.{length, getD, take, drop}
 use lib.Seq.{drop-cons}
 use Rattle.fold.specs.Part.{part}
 use Rattle.calls.specs.Run.{Place, Given, every, among, legal, count, levelsBefore}
+use Rattle.start.specs.Buffers.{Buffers}
+use Rattle.calls.specs.Buffers.{Name, Plane, Prior, Gradient, Across, Down, Saved, get, Sized}
 use Rattle.calls.specs.Jobs.{Call}
-use Rattle.calls.specs.Calls.{Tests, first, test, all, levelOk, levelFault, levelsFault, tableOk, buffersLong, valuesLong, turnTests, lendTests, lentLevels, refusal}
+use Rattle.calls.specs.Calls.{Tests, first, test, all, allSix, lengths, levelOk, levelFault, levelsFault, tableOk, buffersLong, valuesLong, turnTests, lendTests, lentLevels, refusal}
 
 pub never : {X : Type 0} (b : Bool) → b ≡ false → b ≡ true → X
 never b p q = let z : _≡_ {A = ℕ} 0 1 = cc in absurd (omega arith)
@@ -71,6 +73,26 @@ none-at (suc k) f e c h = go (eq-or-lt-of-le h) (none-at k f (or-false-l (among 
     go : (suc c ≡ suc k) ⊎ (suc c < suc k) → (c < k → f c ≡ false) → f c ≡ false
     go (inl q) ih = let same : c ≡ k = omega arith in ap f same ∙ or-false-r (among k f) (f k) e
     go (inr l) ih = ih (omega arith)
+
+pub every-true : (k : ℕ) (f : ℕ → Bool) → ((c : ℕ) → c < k → f c ≡ true) → every k f ≡ true
+every-true zero f h = refl
+every-true (suc k) f h = rw (every-true k f (λ c p. h c (omega arith))) (h k (omega arith))
+
+pub among-false : (k : ℕ) (f : ℕ → Bool) → ((c : ℕ) → c < k → f c ≡ false) → among k f ≡ false
+among-false zero f h = refl
+among-false (suc k) f h = rw (among-false k f (λ c p. h c (omega arith))) (h k (omega arith))
+
+or-true : (a b : Bool) → b ≡ true → (a || b) ≡ true
+or-true true b e = refl
+or-true false b e = e
+
+pub among-true : (k : ℕ) (f : ℕ → Bool) (c : ℕ) → c < k → f c ≡ true → among k f ≡ true
+among-true zero f c h e = absurd (omega arith)
+among-true (suc k) f c h e = go (eq-or-lt-of-le h) (λ l. among-true k f c l e)
+  where
+    go : (suc c ≡ suc k) ⊎ (suc c < suc k) → (c < k → among k f ≡ true) → (among k f || f k) ≡ true
+    go (inl q) ih = let same : k ≡ c = omega arith in or-true (among k f) (f k) (ap f same ∙ e)
+    go (inr l) ih = rw (ih (omega arith))
 
 -- ---- lists
 
@@ -165,6 +187,20 @@ levels-faultless [] t = refl
 levels-faultless (d ∷ ds) t =
     skip (levelFault d ∷ []) (map levelFault ds) (test-of 5 (levelOk d) (and-l (levelOk d) (all levelOk ds) t), tt)
     ∙ levels-faultless ds (and-r (levelOk d) (all levelOk ds) t)
+
+-- ---- 8: the lengths of the buffers that are lent
+
+pub sized-names : (m : ℕ) (B : Buffers) → Sized m B → (names : List Name) → T (all (λ n. eqb n m) (lengths names B))
+sized-names m B h [] = tt
+sized-names m B h (b ∷ bs) = and-i (eqb (length (get b B)) m) (all (λ n. eqb n m) (lengths bs B)) (eq→eqb (h b)) (sized-names m B h bs)
+
+pub sized-of : (m : ℕ) (B : Buffers) → T (all (λ n. eqb n m) (lengths allSix B)) → Sized m B
+sized-of m B t Plane = eqb→eq (length (B .plane)) m (search (and-l, and-r) depth 12)
+sized-of m B t Prior = eqb→eq (length (B .prior)) m (search (and-l, and-r) depth 12)
+sized-of m B t Gradient = eqb→eq (length (B .gradient)) m (search (and-l, and-r) depth 12)
+sized-of m B t Across = eqb→eq (length (B .across)) m (search (and-l, and-r) depth 12)
+sized-of m B t Down = eqb→eq (length (B .down)) m (search (and-l, and-r) depth 12)
+sized-of m B t Saved = eqb→eq (length (B .saved)) m (search (and-l, and-r) depth 12)
 
 -- ---- what a call that passed 13, 8, 4 and 5 was lent
 

@@ -1,5 +1,5 @@
 -- A run whose fixed buffers are never blown marks no channel, whatever calls are made, for any jobs.
-use mathlib.Core.Path.{_≡_, refl, sym, ap, _∙_, subst}
+use mathlib.Core.Path.{_≡_, refl, ap, _∙_, subst}
 use Prim.Native.Nat.{ℕ, zero, suc, _*_, _≤_, _<_}
 use native.Mathlib.Omega.{arith}
 use native.Mathlib.Decide.{ℕ-discrete}
@@ -7,14 +7,14 @@ use mathlib.Core.Bool.{false}
 use mathlib.Core.List.{List, [], _∷_, map}
 use lib.ListN.{set}
 use Rattle.calls.specs.Run.{Place, Given, place, count}
-use Rattle.calls.specs.Jobs.{Job, push, fidelity, move, project, Call, on, blend, turn, blendTurn, Jobs, fixed, isBlown, seenAt}
+use Rattle.calls.specs.Jobs.{Job, push, fidelity, move, project, Call, on, blend, turn, blendTurn, Jobs, fixed, channelBlown, seenAt}
 use Rattle.calls.specs.Calls.{State, done, first, turnTests, onward, advance, start, final, noneYet, plain, plainAccept, plainSettle, plainPlaces}
 use Rattle.calls.specs.Between.{PlacesAre}
-use Rattle.calls.proofs.Laws.{Laws}
+use Rattle.calls.specs.Laws.{Laws}
 use Rattle.calls.proofs.Legal.{Ready, ready-of, blend-ready-of, place-here, place-elsewhere, job-legal, place-blended, blend-legal}
 use Rattle.calls.proofs.Runs.{at-fresh, fresh-are, demand3}
 
-module _ (J : Jobs) (G : Given) (fine : (c p : ℕ) → c < count G → p ≤ 5 * G .sheet .N → isBlown G c (fixed J G p c) ≡ false) where
+module _ (J : Jobs) (G : Given) (fine : (c p : ℕ) → c < count G → p ≤ 5 * G .sheet .N → channelBlown G c (fixed J G p c) ≡ false) where
   record Unmarked (ps : List Place) : Type 0 where
     are : PlacesAre (G .sheet) ps
     none : (c : ℕ) → c < count G → place ps c .mark ≡ false

@@ -8,7 +8,7 @@ use lib.Dec.{T}
 use Rattle.calls.specs.Run.{Sheet, Place, Given, place, count, area, coefs, levelsBefore, blendsIn, sheetOk}
 use Rattle.start.specs.Buffers.{Buffers}
 use Rattle.calls.specs.Buffers.{channel, Sized}
-use Rattle.calls.specs.Jobs.{Jobs, fixed, isBlown}
+use Rattle.calls.specs.Jobs.{Jobs, fixed, channelBlown}
 use Rattle.calls.specs.Calls.{State, all, levelOk, tableOk}
 use Rattle.calls.specs.Demand.{SavedIn}
 
@@ -39,4 +39,4 @@ pub record Inv (J : Jobs) (G : Given) (s : State) : Type 0 where
   pub sized : Sized (count G * area G) (s .buffers)
   pub as-fixed : (c : ℕ) → c < count G → channel (area G) c (s .buffers) ≡ fixed J G (place (s .places) c .position) c
   pub inside : (c : ℕ) → c < count G → place (s .places) c .mark ≡ false → AllIn G c (channel (area G) c (s .buffers))
-  pub marked : (c : ℕ) → c < count G → place (s .places) c .mark ≡ true → isBlown G c (fixed J G (place (s .places) c .position) c) ≡ true
+  pub marked : (c : ℕ) → c < count G → place (s .places) c .mark ≡ true → channelBlown G c (fixed J G (place (s .places) c .position) c) ≡ true

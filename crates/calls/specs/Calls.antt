@@ -21,7 +21,8 @@ pub record State : Type 0 where
   pub places : List Place
   pub buffers : Buffers
 
-pub record Outcome : Type 0 where
+-- what a call gives: its answer, and what it leaves
+pub record Called : Type 0 where
   pub answer : Answer
   pub after : State
 
@@ -146,12 +147,12 @@ abbrev pub worked : Jobs → Given → Job → ℕ → State → Buffers
 worked J G j c s = J .work j G c (place (s .places) c .position / 5) (channel (area G) c (s .buffers))
 
 -- and what the job tells
-abbrev pub told : Jobs → Given → Job → ℕ → State → Seen
-told J G j c s = seen J G c (channel (area G) c (s .buffers)) (worked J G j c s)
+abbrev pub seenIn : Jobs → Given → Job → ℕ → State → Seen
+seenIn J G j c s = seen J G c (channel (area G) c (s .buffers)) (worked J G j c s)
 
-abbrev pub accept : Jobs → Given → Call → State → Outcome
+abbrev pub accept : Jobs → Given → Call → State → Called
 accept J G (on j c) s =
-    let x = told J G j c s in
+    let x = seenIn J G j c s in
     record {
       answer = reply j x;
       after = record {
@@ -169,23 +170,23 @@ accept J G blend s =
     }
 
 -- a refusal leaves "lent buffers and any record unchanged"
-abbrev pub settle : ℕ → State → Outcome → Outcome
+abbrev pub settle : ℕ → State → Called → Called
 settle zero s o = o
 settle (suc r) s o = record { answer = refused (suc r); after = s }
 
 -- a call of push, data, blend, move or project
-unfoldable pub call : Jobs → Given → Call → State → Outcome
+unfoldable pub call : Jobs → Given → Call → State → Called
 call J G x s = settle (refusal G (s .places) x (lengths (lent x) (s .buffers))) s (accept J G x s)
 
 -- start "sets positions to 0 and clears marks: that is a fresh run"
-abbrev pub begin : Jobs → Given → State → Outcome
+abbrev pub begin : Jobs → Given → State → Called
 begin J G s =
     record {
       answer = done;
       after = record { places = map (λ p. fresh) (s .places); buffers = joined (count G) (J .start G) };
     }
 
-unfoldable pub start : Jobs → Given → State → Outcome
+unfoldable pub start : Jobs → Given → State → Called
 start J G s = settle (startRefusal G (s .places) (lengths allSix (s .buffers))) s (begin J G s)
 
 -- ---- a list of calls, each with what the one before left

@@ -10,7 +10,7 @@ use Rattle.start.specs.Buffers.{Buffers}
 use Rattle.calls.specs.Buffers.{channel, joined}
 use Rattle.calls.specs.Jobs.{Call, Jobs, fixed}
 use Rattle.interval.specs.Interval.{InInterval}
-use Rattle.calls.specs.Calls.{Answer, State, answers, final, noneYet, plainAnswers, plainPlaces}
+use Rattle.calls.specs.Calls.{Answer, done, State, start, answers, final, noneYet, plainAnswers, plainPlaces}
 
 -- channel c's saved coefficient k is in its interval
 abbrev pub SavedIn : Given → ℕ → ℕ → Buffers → Type 0
@@ -28,5 +28,11 @@ pub record Claim (J : Jobs) (G : Given) (xs : List Call) (said : List Answer) (t
   -- each saved coefficient of a channel that is not marked is in its interval
   pub in-interval : (c : ℕ) → c < count G → place ps c .mark ≡ false → (k : ℕ) → k < coefs (G .sheet) c → SavedIn G c k (channel (area G) c (t .buffers))
 
+-- of the model's own answers and state, from the state s
 abbrev pub Demand3 : Jobs → Given → List Call → State → Type 0
 Demand3 J G xs s = Claim J G xs (answers J G xs s) (final J G xs s) (plainPlaces J G xs (noneYet G))
+
+-- Demand 3 of the jobs J: "Demand 3 is one claim about the whole list, not one per call." For every record, levels, tables and lent buffers
+-- that start accepts, and every list of calls after it.
+abbrev pub MeetsDemand3 : Jobs → Type 0
+MeetsDemand3 J = (G : Given) (s : State) → start J G s .answer ≡ done → (xs : List Call) → Demand3 J G xs (start J G s .after)

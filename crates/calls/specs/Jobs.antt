@@ -1,10 +1,10 @@
 -- The five jobs, and the recursion that fixes a channel's buffers for each count of accepted jobs (document 01, "Jobs and positions").
 -- `Jobs` stands for the arithmetic of the jobs, which is the solver's.
-use Prim.Native.Nat.{ℕ, zero, suc, _*_, _/_, _%_}
+use Prim.Native.Nat.{ℕ, zero, suc, _/_, _%_}
 use mathlib.Core.Bool.{Bool}
 use Rattle.calls.specs.Run.{Given, count, area, coefs}
 use Rattle.start.specs.Buffers.{Buffers}
-use Rattle.projection.specs.Blown as Blown
+use Rattle.projection.specs.Blown.{isBlown}
 use Rattle.calls.specs.Buffers.{channel, joined}
 
 -- the jobs of one channel; `fidelity` is document 01's data, which is a word of antt
@@ -48,9 +48,9 @@ unfoldable pub fixed : Jobs → Given → ℕ → ℕ → Buffers
 fixed J G zero c = J .start G c
 fixed J G (suc p) c = next J G (p % 5) (p / 5) (fixed J G p) c
 
--- the condition of job 5: "any plane value or saved coefficient is NaN or infinite"
-abbrev pub isBlown : Given → ℕ → Buffers → Bool
-isBlown G c b = Blown.isBlown (coefs (G .sheet) c) (b .plane) (b .saved)
+-- the condition of job 5, of channel c with these buffers: "any plane value or saved coefficient is NaN or infinite"
+abbrev pub channelBlown : Given → ℕ → Buffers → Bool
+channelBlown G c b = isBlown (coefs (G .sheet) c) (b .plane) (b .saved)
 
 -- what a job tells of its channel, beside the channel's buffers
 pub record Seen : Type 0 where
@@ -59,7 +59,7 @@ pub record Seen : Type 0 where
 
 -- by the channel's buffers before and after the job
 abbrev pub seen : Jobs → Given → ℕ → Buffers → Buffers → Seen
-seen J G c before after = record { blown = isBlown G c after }
+seen J G c before after = record { blown = channelBlown G c after }
 
 -- of channel c's job after its first p, by the buffers fixed for these counts
 abbrev pub seenAt : Jobs → Given → ℕ → ℕ → Seen

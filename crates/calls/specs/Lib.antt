@@ -5,3 +5,4 @@ pub mod Jobs
 pub mod Calls
 pub mod Demand
 pub mod Between
+pub mod Laws

@@ -2,14 +2,14 @@
 -- The record is kept in two halves: the sheet's numbers, which no call changes, and a place for each channel, which the calls change.
 use Prim.Native.Nat.{ℕ, zero, suc, _+_, _*_, _/_, _%_}
 use mathlib.Core.Bool.{Bool, true, false, not, _&&_, _||_}
-use mathlib.Core.List.{List, [], _∷_}
+use mathlib.Core.List.{List}
 use lib.ListN.{length, getD}
 use lib.Dec.{leb, ltb, eqb}
 use lib.IntN.{ℤ, pos}
 use lib.Ieee.{Float, nan, inf, fin}
 
--- a channel's own sides, its factors and its data weight
-pub record Own : Type 0 where
+-- a channel's own numbers: its sides, its factors and its data weight
+pub record Numbers : Type 0 where
   pub width : ℕ
   pub height : ℕ
   pub across : ℕ
@@ -23,7 +23,7 @@ pub record Sheet : Type 0 where
   pub N : ℕ
   pub smoothing : Float
   pub count : ℕ
-  pub owns : List Own
+  pub owns : List Numbers
 
 -- a channel's position, which counts its accepted jobs, and whether it is marked blown
 pub record Place : Type 0 where
@@ -38,7 +38,7 @@ pub record Given : Type 0 where
 
 -- ---- channel c's own numbers and its place
 
-abbrev pub own : Sheet → ℕ → Own
+abbrev pub own : Sheet → ℕ → Numbers
 own S c = getD (S .owns) c (record { width = 0; height = 0; across = 0; down = 0; data-weight = nan })
 
 abbrev pub fresh : Place
@@ -100,7 +100,7 @@ weight (inf s) = false
 weight (fin s m e) = not s
 
 -- "w × across ≤ W, h × down ≤ H"
-unfoldable pub ownOk : Sheet → Own → Bool
+unfoldable pub ownOk : Sheet → Numbers → Bool
 ownOk S o =
     side (o .width) && side (o .height) && factor (o .across) && factor (o .down)
     && leb (o .width * o .across) (S .W) && leb (o .height * o .down) (S .H) && weight (o .data-weight)

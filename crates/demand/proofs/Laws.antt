@@ -1,30 +1,26 @@
 -- The solver's jobs meet the laws that demand 3 uses.
-use mathlib.Core.Path.{_≡_, refl, ap, _∙_, sym, subst}
-use mathlib.Core.Bool.{false}
+use mathlib.Core.Path.{_≡_, refl, _∙_}
 use mathlib.Core.List.{List, [], _∷_}
 use lib.Dec.{T, leb, leb→le}
 use lib.Ieee.Fits.{and-l, and-r}
 use Prim.Native.Nat.{ℕ, zero, suc, _+_, _-_, _*_, _%_, _<_, _≤_}
 use native.Mathlib.Omega.{arith}
 use lib.IntN.{ℤ, pos, natAbs}
-use lib.ListN.{length, getD, drop}
+use lib.ListN.{getD, drop}
 use lib.Seq.{getD-take, getD-drop}
-use lib.Ieee.{Float, nan}
 use Rattle.fold.specs.Part.{part}
-use Rattle.interval.specs.Interval.{InInterval}
 use Rattle.start.specs.Buffers.{Buffers}
-use Rattle.projection.specs.Blown.{bad}
-use Rattle.start.specs.Coef.{Coef, Covers, levelAt, quantAt, pxCount}
+use Rattle.start.specs.Coef.{Covers, levelAt, quantAt, pxCount}
 use Rattle.solver.specs.Solver as Solver
-use Rattle.solver.specs.Solver.{starting, pushing, fitting, blending, moving, projecting}
+use Rattle.solver.specs.Solver.{starting, blending, projecting}
 use Rattle.solver.proofs.Laws as Solver-laws
 use Rattle.calls.specs.Run.{Sheet, Given, own, count, area, coefs, level, quantiser, levelsBefore}
-use Rattle.calls.specs.Buffers.{Name, Plane, Prior, Gradient, Across, Down, Saved, get, channel, Sized}
+use Rattle.calls.specs.Buffers.{channel, Sized}
 use Rattle.calls.specs.Jobs.{Job, push, fidelity, move, project}
 use Rattle.calls.specs.Calls.{all, levelOk, tableOk}
 use Rattle.calls.specs.Demand.{SavedIn}
 use Rattle.calls.specs.Between.{GivenOk, AllIn}
-use Rattle.calls.proofs.Laws.{Laws}
+use Rattle.calls.specs.Laws.{Laws}
 use Rattle.calls.proofs.Facts.{SheetIs, sheet-is}
 use Rattle.calls.proofs.Tests.{all-part, all-anywhere}
 use Rattle.demand.specs.Solver.{coefOf, constantsOf, work, jobs}
@@ -85,28 +81,16 @@ module _ (G : Given) (ok : GivenOk G) (c : ℕ) (h : c < count G) where
       }
 
   -- a saved coefficient is in the run's interval where it is in the channel's
-  saved-in : (b : Buffers) (k : ℕ) → k < coefs (G .sheet) c → Solver.SavedIn (coefOf G c) k b → SavedIn G c k b
+  saved-in : (b : Buffers) (k : ℕ) → k < coefs (G .sheet) c → Solver.CoefIn (coefOf G c) k b → SavedIn G c k b
   saved-in b k l i = rw (coef-level G c k l, coef-quant G c k) at i
 
--- ---- lengths, as the model names the six
-
-sized : (n : ℕ) (b : Buffers) → Solver.Sized n b → Sized n b
-sized n b z Plane = z .plane-long
-sized n b z Prior = z .prior-long
-sized n b z Gradient = z .gradient-long
-sized n b z Across = z .across-long
-sized n b z Down = z .down-long
-sized n b z Saved = z .saved-long
-
-six : (n : ℕ) (b : Buffers) → Sized n b → Solver.Sized n b
-six n b z =
-    record { plane-long = z Plane; prior-long = z Prior; gradient-long = z Gradient; across-long = z Across; down-long = z Down; saved-long = z Saved }
+-- ---- lengths
 
 work-sized : (j : Job) (G : Given) (c step : ℕ) (b : Buffers) → Sized (area G) b → Sized (area G) (work j G c step b)
-work-sized push G c step b z = sized (area G) _ (Solver-laws.pushing-sized (area G) (constantsOf (G .sheet) step) b (six (area G) b z))
-work-sized fidelity G c step b z = sized (area G) _ (Solver-laws.fitting-sized (coefOf G c) (G .sheet .W) (G .sheet .H) (own (G .sheet) c .data-weight) b (six (area G) b z))
-work-sized move G c step b z = sized (area G) _ (Solver-laws.moving-sized (area G) (constantsOf (G .sheet) step) b (six (area G) b z))
-work-sized project G c step b z = sized (area G) _ (Solver-laws.projecting-sized (coefOf G c) (G .sheet .W) (G .sheet .H) (area G) b (six (area G) b z))
+work-sized push G c step b z = Solver-laws.pushing-sized (area G) (constantsOf (G .sheet) step) b z
+work-sized fidelity G c step b z = Solver-laws.dataJob-sized (coefOf G c) (G .sheet .W) (G .sheet .H) (own (G .sheet) c .data-weight) b z
+work-sized move G c step b z = Solver-laws.moving-sized (area G) (constantsOf (G .sheet) step) b z
+work-sized project G c step b z = Solver-laws.projecting-sized (coefOf G c) (G .sheet .W) (G .sheet .H) (area G) b z
 
 -- ---- the laws
 
@@ -122,7 +106,7 @@ blending-in G step c B i = i
 pub laws : Laws jobs
 laws =
     record {
-      start-sized = λ G ok c h. sized (area G) _ (Solver-laws.starting-sized (coefOf G c) (G .sheet .W) (G .sheet .H));
+      start-sized = λ G ok c h. Solver-laws.starting-sized (coefOf G c) (G .sheet .W) (G .sheet .H);
       start-in =
           λ G ok c h k l.
           saved-in G ok c h (starting (coefOf G c) (G .sheet .W) (G .sheet .H)) k l
@@ -131,14 +115,14 @@ laws =
       push-in = λ G ok c step h b z i. stays G c b (work push G c step b) (Solver-laws.pushing-saved (constantsOf (G .sheet) step) b) i;
       fidelity-in =
           λ G ok c step h b z i.
-          stays G c b (work fidelity G c step b) (Solver-laws.fitting-saved (coefOf G c) (G .sheet .W) (G .sheet .H) (own (G .sheet) c .data-weight) b) i;
+          stays G c b (work fidelity G c step b) (Solver-laws.dataJob-saved (coefOf G c) (G .sheet .W) (G .sheet .H) (own (G .sheet) c .data-weight) b) i;
       move-in = λ G ok c step h b z i. stays G c b (work move G c step b) (Solver-laws.moving-saved (constantsOf (G .sheet) step) b) i;
       project-in =
           λ G ok c step h b z i k l f.
           saved-in G ok c h (projecting (coefOf G c) (G .sheet .W) (G .sheet .H) b) k l
-          (Solver-laws.projecting-in (coefOf G c) (G .sheet .W) (G .sheet .H) (covers G ok c h) (legal G ok c h) b (six (area G) b z) k (rw (coef-count G c) l) f);
+          (Solver-laws.projecting-in (coefOf G c) (G .sheet .W) (G .sheet .H) (covers G ok c h) (legal G ok c h) b z k (rw (coef-count G c) l) f);
       blend-sized =
           λ G ok step B z.
-          sized (count G * area G) _ (Solver-laws.blending-sized (count G * area G) (G .sheet .W) (G .sheet .H) (count G) (constantsOf (G .sheet) step) B (six (count G * area G) B z));
+          Solver-laws.blending-sized (count G * area G) (G .sheet .W) (G .sheet .H) (count G) (constantsOf (G .sheet) step) B z;
       blend-in = λ G ok step c h B z i. blending-in G step c B i;
     }

@@ -5,7 +5,7 @@ use Rattle.steps.specs.declared.solve.Constants.{Constants}
 use Rattle.steps.specs.Solve.{constants}
 use Rattle.start.specs.Buffers.{Buffers}
 use Rattle.start.specs.Coef.{Coef, coef}
-use Rattle.solver.specs.Solver.{starting, pushing, fitting, blending, moving, projecting}
+use Rattle.solver.specs.Solver.{starting, pushing, dataJob, blending, moving, projecting}
 use Rattle.calls.specs.Run.{Sheet, Given, own, count, coefs, levelsBefore}
 use Rattle.calls.specs.Jobs.{Job, push, fidelity, move, project, Jobs}
 
@@ -24,7 +24,7 @@ constantsOf S step = constants (S .W) (S .H) (S .N) (S .smoothing) step
 
 abbrev pub work : Job → Given → ℕ → ℕ → Buffers → Buffers
 work push G c step b = pushing (constantsOf (G .sheet) step) b
-work fidelity G c step b = fitting (coefOf G c) (G .sheet .W) (G .sheet .H) (own (G .sheet) c .data-weight) b
+work fidelity G c step b = dataJob (coefOf G c) (G .sheet .W) (G .sheet .H) (own (G .sheet) c .data-weight) b
 work move G c step b = moving (constantsOf (G .sheet) step) b
 work project G c step b = projecting (coefOf G c) (G .sheet .W) (G .sheet .H) b
 

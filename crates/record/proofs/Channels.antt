@@ -11,7 +11,7 @@ use lib.Seq.{getD-take, length-take-le}
 use lib.Dec.{T, eqb, eqb→eq}
 use lib.Ieee.Fits.{and-l, and-r}
 use borrow.Author.Tests.{eq-eqb}
-use Rattle.calls.specs.Run.{Own, Sheet, own, Place, fresh, place, every, among, headerOk}
+use Rattle.calls.specs.Run.{Numbers, Sheet, own, Place, fresh, place, every, among, headerOk}
 use Rattle.record.specs.Model.{ownOf, placeOf, sheetOf, placesOf, noChannel}
 use Rattle.record.specs.declared.Run.{Run}
 use Rattle.record.specs.declared.Channel.{Channel}

@@ -7,7 +7,7 @@ use native.Mathlib.Numerals.{add-one}
 use mathlib.Core.List.{List, [], _∷_, map}
 use lib.ListN.{length, getD, set, take, length-map}
 use lib.Seq.{take-all}
-use Rattle.calls.specs.Run.{Own, Place, fresh, place}
+use Rattle.calls.specs.Run.{Numbers, Place, fresh, place}
 use Rattle.calls.proofs.Tests.{getD-map-lt}
 use Rattle.record.specs.Model.{ownOf, placeOf, sheetOf, placesOf, sheetWith, withPlace, withPlaces, withChannels, placed, noChannel}
 use Rattle.record.specs.declared.Run.{Run}
@@ -46,7 +46,7 @@ owns-stay : (n : ℕ) (xs : List Channel) (ps : List Place) → map ownOf (take 
 owns-stay n [] ps = refl
 owns-stay n (x ∷ xs) [] = refl
 owns-stay zero (x ∷ xs) (p ∷ ps) = refl
-owns-stay (suc n) (x ∷ xs) (p ∷ ps) = ap (λ (l : List Own). ownOf x ∷ l) (owns-stay n xs ps)
+owns-stay (suc n) (x ∷ xs) (p ∷ ps) = ap (λ (l : List Numbers). ownOf x ∷ l) (owns-stay n xs ps)
 
 -- other places, as many as there are
 places-are : (n : ℕ) (xs : List Channel) (ps : List Place) → length ps ≡ length (map placeOf (take n xs)) → map placeOf (take n (withPlaces xs ps)) ≡ ps

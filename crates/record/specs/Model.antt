@@ -6,7 +6,7 @@ use lib.ListN.{take}
 use lib.Ieee.{nan}
 use lib.Dec.{T}
 use lib.IntN.{ℤ}
-use Rattle.calls.specs.Run.{Own, Sheet, Place, Given, legal}
+use Rattle.calls.specs.Run.{Numbers, Sheet, Place, Given, legal}
 use Rattle.calls.specs.Jobs as Jobs
 use Rattle.calls.specs.Calls as Calls
 use Rattle.record.specs.declared.Run.{Run}
@@ -15,14 +15,14 @@ use Rattle.record.specs.declared.Seen.{Seen}
 use Rattle.record.specs.declared.Answer.{Answer}
 use Rattle.record.specs.declared.Answer.the-variants.{Refused, Done, Blown}
 
-abbrev pub ownOf : Channel → Own
+abbrev pub ownOf : Channel → Numbers
 ownOf c = record { width = c .width; height = c .height; across = c .across; down = c .down; data-weight = c .weight }
 
 abbrev pub placeOf : Channel → Place
 placeOf c = record { position = c .position; mark = c .mark }
 
 -- the sheet's half, with these own numbers of the channels
-abbrev pub sheetWith : Run → List Own → Sheet
+abbrev pub sheetWith : Run → List Numbers → Sheet
 sheetWith r os = record { W = r .w; H = r .h; N = r .n; smoothing = r .smoothing; count = r .count; owns = os }
 
 abbrev pub sheetOf : Run → Sheet

@@ -13,7 +13,7 @@ use Rattle.projection.proofs.Lengths.{BoxLong, projected-long}
 use Rattle.calls.specs.Run.{Given, own, count, area, coefs}
 use Rattle.calls.specs.Buffers.{partOf, channel, putChannel}
 use Rattle.calls.proofs.Parts.{put-part, length-part, length-put, part-put-same}
-use Rattle.solver.specs.Solver.{pushing, fitting, moving, projecting}
+use Rattle.solver.specs.Solver.{pushing, dataJob, moving, projecting}
 use Rattle.demand.specs.Solver.{coefOf}
 use Rattle.run.specs.Public.{forPush, forData, forMove, forProject}
 use Rattle.run.specs.Parts.{partBox, fittedPart, projectedBox, projectedPart, blownPart}
@@ -53,9 +53,9 @@ module _ (n c : ℕ) (o : Buffers) (k : Constants) where
 module _ (G : Given) (c : ℕ) (o : Buffers) where
   pub data-buffers : (gradient saved : List Float)
       → putChannel (area G) c (forData o gradient saved)
-      (fitting (coefOf G c) (G .sheet .W) (G .sheet .H) (own (G .sheet) c .data-weight) (channel (area G) c (forData o gradient saved)))
+      (dataJob (coefOf G c) (G .sheet .W) (G .sheet .H) (own (G .sheet) c .data-weight) (channel (area G) c (forData o gradient saved)))
       ≡ forData o (fittedPart G c gradient saved) saved
-  unfolding channel putChannel fitting
+  unfolding channel putChannel dataJob
   data-buffers gradient saved =
       λ i.
       record {

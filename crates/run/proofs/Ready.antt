@@ -14,7 +14,7 @@ use Rattle.calls.specs.Run.{place}
 use Rattle.calls.specs.Buffers.{putChannel}
 use Rattle.calls.specs.Jobs.{Job, project, Call, on, blend, turn, Seen}
 use Rattle.calls.specs.Calls as Calls
-use Rattle.calls.specs.Calls.{all, lengths, lent, lentLevels, refusal, call, settle, accept, worked, told, reply, advance, marked}
+use Rattle.calls.specs.Calls.{all, lengths, lent, lentLevels, refusal, call, settle, accept, worked, seenIn, reply, advance, marked}
 use Rattle.calls.proofs.Tests.{passed-all}
 use Rattle.calls.proofs.Legal.{Ready, ready-of}
 use Rattle.demand.specs.Solver.{jobs}
@@ -28,7 +28,7 @@ use Rattle.run.specs.Public.{Result, result, gave, stateOf, callOf}
 
 -- ---- refused
 
-pub settled : (r : Run) (B : Buffers) (t : ℕ) → t ≢ 0 → (o : Calls.Outcome) → result r (settle t (stateOf r B) o) ≡ gave (Refused t) r B
+pub settled : (r : Run) (B : Buffers) (t : ℕ) → t ≢ 0 → (o : Calls.Called) → result r (settle t (stateOf r B) o) ≡ gave (Refused t) r B
 settled r B zero n o = absurd (n refl)
 settled r B (suc t) n o = ap (λ (q : Run). gave (Refused (suc t)) q B) (placed-same r)
 
@@ -88,7 +88,7 @@ blendable r levels tables ls e =
 -- an accepted job of channel c: with the record r′ and the buffers B′ afterwards
 module _ (r : Run) (levels : List ℤ) (tables : List ℕ) (j : Job) (c : ℕ) (B : Buffers) where
   abbrev x : Seen
-  x = told jobs (givenOf r levels tables) j c (stateOf r B)
+  x = seenIn jobs (givenOf r levels tables) j c (stateOf r B)
 
   pub job-result : refusal (givenOf r levels tables) (placesOf r) (on j c) (lengths (lent (on j c)) B) ≡ 0
       → {r′ : Run} → r′ ≡ placed r (set (placesOf r) c (advance j x (place (placesOf r) c)))
@@ -99,7 +99,7 @@ module _ (r : Run) (levels : List ℤ) (tables : List ℕ) (j : Job) (c : ℕ) (
 -- an accepted project, whose answer says what it tells
 module _ (r : Run) (levels : List ℤ) (tables : List ℕ) (c : ℕ) (B : Buffers) where
   pub project-result : refusal (givenOf r levels tables) (placesOf r) (on project c) (lengths (lent (on project c)) B) ≡ 0
-      → (x : Seen) → told jobs (givenOf r levels tables) project c (stateOf r B) ≡ x
+      → (x : Seen) → seenIn jobs (givenOf r levels tables) project c (stateOf r B) ≡ x
       → (a : Answer) → answerOf a ≡ reply project x
       → {r′ : Run} → r′ ≡ placed r (set (placesOf r) c (marked x (place (placesOf r) c)))
       → {B′ : Buffers} → putChannel (r .w * r .h) c B (worked jobs (givenOf r levels tables) project c (stateOf r B)) ≡ B′

@@ -74,8 +74,7 @@ six-long n B p q g a d s Saved = s
 
 start-sized : (G : Given) (c : ℕ) → Sized (area G) (jobs .start G c)
 start-sized G c =
-    let z = starting-sized (coefOf G c) (G .sheet .W) (G .sheet .H) in
-    six-long (area G) (jobs .start G c) (z .plane-long) (z .prior-long) (z .gradient-long) (z .across-long) (z .down-long) (z .saved-long)
+    starting-sized (coefOf G c) (G .sheet .W) (G .sheet .H)
 
 module _ (G : Given) (B : Buffers) (long : Sized (count G * area G) B) where
   -- the six after the first k channels

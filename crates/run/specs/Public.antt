@@ -20,7 +20,7 @@ pub record Result : Type 0 where
   pub buffers : Buffers
 
 -- the model's outcome, with its places written into the record lent
-abbrev pub result : Run → Calls.Outcome → Result
+abbrev pub result : Run → Calls.Called → Result
 result r o = record { answer = o .answer; run = placed r (o .after .places); buffers = o .after .buffers }
 
 -- what the code gives back

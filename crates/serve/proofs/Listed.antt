@@ -12,7 +12,7 @@ use lib.Seq.{take-all, drop-cons, take-suc-set, append-snoc}
 use Rattle.start.specs.Buffers.{Buffers}
 use Rattle.calls.specs.Run.{Given, Place, Sheet}
 use Rattle.calls.specs.Jobs.{Call, on, blend}
-use Rattle.calls.specs.Calls.{State, Outcome, settle, accept, refusal, lengths, lent, call, answers, final, onward}
+use Rattle.calls.specs.Calls.{State, Called, settle, accept, refusal, lengths, lent, call, answers, final, onward}
 use Rattle.demand.specs.Solver.{jobs}
 use Rattle.record.specs.declared.Run.{Run}
 use Rattle.record.specs.declared.Answer.{Answer}
@@ -29,7 +29,7 @@ module _ (G : Given) where
   accept-long (on j c) s = simp length-set
   accept-long blend s = length-map (s .places) onward
 
-  pub settle-long : (t : ℕ) (s : State) (o : Outcome) → length (o .after .places) ≡ length (s .places) → length (settle t s o .after .places) ≡ length (s .places)
+  pub settle-long : (t : ℕ) (s : State) (o : Called) → length (o .after .places) ≡ length (s .places) → length (settle t s o .after .places) ≡ length (s .places)
   settle-long zero s o e = e
   settle-long (suc t) s o e = refl
 

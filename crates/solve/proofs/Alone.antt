@@ -19,7 +19,7 @@ use Rattle.fold.specs.Part.{part, splice}
 use Rattle.fold.proofs.Parts.{part-length}
 use Rattle.start.specs.Buffers.{Buffers}
 use Rattle.contents.specs.declared.Sheet.{Sheet}
-use Rattle.calls.specs.Run.{Own, Given, own, count, coefs, levelsBefore, every, among}
+use Rattle.calls.specs.Run.{Numbers, Given, own, count, coefs, levelsBefore, every, among}
 use Rattle.calls.specs.Buffers.{Name, Plane, Prior, Gradient, Across, Down, Saved, get, joined, channel, putChannel, Sized}
 use Rattle.calls.specs.Calls.{done, blown, all, allSix, lengths, tableOk, levelOk, lendTests, startRefusal}
 use Rattle.calls.proofs.Parts.{channel-sized, put-sized, put-same, put-other, joined-channels}
@@ -122,7 +122,7 @@ own-coefs S (suc (suc (suc c))) h = absurd (omega arith)
 same-coefs : (S : Sheet) → Legal (joint S) → (c : ℕ) → c < S .header .channels → coefs (sheetOf (joint S)) c ≡ coefs (sheetOf (alone S c)) 0
 same-coefs S ok c h =
     let below : c < joint S .count = below-joint S c h in
-    ap (λ (o : Own). o .width * o .height) (at-own (joint S) c (omega (arith, count-3 (joint S) ok, channels-3 S)) below)
+    ap (λ (o : Numbers). o .width * o .height) (at-own (joint S) c (omega (arith, count-3 (joint S) ok, channels-3 S)) below)
     ∙ own-coefs S c (omega (arith, count-3 (joint S) ok))
 
 -- ---- where channel c's part lies

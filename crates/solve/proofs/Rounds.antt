@@ -13,7 +13,7 @@ use Rattle.calls.specs.Run.{Given, Sheet, Place, place, count, among, every}
 use Rattle.calls.specs.Jobs.{Job, on, blend, turn, blendTurn, Jobs, Seen, seenAt}
 use Rattle.calls.specs.Calls.{State, Plain, done, first, test, turnTests, advance, onward, reply, call, plain, plainAccept, plainSettle}
 use Rattle.calls.specs.Between.{GivenOk, Inv}
-use Rattle.calls.proofs.Laws.{Laws}
+use Rattle.calls.specs.Laws.{Laws}
 use Rattle.calls.proofs.Tests.{skip}
 use Rattle.calls.proofs.Step.{call-good}
 

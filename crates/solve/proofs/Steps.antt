@@ -16,9 +16,9 @@ use borrow.Author.Tests.{lt-ltb, le-ltb}
 use Rattle.start.specs.Buffers.{Buffers}
 use Rattle.calls.specs.Run.{Given, Sheet, Place, fresh, place, count, area, among}
 use Rattle.calls.specs.Buffers.{Plane, Prior, Gradient, Across, Down, Saved, Sized}
-use Rattle.calls.specs.Jobs.{Job, push, fidelity, move, project, Call, on, blend, turn, fixed, isBlown, Seen, seenAt}
+use Rattle.calls.specs.Jobs.{Job, push, fidelity, move, project, Call, on, blend, turn, fixed, channelBlown, Seen, seenAt}
 use Rattle.calls.specs.Calls as Calls
-use Rattle.calls.specs.Calls.{Outcome, refused, done, blown, advance, onward, reply, call}
+use Rattle.calls.specs.Calls.{Called, refused, done, blown, advance, onward, reply, call}
 use Rattle.calls.specs.Between.{GivenOk, Inv}
 use Rattle.calls.proofs.Legal.{advance-position, place-here, place-elsewhere}
 use Rattle.calls.proofs.Tests.{getD-map-lt}
@@ -41,7 +41,7 @@ use Rattle.solve.proofs.Rounds.{among-false, among-true, on-answer, on-
 
 module _ (G : Given) (ok : GivenOk G) (r : Run) (B : Buffers) (same : sheetOf r ≡ G .sheet) (inv : Inv jobs G (stateOf r B)) (x : Call)
     (a : Answer) (r′ : Run) (B′ : Buffers) (gives : result r (call jobs G x (stateOf r B)) ≡ gave a r′ B′) where
-  o : Outcome
+  o : Called
   o = call jobs G x (stateOf r B)
 
   good : Inv jobs G (call jobs G x (stateOf r B) .after)
@@ -261,7 +261,7 @@ module _ (G : Given) (ok : GivenOk G) (p : ℕ) (left : p < 5 * G .sheet .N) (i 
                     ∙ ap (λ (b : Bool). cond b (suc p) p) (sym (ap (λ (k : ℕ). passed k (suc i) c) t ∙ lt-ltb 0 (suc i) (omega arith)));
                 unmarked = λ c h. ap (λ (k : Place). k .mark) (each c h) ∙ w .unmarked c h;
               },
-              ap (λ (k : ℕ). eqb k 4 && isBlown G i (fixed jobs G (suc p) i)) t,
+              ap (λ (k : ℕ). eqb k 4 && channelBlown G i (fixed jobs G (suc p) i)) t,
             )
 
   -- the round's next call, by the job's number
@@ -315,7 +315,7 @@ none-blown G p e = go (job-of (p % 5) (omega arith))
   where
     go : ((j : Job) × (p % 5 ≡ turn j)) ⊎ (p % 5 ≡ 2) → roundBlows G p ≡ false
     go (inl q) = ap (λ (n : ℕ). among n (λ c. blowsAt G c p)) (sym (turns-are (q .0) p (q .1) (count G))) ∙ e
-    go (inr t) = among-false (count G) (λ c. blowsAt G c p) (λ c h. ap (λ (k : ℕ). eqb k 4 && isBlown G c (fixed jobs G (suc p) c)) t)
+    go (inr t) = among-false (count G) (λ c. blowsAt G c p) (λ c h. ap (λ (k : ℕ). eqb k 4 && channelBlown G c (fixed jobs G (suc p) c)) t)
 
 -- ---- a round's loop: after i of n calls
 

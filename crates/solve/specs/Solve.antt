@@ -16,7 +16,7 @@ use Rattle.contents.specs.Sheets.{channelAt}
 use Rattle.start.specs.Buffers.{Buffers}
 use Rattle.calls.specs.Run.{Given, count, levelsBefore, every, among, legal}
 use Rattle.calls.specs.Buffers.{Name, get, joined}
-use Rattle.calls.specs.Jobs.{fixed, isBlown}
+use Rattle.calls.specs.Jobs.{fixed, channelBlown}
 use Rattle.calls.specs.Calls as Calls
 use Rattle.calls.specs.Calls.{lengths, allSix, startRefusal}
 use Rattle.demand.specs.Solver.{jobs}
@@ -88,7 +88,7 @@ jobCount G = 5 * G .sheet .N
 
 -- Job k of channel c, counted from 0, leaves it blown: it is a project, after which the condition of job 5 holds.
 unfoldable pub blowsAt : Given → ℕ → ℕ → Bool
-blowsAt G c k = eqb (k % 5) 4 && isBlown G c (fixed jobs G (suc k) c)
+blowsAt G c k = eqb (k % 5) 4 && channelBlown G c (fixed jobs G (suc k) c)
 
 -- any of the run's jobs does
 unfoldable pub runBlows : Given → Bool

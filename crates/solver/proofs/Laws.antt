@@ -25,86 +25,74 @@ use Rattle.fidelity.proofs.Lengths.{dataGradient-length}
 use Rattle.start.proofs.Lengths.{initDctTarget-length, initPixels-length}
 use Rattle.start.proofs.Writes.{initDctTarget-at}
 use Rattle.projection.proofs.Writes.{projected-saved}
-use Rattle.solver.specs.Solver.{AllIn, Legal, SavedIn, Sized, blending, boxOf, fitting, moving, projecting, pushing, starting}
+use Rattle.calls.specs.Buffers.{Plane, Prior, Gradient, Across, Down, Saved, Sized}
+use Rattle.solver.specs.Solver.{CoefsIn, Legal, CoefIn, blending, boxOf, dataJob, moving, projecting, pushing, starting}
 
 -- ---- lengths
 
 pub starting-sized : (C : Coef) (W H : ℕ) → Sized (W * H) (starting C W H)
 unfolding auxInit
-starting-sized C W H =
-    let z = length-replicate (W * H) f0 in
-    record {
-      plane-long = initPixels-length C W H;
-      prior-long = initPixels-length C W H;
-      gradient-long = z;
-      across-long = z;
-      down-long = z;
-      saved-long = initDctTarget-length C (replicate (W * H) f0) ∙ z;
-    }
+starting-sized C W H Plane = initPixels-length C W H
+starting-sized C W H Prior = initPixels-length C W H
+starting-sized C W H Gradient = length-replicate (W * H) f0
+starting-sized C W H Across = length-replicate (W * H) f0
+starting-sized C W H Down = length-replicate (W * H) f0
+starting-sized C W H Saved = initDctTarget-length C (replicate (W * H) f0) ∙ length-replicate (W * H) f0
 
 pub pushing-sized : (n : ℕ) (k : Constants) (b : Buffers) → Sized n b → Sized n (pushing k b)
 unfolding pushing
-pushing-sized n k b z =
-    record {
-      plane-long = push-plane-length (k .factor) (record { plane = b .plane; prior = b .prior }) ∙ z .plane-long;
-      prior-long = push-prior-length (k .factor) (record { plane = b .plane; prior = b .prior }) ∙ z .prior-long;
-      gradient-long = z .gradient-long;
-      across-long = z .across-long;
-      down-long = z .down-long;
-      saved-long = z .saved-long;
-    }
+pushing-sized n k b z Plane = push-plane-length (k .factor) (record { plane = b .plane; prior = b .prior }) ∙ z Plane
+pushing-sized n k b z Prior = push-prior-length (k .factor) (record { plane = b .plane; prior = b .prior }) ∙ z Prior
+pushing-sized n k b z Gradient = z Gradient
+pushing-sized n k b z Across = z Across
+pushing-sized n k b z Down = z Down
+pushing-sized n k b z Saved = z Saved
 
-pub fitting-sized : (C : Coef) (W H : ℕ) (weight : Float) (b : Buffers) → Sized (W * H) b → Sized (W * H) (fitting C W H weight b)
-unfolding fitting
-fitting-sized C W H weight b z =
-    record {
-      plane-long = z .plane-long;
-      prior-long = z .prior-long;
-      gradient-long = dataGradient-length C W H weight (b .saved);
-      across-long = z .across-long;
-      down-long = z .down-long;
-      saved-long = z .saved-long;
-    }
+pub dataJob-sized : (C : Coef) (W H : ℕ) (weight : Float) (b : Buffers) → Sized (W * H) b → Sized (W * H) (dataJob C W H weight b)
+unfolding dataJob
+dataJob-sized C W H weight b z Plane = z Plane
+dataJob-sized C W H weight b z Prior = z Prior
+dataJob-sized C W H weight b z Gradient = dataGradient-length C W H weight (b .saved)
+dataJob-sized C W H weight b z Across = z Across
+dataJob-sized C W H weight b z Down = z Down
+dataJob-sized C W H weight b z Saved = z Saved
 
-pub blending-sized : (m W H n : ℕ) (k : Constants) (b : Buffers) → Sized m b → Sized m (blending W H n k b)
-unfolding blending
-blending-sized m W H n k b z =
-    let t : Terms = record { gradient = b .gradient; across = b .across; down = b .down } in
-    record {
-      plane-long = z .plane-long;
-      prior-long = z .prior-long;
-      gradient-long = blended-gradient-length W H n (k .second) (b .plane) t ∙ z .gradient-long;
-      across-long = blended-across-length W H n (k .second) (b .plane) t ∙ z .across-long;
-      down-long = blended-down-length W H n (k .second) (b .plane) t ∙ z .down-long;
-      saved-long = z .saved-long;
-    }
+module _ (m W H n : ℕ) (k : Constants) (b : Buffers) (z : Sized m b) where
+  terms : Terms
+  terms = record { gradient = b .gradient; across = b .across; down = b .down }
+
+  pub blending-sized : Sized m (blending W H n k b)
+  unfolding blending terms
+  blending-sized Plane = z Plane
+  blending-sized Prior = z Prior
+  blending-sized Gradient = blended-gradient-length W H n (k .second) (b .plane) terms ∙ z Gradient
+  blending-sized Across = blended-across-length W H n (k .second) (b .plane) terms ∙ z Across
+  blending-sized Down = blended-down-length W H n (k .second) (b .plane) terms ∙ z Down
+  blending-sized Saved = z Saved
 
 pub moving-sized : (n : ℕ) (k : Constants) (b : Buffers) → Sized n b → Sized n (moving k b)
 unfolding moving
-moving-sized n k b z =
-    record {
-      plane-long = moved-length (k .«step_size») (b .gradient) (b .plane) ∙ z .plane-long;
-      prior-long = z .prior-long;
-      gradient-long = z .gradient-long;
-      across-long = z .across-long;
-      down-long = z .down-long;
-      saved-long = z .saved-long;
-    }
+moving-sized n k b z Plane = moved-length (k .«step_size») (b .gradient) (b .plane) ∙ z Plane
+moving-sized n k b z Prior = z Prior
+moving-sized n k b z Gradient = z Gradient
+moving-sized n k b z Across = z Across
+moving-sized n k b z Down = z Down
+moving-sized n k b z Saved = z Saved
 
-pub projecting-sized : (C : Coef) (W H n : ℕ) (b : Buffers) → Sized n b → Sized n (projecting C W H b)
-unfolding projecting
-projecting-sized C W H n b z =
-    let long : BoxLong n (projectOntoBox C W H (boxOf b)) =
-    projected-long C W H n (boxOf b)
-    (record { plane-long = z .plane-long; across-long = z .across-long; down-long = z .down-long; saved-long = z .saved-long }) in
-    record {
-      plane-long = long .plane-long;
-      prior-long = z .prior-long;
-      gradient-long = z .gradient-long;
-      across-long = long .across-long;
-      down-long = long .down-long;
-      saved-long = long .saved-long;
-    }
+module _ (C : Coef) (W H n : ℕ) (b : Buffers) (z : Sized n b) where
+  long : BoxLong n (projectOntoBox C W H (boxOf b))
+  long =
+      projected-long C W H n (boxOf b)
+      (record { plane-long = z Plane; across-long = z Across; down-long = z Down; saved-long = z Saved })
+
+  pub projecting-sized : Sized n (projecting C W H b)
+  unfolding projecting
+  projecting-sized Plane = long .plane-long
+  projecting-sized Prior = z Prior
+  projecting-sized Gradient = z Gradient
+  projecting-sized Across = long .across-long
+  projecting-sized Down = long .down-long
+  projecting-sized Saved = long .saved-long
 
 -- ---- what each job leaves alone
 
@@ -112,9 +100,9 @@ pub pushing-saved : (k : Constants) (b : Buffers) → pushing k b .saved ≡ b .
 unfolding pushing
 pushing-saved k b = refl
 
-pub fitting-saved : (C : Coef) (W H : ℕ) (weight : Float) (b : Buffers) → fitting C W H weight b .saved ≡ b .saved
-unfolding fitting
-fitting-saved C W H weight b = refl
+pub dataJob-saved : (C : Coef) (W H : ℕ) (weight : Float) (b : Buffers) → dataJob C W H weight b .saved ≡ b .saved
+unfolding dataJob
+dataJob-saved C W H weight b = refl
 
 pub blending-leaves : (W H n : ℕ) (k : Constants) (b : Buffers)
     → (blending W H n k b .plane ≡ b .plane) × (blending W H n k b .prior ≡ b .prior) × (blending W H n k b .saved ≡ b .saved)
@@ -129,14 +117,10 @@ pub projecting-leaves : (C : Coef) (W H : ℕ) (b : Buffers) → (projecting C W
 unfolding projecting
 projecting-leaves C W H b = (refl, refl)
 
--- so saved coefficients that are in their intervals stay there
-pub stays : (C : Coef) (b d : Buffers) → d .saved ≡ b .saved → AllIn C b → AllIn C d
-stays C b d e i k l = rw e (i k l)
-
 -- ---- intervals
 
 module _ (C : Coef) (W H : ℕ) (cover : Covers (C .own) W H) (legal : Legal C) where
-  pub starting-in : AllIn C (starting C W H)
+  pub starting-in : CoefsIn C (starting C W H)
   unfolding auxInit
   starting-in k l =
       let zeros = replicate (W * H) f0 in
@@ -152,11 +136,11 @@ module _ (C : Coef) (W H : ℕ) (cover : Covers (C .own) W H) (legal : Legal C) 
   unfolding projecting
   projecting-saved b z k l =
       let f = own-fits (C .own) W H cover in
-      projected-saved C (cover .eights) W H (boxOf b) (omega (arith, f, z .across-long)) (omega (arith, f, z .saved-long)) k l
+      projected-saved C (cover .eights) W H (boxOf b) (omega (arith, f, z Across)) (omega (arith, f, z Saved)) k l
 
   -- and so is in its interval, if it is finite
   pub projecting-in : (b : Buffers) → Sized (W * H) b → (k : ℕ) → k < pxCount (C .own)
-      → bad (val (projecting C W H b .saved) k) ≡ false → SavedIn C k (projecting C W H b)
+      → bad (val (projecting C W H b .saved) k) ≡ false → CoefIn C k (projecting C W H b)
   projecting-in b z k l f =
       let d = levelAt (C .levels) k in
       let q = quantAt (C .table) (k % 64) in

@@ -1,2 +1,2 @@
--- Laws of the jobs, for demand 3, and the marked examples.
+-- Laws of the jobs, for demand 3.
 pub mod Laws

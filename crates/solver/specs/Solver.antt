@@ -1,9 +1,7 @@
 -- The jobs of document 01, "Jobs and positions", over the definitions of the Rust's files. A buffer that a job does not name is as it was.
-use mathlib.Core.Path.{_≡_}
 use mathlib.Core.Bool.{Bool}
 use Prim.Native.Nat.{ℕ, _%_, _<_, _≤_}
 use lib.IntN.{natAbs}
-use lib.ListN.{length}
 use lib.Ieee.{Float}
 use Rattle.float.specs.Names.{val}
 use Rattle.interval.specs.Interval.{InInterval}
@@ -18,7 +16,7 @@ use Rattle.fidelity.specs.DctGradient.{dataGradient}
 use Rattle.projection.specs.Projection.{Box, projectOntoBox}
 use Rattle.projection.specs.Blown.{isBlown}
 
--- start, of a channel with the coefficients C, at full sides W and H
+-- start, of a channel with the coefficients C, at full sides W and H: "plane and prior are the upsampled start, saved coefficients are level × quantiser, other values 0"
 abbrev pub starting : Coef → ℕ → ℕ → Buffers
 starting C W H = auxInit C W H
 
@@ -29,8 +27,8 @@ pushing k b =
     record { plane = s .plane; prior = s .prior; gradient = b .gradient; across = b .across; down = b .down; saved = b .saved }
 
 -- 2, data
-unfoldable pub fitting : Coef → ℕ → ℕ → Float → Buffers → Buffers
-fitting C W H weight b =
+unfoldable pub dataJob : Coef → ℕ → ℕ → Float → Buffers → Buffers
+dataJob C W H weight b =
     let g = dataGradient C W H weight (b .saved) in
     record { plane = b .plane; prior = b .prior; gradient = g; across = b .across; down = b .down; saved = b .saved }
 
@@ -61,23 +59,14 @@ blown C b = isBlown (pxCount (C .own)) (b .plane) (b .saved)
 
 -- ---- what the laws speak of
 
--- each of the six has n values
-pub record Sized (n : ℕ) (b : Buffers) : Type 0 where
-  pub plane-long : length (b .plane) ≡ n
-  pub prior-long : length (b .prior) ≡ n
-  pub gradient-long : length (b .gradient) ≡ n
-  pub across-long : length (b .across) ≡ n
-  pub down-long : length (b .down) ≡ n
-  pub saved-long : length (b .saved) ≡ n
-
 -- levels within ±2,047 and quantisers up to 255
 pub record Legal (C : Coef) : Type 0 where
   pub levels-ok : (k : ℕ) → natAbs (levelAt (C .levels) k) ≤ 2047
   pub table-ok : (j : ℕ) → quantAt (C .table) j ≤ 255
 
--- saved coefficient k is in the interval of its level and quantiser
-abbrev pub SavedIn : Coef → ℕ → Buffers → Type 0
-SavedIn C k b = InInterval (levelAt (C .levels) k) (levelAt (C .levels) k) (quantAt (C .table) (k % 64)) (val (b .saved) k)
+-- saved coefficient k of a channel with the coefficients C is in the interval of its level and quantiser; and so is every one
+abbrev pub CoefIn : Coef → ℕ → Buffers → Type 0
+CoefIn C k b = InInterval (levelAt (C .levels) k) (levelAt (C .levels) k) (quantAt (C .table) (k % 64)) (val (b .saved) k)
 
-abbrev pub AllIn : Coef → Buffers → Type 0
-AllIn C b = (k : ℕ) → k < pxCount (C .own) → SavedIn C k b
+abbrev pub CoefsIn : Coef → Buffers → Type 0
+CoefsIn C b = (k : ℕ) → k < pxCount (C .own) → CoefIn C k b

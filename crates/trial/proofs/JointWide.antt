@@ -26,7 +26,7 @@ use Rattle.start.specs.Auxiliary.{initPixels, auxInit}
 use Rattle.fidelity.specs.DctGradient.{cosbOf, cosbsOf, spread, spreadBlock, gradientBlock, dctGradient, dataGradient}
 use Rattle.projection.specs.Projection.{meanOf, splitAt, split, clampAt, clampBlock, clamped, keep, ontoBox, back, projectFull, projectMeans, projectOntoBox}
 use Rattle.projection.specs.Blown.{isBlown}
-use Rattle.solver.specs.Solver.{pushing, fitting, blending, moving, projecting}
+use Rattle.solver.specs.Solver.{pushing, dataJob, blending, moving, projecting}
 
 unfoldable pub c0 : Coef
 c0 =
@@ -56,7 +56,7 @@ unfoldable pub k0 : Constants
 k0 = record { term = ofBits binary32 1065353216; factor = ofBits binary32 0; «step_size» = ofBits binary32 1082130432; second = ofBits binary32 1046034725 }
 
 pub constants-0 : constants 16 8 1 (ofBits binary32 1050253722) 0 ≡ k0
-unfolding k0 trailingZeros add sub mul div sum round units odd size span climb ofBits ofFields neg ne eq lt ofInt upto mulAdd fused square product half midpoint isqrt halves root clamp fromBlocks toBlocks onLine idct8 dct8 idct8x8 dct8x8 upsamplePixels lowest highest dequantised nextTerm termOf constants pushAt pushed dataAlpha gradientNorm movedBy moved difference bump bumpUnless tvDifferencesAt tvDifferences gNormOf tvChannelDerivatives tvDerivatives store tvGradientPx tvAlpha tvGradient tgvDifferencesAt tgvDifferences g2NormOf tgvBeside tgvUpDown tgvCorners tgvChannelDerivatives tgvDerivatives tgvGradientPx tgvAlpha tgvGradient blended dequantise imageBlock imageData initDctTarget initPixels auxInit cosbOf cosbsOf spread spreadBlock gradientBlock dctGradient dataGradient meanOf change splitAt split clampAt clampBlock clamped keep ontoBox back projectFull projectMeans projectOntoBox isBlown pushing fitting blending moving projecting
+unfolding k0 trailingZeros add sub mul div sum round units odd size span climb ofBits ofFields neg ne eq lt ofInt upto mulAdd fused square product half midpoint isqrt halves root clamp fromBlocks toBlocks onLine idct8 dct8 idct8x8 dct8x8 upsamplePixels lowest highest dequantised nextTerm termOf constants pushAt pushed dataAlpha gradientNorm movedBy moved difference bump bumpUnless tvDifferencesAt tvDifferences gNormOf tvChannelDerivatives tvDerivatives store tvGradientPx tvAlpha tvGradient tgvDifferencesAt tgvDifferences g2NormOf tgvBeside tgvUpDown tgvCorners tgvChannelDerivatives tgvDerivatives tgvGradientPx tgvAlpha tgvGradient blended dequantise imageBlock imageData initDctTarget initPixels auxInit cosbOf cosbsOf spread spreadBlock gradientBlock dctGradient dataGradient meanOf change splitAt split clampAt clampBlock clamped keep ontoBox back projectFull projectMeans projectOntoBox isBlown pushing dataJob blending moving projecting
 constants-0 = refl
 
 unfoldable pub l0 : List Float
@@ -210,77 +210,77 @@ unfoldable pub b5-2 : Buffers
 b5-2 = record { plane = l26; prior = l5; gradient = l13; across = l27; down = l28; saved = l29 }
 
 pub start-0-0 : starting c0 16 8 ≡ b0-0
-unfolding c0 b0-0 l0 l1 l2 trailingZeros add sub mul div sum round units odd size span climb ofBits ofFields neg ne eq lt ofInt upto mulAdd fused square product half midpoint isqrt halves root clamp fromBlocks toBlocks onLine idct8 dct8 idct8x8 dct8x8 upsamplePixels lowest highest dequantised nextTerm termOf constants pushAt pushed dataAlpha gradientNorm movedBy moved difference bump bumpUnless tvDifferencesAt tvDifferences gNormOf tvChannelDerivatives tvDerivatives store tvGradientPx tvAlpha tvGradient tgvDifferencesAt tgvDifferences g2NormOf tgvBeside tgvUpDown tgvCorners tgvChannelDerivatives tgvDerivatives tgvGradientPx tgvAlpha tgvGradient blended dequantise imageBlock imageData initDctTarget initPixels auxInit cosbOf cosbsOf spread spreadBlock gradientBlock dctGradient dataGradient meanOf change splitAt split clampAt clampBlock clamped keep ontoBox back projectFull projectMeans projectOntoBox isBlown pushing fitting blending moving projecting
+unfolding c0 b0-0 l0 l1 l2 trailingZeros add sub mul div sum round units odd size span climb ofBits ofFields neg ne eq lt ofInt upto mulAdd fused square product half midpoint isqrt halves root clamp fromBlocks toBlocks onLine idct8 dct8 idct8x8 dct8x8 upsamplePixels lowest highest dequantised nextTerm termOf constants pushAt pushed dataAlpha gradientNorm movedBy moved difference bump bumpUnless tvDifferencesAt tvDifferences gNormOf tvChannelDerivatives tvDerivatives store tvGradientPx tvAlpha tvGradient tgvDifferencesAt tgvDifferences g2NormOf tgvBeside tgvUpDown tgvCorners tgvChannelDerivatives tgvDerivatives tgvGradientPx tgvAlpha tgvGradient blended dequantise imageBlock imageData initDctTarget initPixels auxInit cosbOf cosbsOf spread spreadBlock gradientBlock dctGradient dataGradient meanOf change splitAt split clampAt clampBlock clamped keep ontoBox back projectFull projectMeans projectOntoBox isBlown pushing dataJob blending moving projecting
 start-0-0 = refl
 
 pub start-0-1 : starting c1 16 8 ≡ b0-1
-unfolding c1 b0-1 l1 l3 l4 trailingZeros add sub mul div sum round units odd size span climb ofBits ofFields neg ne eq lt ofInt upto mulAdd fused square product half midpoint isqrt halves root clamp fromBlocks toBlocks onLine idct8 dct8 idct8x8 dct8x8 upsamplePixels lowest highest dequantised nextTerm termOf constants pushAt pushed dataAlpha gradientNorm movedBy moved difference bump bumpUnless tvDifferencesAt tvDifferences gNormOf tvChannelDerivatives tvDerivatives store tvGradientPx tvAlpha tvGradient tgvDifferencesAt tgvDifferences g2NormOf tgvBeside tgvUpDown tgvCorners tgvChannelDerivatives tgvDerivatives tgvGradientPx tgvAlpha tgvGradient blended dequantise imageBlock imageData initDctTarget initPixels auxInit cosbOf cosbsOf spread spreadBlock gradientBlock dctGradient dataGradient meanOf change splitAt split clampAt clampBlock clamped keep ontoBox back projectFull projectMeans projectOntoBox isBlown pushing fitting blending moving projecting
+unfolding c1 b0-1 l1 l3 l4 trailingZeros add sub mul div sum round units odd size span climb ofBits ofFields neg ne eq lt ofInt upto mulAdd fused square product half midpoint isqrt halves root clamp fromBlocks toBlocks onLine idct8 dct8 idct8x8 dct8x8 upsamplePixels lowest highest dequantised nextTerm termOf constants pushAt pushed dataAlpha gradientNorm movedBy moved difference bump bumpUnless tvDifferencesAt tvDifferences gNormOf tvChannelDerivatives tvDerivatives store tvGradientPx tvAlpha tvGradient tgvDifferencesAt tgvDifferences g2NormOf tgvBeside tgvUpDown tgvCorners tgvChannelDerivatives tgvDerivatives tgvGradientPx tgvAlpha tgvGradient blended dequantise imageBlock imageData initDctTarget initPixels auxInit cosbOf cosbsOf spread spreadBlock gradientBlock dctGradient dataGradient meanOf change splitAt split clampAt clampBlock clamped keep ontoBox back projectFull projectMeans projectOntoBox isBlown pushing dataJob blending moving projecting
 start-0-1 = refl
 
 pub start-0-2 : starting c2 16 8 ≡ b0-2
-unfolding c2 b0-2 l1 l5 l6 trailingZeros add sub mul div sum round units odd size span climb ofBits ofFields neg ne eq lt ofInt upto mulAdd fused square product half midpoint isqrt halves root clamp fromBlocks toBlocks onLine idct8 dct8 idct8x8 dct8x8 upsamplePixels lowest highest dequantised nextTerm termOf constants pushAt pushed dataAlpha gradientNorm movedBy moved difference bump bumpUnless tvDifferencesAt tvDifferences gNormOf tvChannelDerivatives tvDerivatives store tvGradientPx tvAlpha tvGradient tgvDifferencesAt tgvDifferences g2NormOf tgvBeside tgvUpDown tgvCorners tgvChannelDerivatives tgvDerivatives tgvGradientPx tgvAlpha tgvGradient blended dequantise imageBlock imageData initDctTarget initPixels auxInit cosbOf cosbsOf spread spreadBlock gradientBlock dctGradient dataGradient meanOf change splitAt split clampAt clampBlock clamped keep ontoBox back projectFull projectMeans projectOntoBox isBlown pushing fitting blending moving projecting
+unfolding c2 b0-2 l1 l5 l6 trailingZeros add sub mul div sum round units odd size span climb ofBits ofFields neg ne eq lt ofInt upto mulAdd fused square product half midpoint isqrt halves root clamp fromBlocks toBlocks onLine idct8 dct8 idct8x8 dct8x8 upsamplePixels lowest highest dequantised nextTerm termOf constants pushAt pushed dataAlpha gradientNorm movedBy moved difference bump bumpUnless tvDifferencesAt tvDifferences gNormOf tvChannelDerivatives tvDerivatives store tvGradientPx tvAlpha tvGradient tgvDifferencesAt tgvDifferences g2NormOf tgvBeside tgvUpDown tgvCorners tgvChannelDerivatives tgvDerivatives tgvGradientPx tgvAlpha tgvGradient blended dequantise imageBlock imageData initDctTarget initPixels auxInit cosbOf cosbsOf spread spreadBlock gradientBlock dctGradient dataGradient meanOf change splitAt split clampAt clampBlock clamped keep ontoBox back projectFull projectMeans projectOntoBox isBlown pushing dataJob blending moving projecting
 start-0-2 = refl
 
 pub push-1-0 : pushing k0 b0-0 ≡ b1-0
-unfolding c0 b1-0 b0-0 k0 l0 l1 l2 trailingZeros add sub mul div sum round units odd size span climb ofBits ofFields neg ne eq lt ofInt upto mulAdd fused square product half midpoint isqrt halves root clamp fromBlocks toBlocks onLine idct8 dct8 idct8x8 dct8x8 upsamplePixels lowest highest dequantised nextTerm termOf constants pushAt pushed dataAlpha gradientNorm movedBy moved difference bump bumpUnless tvDifferencesAt tvDifferences gNormOf tvChannelDerivatives tvDerivatives store tvGradientPx tvAlpha tvGradient tgvDifferencesAt tgvDifferences g2NormOf tgvBeside tgvUpDown tgvCorners tgvChannelDerivatives tgvDerivatives tgvGradientPx tgvAlpha tgvGradient blended dequantise imageBlock imageData initDctTarget initPixels auxInit cosbOf cosbsOf spread spreadBlock gradientBlock dctGradient dataGradient meanOf change splitAt split clampAt clampBlock clamped keep ontoBox back projectFull projectMeans projectOntoBox isBlown pushing fitting blending moving projecting
+unfolding c0 b1-0 b0-0 k0 l0 l1 l2 trailingZeros add sub mul div sum round units odd size span climb ofBits ofFields neg ne eq lt ofInt upto mulAdd fused square product half midpoint isqrt halves root clamp fromBlocks toBlocks onLine idct8 dct8 idct8x8 dct8x8 upsamplePixels lowest highest dequantised nextTerm termOf constants pushAt pushed dataAlpha gradientNorm movedBy moved difference bump bumpUnless tvDifferencesAt tvDifferences gNormOf tvChannelDerivatives tvDerivatives store tvGradientPx tvAlpha tvGradient tgvDifferencesAt tgvDifferences g2NormOf tgvBeside tgvUpDown tgvCorners tgvChannelDerivatives tgvDerivatives tgvGradientPx tgvAlpha tgvGradient blended dequantise imageBlock imageData initDctTarget initPixels auxInit cosbOf cosbsOf spread spreadBlock gradientBlock dctGradient dataGradient meanOf change splitAt split clampAt clampBlock clamped keep ontoBox back projectFull projectMeans projectOntoBox isBlown pushing dataJob blending moving projecting
 push-1-0 = refl
 
 pub push-1-1 : pushing k0 b0-1 ≡ b1-1
-unfolding c1 b1-1 b0-1 k0 l1 l3 l4 trailingZeros add sub mul div sum round units odd size span climb ofBits ofFields neg ne eq lt ofInt upto mulAdd fused square product half midpoint isqrt halves root clamp fromBlocks toBlocks onLine idct8 dct8 idct8x8 dct8x8 upsamplePixels lowest highest dequantised nextTerm termOf constants pushAt pushed dataAlpha gradientNorm movedBy moved difference bump bumpUnless tvDifferencesAt tvDifferences gNormOf tvChannelDerivatives tvDerivatives store tvGradientPx tvAlpha tvGradient tgvDifferencesAt tgvDifferences g2NormOf tgvBeside tgvUpDown tgvCorners tgvChannelDerivatives tgvDerivatives tgvGradientPx tgvAlpha tgvGradient blended dequantise imageBlock imageData initDctTarget initPixels auxInit cosbOf cosbsOf spread spreadBlock gradientBlock dctGradient dataGradient meanOf change splitAt split clampAt clampBlock clamped keep ontoBox back projectFull projectMeans projectOntoBox isBlown pushing fitting blending moving projecting
+unfolding c1 b1-1 b0-1 k0 l1 l3 l4 trailingZeros add sub mul div sum round units odd size span climb ofBits ofFields neg ne eq lt ofInt upto mulAdd fused square product half midpoint isqrt halves root clamp fromBlocks toBlocks onLine idct8 dct8 idct8x8 dct8x8 upsamplePixels lowest highest dequantised nextTerm termOf constants pushAt pushed dataAlpha gradientNorm movedBy moved difference bump bumpUnless tvDifferencesAt tvDifferences gNormOf tvChannelDerivatives tvDerivatives store tvGradientPx tvAlpha tvGradient tgvDifferencesAt tgvDifferences g2NormOf tgvBeside tgvUpDown tgvCorners tgvChannelDerivatives tgvDerivatives tgvGradientPx tgvAlpha tgvGradient blended dequantise imageBlock imageData initDctTarget initPixels auxInit cosbOf cosbsOf spread spreadBlock gradientBlock dctGradient dataGradient meanOf change splitAt split clampAt clampBlock clamped keep ontoBox back projectFull projectMeans projectOntoBox isBlown pushing dataJob blending moving projecting
 push-1-1 = refl
 
 pub push-1-2 : pushing k0 b0-2 ≡ b1-2
-unfolding c2 b1-2 b0-2 k0 l1 l5 l6 trailingZeros add sub mul div sum round units odd size span climb ofBits ofFields neg ne eq lt ofInt upto mulAdd fused square product half midpoint isqrt halves root clamp fromBlocks toBlocks onLine idct8 dct8 idct8x8 dct8x8 upsamplePixels lowest highest dequantised nextTerm termOf constants pushAt pushed dataAlpha gradientNorm movedBy moved difference bump bumpUnless tvDifferencesAt tvDifferences gNormOf tvChannelDerivatives tvDerivatives store tvGradientPx tvAlpha tvGradient tgvDifferencesAt tgvDifferences g2NormOf tgvBeside tgvUpDown tgvCorners tgvChannelDerivatives tgvDerivatives tgvGradientPx tgvAlpha tgvGradient blended dequantise imageBlock imageData initDctTarget initPixels auxInit cosbOf cosbsOf spread spreadBlock gradientBlock dctGradient dataGradient meanOf change splitAt split clampAt clampBlock clamped keep ontoBox back projectFull projectMeans projectOntoBox isBlown pushing fitting blending moving projecting
+unfolding c2 b1-2 b0-2 k0 l1 l5 l6 trailingZeros add sub mul div sum round units odd size span climb ofBits ofFields neg ne eq lt ofInt upto mulAdd fused square product half midpoint isqrt halves root clamp fromBlocks toBlocks onLine idct8 dct8 idct8x8 dct8x8 upsamplePixels lowest highest dequantised nextTerm termOf constants pushAt pushed dataAlpha gradientNorm movedBy moved difference bump bumpUnless tvDifferencesAt tvDifferences gNormOf tvChannelDerivatives tvDerivatives store tvGradientPx tvAlpha tvGradient tgvDifferencesAt tgvDifferences g2NormOf tgvBeside tgvUpDown tgvCorners tgvChannelDerivatives tgvDerivatives tgvGradientPx tgvAlpha tgvGradient blended dequantise imageBlock imageData initDctTarget initPixels auxInit cosbOf cosbsOf spread spreadBlock gradientBlock dctGradient dataGradient meanOf change splitAt split clampAt clampBlock clamped keep ontoBox back projectFull projectMeans projectOntoBox isBlown pushing dataJob blending moving projecting
 push-1-2 = refl
 
-pub data-2-0 : fitting c0 16 8 (ofBits binary32 1036831949) b1-0 ≡ b2-0
-unfolding c0 b2-0 b1-0 k0 l0 l1 l2 trailingZeros add sub mul div sum round units odd size span climb ofBits ofFields neg ne eq lt ofInt upto mulAdd fused square product half midpoint isqrt halves root clamp fromBlocks toBlocks onLine idct8 dct8 idct8x8 dct8x8 upsamplePixels lowest highest dequantised nextTerm termOf constants pushAt pushed dataAlpha gradientNorm movedBy moved difference bump bumpUnless tvDifferencesAt tvDifferences gNormOf tvChannelDerivatives tvDerivatives store tvGradientPx tvAlpha tvGradient tgvDifferencesAt tgvDifferences g2NormOf tgvBeside tgvUpDown tgvCorners tgvChannelDerivatives tgvDerivatives tgvGradientPx tgvAlpha tgvGradient blended dequantise imageBlock imageData initDctTarget initPixels auxInit cosbOf cosbsOf spread spreadBlock gradientBlock dctGradient dataGradient meanOf change splitAt split clampAt clampBlock clamped keep ontoBox back projectFull projectMeans projectOntoBox isBlown pushing fitting blending moving projecting
+pub data-2-0 : dataJob c0 16 8 (ofBits binary32 1036831949) b1-0 ≡ b2-0
+unfolding c0 b2-0 b1-0 k0 l0 l1 l2 trailingZeros add sub mul div sum round units odd size span climb ofBits ofFields neg ne eq lt ofInt upto mulAdd fused square product half midpoint isqrt halves root clamp fromBlocks toBlocks onLine idct8 dct8 idct8x8 dct8x8 upsamplePixels lowest highest dequantised nextTerm termOf constants pushAt pushed dataAlpha gradientNorm movedBy moved difference bump bumpUnless tvDifferencesAt tvDifferences gNormOf tvChannelDerivatives tvDerivatives store tvGradientPx tvAlpha tvGradient tgvDifferencesAt tgvDifferences g2NormOf tgvBeside tgvUpDown tgvCorners tgvChannelDerivatives tgvDerivatives tgvGradientPx tgvAlpha tgvGradient blended dequantise imageBlock imageData initDctTarget initPixels auxInit cosbOf cosbsOf spread spreadBlock gradientBlock dctGradient dataGradient meanOf change splitAt split clampAt clampBlock clamped keep ontoBox back projectFull projectMeans projectOntoBox isBlown pushing dataJob blending moving projecting
 data-2-0 = refl
 
-pub data-2-1 : fitting c1 16 8 (ofBits binary32 1045220557) b1-1 ≡ b2-1
-unfolding c1 b2-1 b1-1 k0 l1 l3 l4 trailingZeros add sub mul div sum round units odd size span climb ofBits ofFields neg ne eq lt ofInt upto mulAdd fused square product half midpoint isqrt halves root clamp fromBlocks toBlocks onLine idct8 dct8 idct8x8 dct8x8 upsamplePixels lowest highest dequantised nextTerm termOf constants pushAt pushed dataAlpha gradientNorm movedBy moved difference bump bumpUnless tvDifferencesAt tvDifferences gNormOf tvChannelDerivatives tvDerivatives store tvGradientPx tvAlpha tvGradient tgvDifferencesAt tgvDifferences g2NormOf tgvBeside tgvUpDown tgvCorners tgvChannelDerivatives tgvDerivatives tgvGradientPx tgvAlpha tgvGradient blended dequantise imageBlock imageData initDctTarget initPixels auxInit cosbOf cosbsOf spread spreadBlock gradientBlock dctGradient dataGradient meanOf change splitAt split clampAt clampBlock clamped keep ontoBox back projectFull projectMeans projectOntoBox isBlown pushing fitting blending moving projecting
+pub data-2-1 : dataJob c1 16 8 (ofBits binary32 1045220557) b1-1 ≡ b2-1
+unfolding c1 b2-1 b1-1 k0 l1 l3 l4 trailingZeros add sub mul div sum round units odd size span climb ofBits ofFields neg ne eq lt ofInt upto mulAdd fused square product half midpoint isqrt halves root clamp fromBlocks toBlocks onLine idct8 dct8 idct8x8 dct8x8 upsamplePixels lowest highest dequantised nextTerm termOf constants pushAt pushed dataAlpha gradientNorm movedBy moved difference bump bumpUnless tvDifferencesAt tvDifferences gNormOf tvChannelDerivatives tvDerivatives store tvGradientPx tvAlpha tvGradient tgvDifferencesAt tgvDifferences g2NormOf tgvBeside tgvUpDown tgvCorners tgvChannelDerivatives tgvDerivatives tgvGradientPx tgvAlpha tgvGradient blended dequantise imageBlock imageData initDctTarget initPixels auxInit cosbOf cosbsOf spread spreadBlock gradientBlock dctGradient dataGradient meanOf change splitAt split clampAt clampBlock clamped keep ontoBox back projectFull projectMeans projectOntoBox isBlown pushing dataJob blending moving projecting
 data-2-1 = refl
 
-pub data-2-2 : fitting c2 16 8 (ofBits binary32 1056964608) b1-2 ≡ b2-2
-unfolding c2 b2-2 b1-2 k0 l1 l5 l6 trailingZeros add sub mul div sum round units odd size span climb ofBits ofFields neg ne eq lt ofInt upto mulAdd fused square product half midpoint isqrt halves root clamp fromBlocks toBlocks onLine idct8 dct8 idct8x8 dct8x8 upsamplePixels lowest highest dequantised nextTerm termOf constants pushAt pushed dataAlpha gradientNorm movedBy moved difference bump bumpUnless tvDifferencesAt tvDifferences gNormOf tvChannelDerivatives tvDerivatives store tvGradientPx tvAlpha tvGradient tgvDifferencesAt tgvDifferences g2NormOf tgvBeside tgvUpDown tgvCorners tgvChannelDerivatives tgvDerivatives tgvGradientPx tgvAlpha tgvGradient blended dequantise imageBlock imageData initDctTarget initPixels auxInit cosbOf cosbsOf spread spreadBlock gradientBlock dctGradient dataGradient meanOf change splitAt split clampAt clampBlock clamped keep ontoBox back projectFull projectMeans projectOntoBox isBlown pushing fitting blending moving projecting
+pub data-2-2 : dataJob c2 16 8 (ofBits binary32 1056964608) b1-2 ≡ b2-2
+unfolding c2 b2-2 b1-2 k0 l1 l5 l6 trailingZeros add sub mul div sum round units odd size span climb ofBits ofFields neg ne eq lt ofInt upto mulAdd fused square product half midpoint isqrt halves root clamp fromBlocks toBlocks onLine idct8 dct8 idct8x8 dct8x8 upsamplePixels lowest highest dequantised nextTerm termOf constants pushAt pushed dataAlpha gradientNorm movedBy moved difference bump bumpUnless tvDifferencesAt tvDifferences gNormOf tvChannelDerivatives tvDerivatives store tvGradientPx tvAlpha tvGradient tgvDifferencesAt tgvDifferences g2NormOf tgvBeside tgvUpDown tgvCorners tgvChannelDerivatives tgvDerivatives tgvGradientPx tgvAlpha tgvGradient blended dequantise imageBlock imageData initDctTarget initPixels auxInit cosbOf cosbsOf spread spreadBlock gradientBlock dctGradient dataGradient meanOf change splitAt split clampAt clampBlock clamped keep ontoBox back projectFull projectMeans projectOntoBox isBlown pushing dataJob blending moving projecting
 data-2-2 = refl
 
 pub blend-3 : blending 16 8 3 k0 b2 ≡ b3
-unfolding b2 b3 k0 l0 l1 l2 l3 l4 l5 l6 l7 l8 l9 l10 l11 l12 l13 l14 l15 trailingZeros add sub mul div sum round units odd size span climb ofBits ofFields neg ne eq lt ofInt upto mulAdd fused square product half midpoint isqrt halves root clamp fromBlocks toBlocks onLine idct8 dct8 idct8x8 dct8x8 upsamplePixels lowest highest dequantised nextTerm termOf constants pushAt pushed dataAlpha gradientNorm movedBy moved difference bump bumpUnless tvDifferencesAt tvDifferences gNormOf tvChannelDerivatives tvDerivatives store tvGradientPx tvAlpha tvGradient tgvDifferencesAt tgvDifferences g2NormOf tgvBeside tgvUpDown tgvCorners tgvChannelDerivatives tgvDerivatives tgvGradientPx tgvAlpha tgvGradient blended dequantise imageBlock imageData initDctTarget initPixels auxInit cosbOf cosbsOf spread spreadBlock gradientBlock dctGradient dataGradient meanOf change splitAt split clampAt clampBlock clamped keep ontoBox back projectFull projectMeans projectOntoBox isBlown pushing fitting blending moving projecting
+unfolding b2 b3 k0 l0 l1 l2 l3 l4 l5 l6 l7 l8 l9 l10 l11 l12 l13 l14 l15 trailingZeros add sub mul div sum round units odd size span climb ofBits ofFields neg ne eq lt ofInt upto mulAdd fused square product half midpoint isqrt halves root clamp fromBlocks toBlocks onLine idct8 dct8 idct8x8 dct8x8 upsamplePixels lowest highest dequantised nextTerm termOf constants pushAt pushed dataAlpha gradientNorm movedBy moved difference bump bumpUnless tvDifferencesAt tvDifferences gNormOf tvChannelDerivatives tvDerivatives store tvGradientPx tvAlpha tvGradient tgvDifferencesAt tgvDifferences g2NormOf tgvBeside tgvUpDown tgvCorners tgvChannelDerivatives tgvDerivatives tgvGradientPx tgvAlpha tgvGradient blended dequantise imageBlock imageData initDctTarget initPixels auxInit cosbOf cosbsOf spread spreadBlock gradientBlock dctGradient dataGradient meanOf change splitAt split clampAt clampBlock clamped keep ontoBox back projectFull projectMeans projectOntoBox isBlown pushing dataJob blending moving projecting
 blend-3 = refl
 
 pub move-4-0 : moving k0 b3-0 ≡ b4-0
-unfolding c0 b4-0 b3-0 k0 l0 l2 l7 l8 l9 l16 trailingZeros add sub mul div sum round units odd size span climb ofBits ofFields neg ne eq lt ofInt upto mulAdd fused square product half midpoint isqrt halves root clamp fromBlocks toBlocks onLine idct8 dct8 idct8x8 dct8x8 upsamplePixels lowest highest dequantised nextTerm termOf constants pushAt pushed dataAlpha gradientNorm movedBy moved difference bump bumpUnless tvDifferencesAt tvDifferences gNormOf tvChannelDerivatives tvDerivatives store tvGradientPx tvAlpha tvGradient tgvDifferencesAt tgvDifferences g2NormOf tgvBeside tgvUpDown tgvCorners tgvChannelDerivatives tgvDerivatives tgvGradientPx tgvAlpha tgvGradient blended dequantise imageBlock imageData initDctTarget initPixels auxInit cosbOf cosbsOf spread spreadBlock gradientBlock dctGradient dataGradient meanOf change splitAt split clampAt clampBlock clamped keep ontoBox back projectFull projectMeans projectOntoBox isBlown pushing fitting blending moving projecting
+unfolding c0 b4-0 b3-0 k0 l0 l2 l7 l8 l9 l16 trailingZeros add sub mul div sum round units odd size span climb ofBits ofFields neg ne eq lt ofInt upto mulAdd fused square product half midpoint isqrt halves root clamp fromBlocks toBlocks onLine idct8 dct8 idct8x8 dct8x8 upsamplePixels lowest highest dequantised nextTerm termOf constants pushAt pushed dataAlpha gradientNorm movedBy moved difference bump bumpUnless tvDifferencesAt tvDifferences gNormOf tvChannelDerivatives tvDerivatives store tvGradientPx tvAlpha tvGradient tgvDifferencesAt tgvDifferences g2NormOf tgvBeside tgvUpDown tgvCorners tgvChannelDerivatives tgvDerivatives tgvGradientPx tgvAlpha tgvGradient blended dequantise imageBlock imageData initDctTarget initPixels auxInit cosbOf cosbsOf spread spreadBlock gradientBlock dctGradient dataGradient meanOf change splitAt split clampAt clampBlock clamped keep ontoBox back projectFull projectMeans projectOntoBox isBlown pushing dataJob blending moving projecting
 move-4-0 = refl
 
 pub move-4-1 : moving k0 b3-1 ≡ b4-1
-unfolding c1 b4-1 b3-1 k0 l3 l4 l10 l11 l12 l17 trailingZeros add sub mul div sum round units odd size span climb ofBits ofFields neg ne eq lt ofInt upto mulAdd fused square product half midpoint isqrt halves root clamp fromBlocks toBlocks onLine idct8 dct8 idct8x8 dct8x8 upsamplePixels lowest highest dequantised nextTerm termOf constants pushAt pushed dataAlpha gradientNorm movedBy moved difference bump bumpUnless tvDifferencesAt tvDifferences gNormOf tvChannelDerivatives tvDerivatives store tvGradientPx tvAlpha tvGradient tgvDifferencesAt tgvDifferences g2NormOf tgvBeside tgvUpDown tgvCorners tgvChannelDerivatives tgvDerivatives tgvGradientPx tgvAlpha tgvGradient blended dequantise imageBlock imageData initDctTarget initPixels auxInit cosbOf cosbsOf spread spreadBlock gradientBlock dctGradient dataGradient meanOf change splitAt split clampAt clampBlock clamped keep ontoBox back projectFull projectMeans projectOntoBox isBlown pushing fitting blending moving projecting
+unfolding c1 b4-1 b3-1 k0 l3 l4 l10 l11 l12 l17 trailingZeros add sub mul div sum round units odd size span climb ofBits ofFields neg ne eq lt ofInt upto mulAdd fused square product half midpoint isqrt halves root clamp fromBlocks toBlocks onLine idct8 dct8 idct8x8 dct8x8 upsamplePixels lowest highest dequantised nextTerm termOf constants pushAt pushed dataAlpha gradientNorm movedBy moved difference bump bumpUnless tvDifferencesAt tvDifferences gNormOf tvChannelDerivatives tvDerivatives store tvGradientPx tvAlpha tvGradient tgvDifferencesAt tgvDifferences g2NormOf tgvBeside tgvUpDown tgvCorners tgvChannelDerivatives tgvDerivatives tgvGradientPx tgvAlpha tgvGradient blended dequantise imageBlock imageData initDctTarget initPixels auxInit cosbOf cosbsOf spread spreadBlock gradientBlock dctGradient dataGradient meanOf change splitAt split clampAt clampBlock clamped keep ontoBox back projectFull projectMeans projectOntoBox isBlown pushing dataJob blending moving projecting
 move-4-1 = refl
 
 pub move-4-2 : moving k0 b3-2 ≡ b4-2
-unfolding c2 b4-2 b3-2 k0 l5 l6 l13 l14 l15 l18 trailingZeros add sub mul div sum round units odd size span climb ofBits ofFields neg ne eq lt ofInt upto mulAdd fused square product half midpoint isqrt halves root clamp fromBlocks toBlocks onLine idct8 dct8 idct8x8 dct8x8 upsamplePixels lowest highest dequantised nextTerm termOf constants pushAt pushed dataAlpha gradientNorm movedBy moved difference bump bumpUnless tvDifferencesAt tvDifferences gNormOf tvChannelDerivatives tvDerivatives store tvGradientPx tvAlpha tvGradient tgvDifferencesAt tgvDifferences g2NormOf tgvBeside tgvUpDown tgvCorners tgvChannelDerivatives tgvDerivatives tgvGradientPx tgvAlpha tgvGradient blended dequantise imageBlock imageData initDctTarget initPixels auxInit cosbOf cosbsOf spread spreadBlock gradientBlock dctGradient dataGradient meanOf change splitAt split clampAt clampBlock clamped keep ontoBox back projectFull projectMeans projectOntoBox isBlown pushing fitting blending moving projecting
+unfolding c2 b4-2 b3-2 k0 l5 l6 l13 l14 l15 l18 trailingZeros add sub mul div sum round units odd size span climb ofBits ofFields neg ne eq lt ofInt upto mulAdd fused square product half midpoint isqrt halves root clamp fromBlocks toBlocks onLine idct8 dct8 idct8x8 dct8x8 upsamplePixels lowest highest dequantised nextTerm termOf constants pushAt pushed dataAlpha gradientNorm movedBy moved difference bump bumpUnless tvDifferencesAt tvDifferences gNormOf tvChannelDerivatives tvDerivatives store tvGradientPx tvAlpha tvGradient tgvDifferencesAt tgvDifferences g2NormOf tgvBeside tgvUpDown tgvCorners tgvChannelDerivatives tgvDerivatives tgvGradientPx tgvAlpha tgvGradient blended dequantise imageBlock imageData initDctTarget initPixels auxInit cosbOf cosbsOf spread spreadBlock gradientBlock dctGradient dataGradient meanOf change splitAt split clampAt clampBlock clamped keep ontoBox back projectFull projectMeans projectOntoBox isBlown pushing dataJob blending moving projecting
 move-4-2 = refl
 
 pub project-5-0 : projecting c0 16 8 b4-0 ≡ b5-0
-unfolding c0 b5-0 b4-0 k0 l0 l2 l7 l8 l9 l16 l19 l20 l21 trailingZeros add sub mul div sum round units odd size span climb ofBits ofFields neg ne eq lt ofInt upto mulAdd fused square product half midpoint isqrt halves root clamp fromBlocks toBlocks onLine idct8 dct8 idct8x8 dct8x8 upsamplePixels lowest highest dequantised nextTerm termOf constants pushAt pushed dataAlpha gradientNorm movedBy moved difference bump bumpUnless tvDifferencesAt tvDifferences gNormOf tvChannelDerivatives tvDerivatives store tvGradientPx tvAlpha tvGradient tgvDifferencesAt tgvDifferences g2NormOf tgvBeside tgvUpDown tgvCorners tgvChannelDerivatives tgvDerivatives tgvGradientPx tgvAlpha tgvGradient blended dequantise imageBlock imageData initDctTarget initPixels auxInit cosbOf cosbsOf spread spreadBlock gradientBlock dctGradient dataGradient meanOf change splitAt split clampAt clampBlock clamped keep ontoBox back projectFull projectMeans projectOntoBox isBlown pushing fitting blending moving projecting
+unfolding c0 b5-0 b4-0 k0 l0 l2 l7 l8 l9 l16 l19 l20 l21 trailingZeros add sub mul div sum round units odd size span climb ofBits ofFields neg ne eq lt ofInt upto mulAdd fused square product half midpoint isqrt halves root clamp fromBlocks toBlocks onLine idct8 dct8 idct8x8 dct8x8 upsamplePixels lowest highest dequantised nextTerm termOf constants pushAt pushed dataAlpha gradientNorm movedBy moved difference bump bumpUnless tvDifferencesAt tvDifferences gNormOf tvChannelDerivatives tvDerivatives store tvGradientPx tvAlpha tvGradient tgvDifferencesAt tgvDifferences g2NormOf tgvBeside tgvUpDown tgvCorners tgvChannelDerivatives tgvDerivatives tgvGradientPx tgvAlpha tgvGradient blended dequantise imageBlock imageData initDctTarget initPixels auxInit cosbOf cosbsOf spread spreadBlock gradientBlock dctGradient dataGradient meanOf change splitAt split clampAt clampBlock clamped keep ontoBox back projectFull projectMeans projectOntoBox isBlown pushing dataJob blending moving projecting
 project-5-0 = refl
 
 pub mark-5-0 : blown c0 b5-0 ≡ false
-unfolding c0 b5-0 l0 l7 l9 l19 l20 l21 trailingZeros add sub mul div sum round units odd size span climb ofBits ofFields neg ne eq lt ofInt upto mulAdd fused square product half midpoint isqrt halves root clamp fromBlocks toBlocks onLine idct8 dct8 idct8x8 dct8x8 upsamplePixels lowest highest dequantised nextTerm termOf constants pushAt pushed dataAlpha gradientNorm movedBy moved difference bump bumpUnless tvDifferencesAt tvDifferences gNormOf tvChannelDerivatives tvDerivatives store tvGradientPx tvAlpha tvGradient tgvDifferencesAt tgvDifferences g2NormOf tgvBeside tgvUpDown tgvCorners tgvChannelDerivatives tgvDerivatives tgvGradientPx tgvAlpha tgvGradient blended dequantise imageBlock imageData initDctTarget initPixels auxInit cosbOf cosbsOf spread spreadBlock gradientBlock dctGradient dataGradient meanOf change splitAt split clampAt clampBlock clamped keep ontoBox back projectFull projectMeans projectOntoBox isBlown pushing fitting blending moving projecting
+unfolding c0 b5-0 l0 l7 l9 l19 l20 l21 trailingZeros add sub mul div sum round units odd size span climb ofBits ofFields neg ne eq lt ofInt upto mulAdd fused square product half midpoint isqrt halves root clamp fromBlocks toBlocks onLine idct8 dct8 idct8x8 dct8x8 upsamplePixels lowest highest dequantised nextTerm termOf constants pushAt pushed dataAlpha gradientNorm movedBy moved difference bump bumpUnless tvDifferencesAt tvDifferences gNormOf tvChannelDerivatives tvDerivatives store tvGradientPx tvAlpha tvGradient tgvDifferencesAt tgvDifferences g2NormOf tgvBeside tgvUpDown tgvCorners tgvChannelDerivatives tgvDerivatives tgvGradientPx tgvAlpha tgvGradient blended dequantise imageBlock imageData initDctTarget initPixels auxInit cosbOf cosbsOf spread spreadBlock gradientBlock dctGradient dataGradient meanOf change splitAt split clampAt clampBlock clamped keep ontoBox back projectFull projectMeans projectOntoBox isBlown pushing dataJob blending moving projecting
 mark-5-0 = refl
 
 pub project-5-1 : projecting c1 16 8 b4-1 ≡ b5-1
-unfolding c1 b5-1 b4-1 k0 l3 l4 l10 l11 l12 l17 l22 l23 l24 l25 trailingZeros add sub mul div sum round units odd size span climb ofBits ofFields neg ne eq lt ofInt upto mulAdd fused square product half midpoint isqrt halves root clamp fromBlocks toBlocks onLine idct8 dct8 idct8x8 dct8x8 upsamplePixels lowest highest dequantised nextTerm termOf constants pushAt pushed dataAlpha gradientNorm movedBy moved difference bump bumpUnless tvDifferencesAt tvDifferences gNormOf tvChannelDerivatives tvDerivatives store tvGradientPx tvAlpha tvGradient tgvDifferencesAt tgvDifferences g2NormOf tgvBeside tgvUpDown tgvCorners tgvChannelDerivatives tgvDerivatives tgvGradientPx tgvAlpha tgvGradient blended dequantise imageBlock imageData initDctTarget initPixels auxInit cosbOf cosbsOf spread spreadBlock gradientBlock dctGradient dataGradient meanOf change splitAt split clampAt clampBlock clamped keep ontoBox back projectFull projectMeans projectOntoBox isBlown pushing fitting blending moving projecting
+unfolding c1 b5-1 b4-1 k0 l3 l4 l10 l11 l12 l17 l22 l23 l24 l25 trailingZeros add sub mul div sum round units odd size span climb ofBits ofFields neg ne eq lt ofInt upto mulAdd fused square product half midpoint isqrt halves root clamp fromBlocks toBlocks onLine idct8 dct8 idct8x8 dct8x8 upsamplePixels lowest highest dequantised nextTerm termOf constants pushAt pushed dataAlpha gradientNorm movedBy moved difference bump bumpUnless tvDifferencesAt tvDifferences gNormOf tvChannelDerivatives tvDerivatives store tvGradientPx tvAlpha tvGradient tgvDifferencesAt tgvDifferences g2NormOf tgvBeside tgvUpDown tgvCorners tgvChannelDerivatives tgvDerivatives tgvGradientPx tgvAlpha tgvGradient blended dequantise imageBlock imageData initDctTarget initPixels auxInit cosbOf cosbsOf spread spreadBlock gradientBlock dctGradient dataGradient meanOf change splitAt split clampAt clampBlock clamped keep ontoBox back projectFull projectMeans projectOntoBox isBlown pushing dataJob blending moving projecting
 project-5-1 = refl
 
 pub mark-5-1 : blown c1 b5-1 ≡ false
-unfolding c1 b5-1 l3 l10 l22 l23 l24 l25 trailingZeros add sub mul div sum round units odd size span climb ofBits ofFields neg ne eq lt ofInt upto mulAdd fused square product half midpoint isqrt halves root clamp fromBlocks toBlocks onLine idct8 dct8 idct8x8 dct8x8 upsamplePixels lowest highest dequantised nextTerm termOf constants pushAt pushed dataAlpha gradientNorm movedBy moved difference bump bumpUnless tvDifferencesAt tvDifferences gNormOf tvChannelDerivatives tvDerivatives store tvGradientPx tvAlpha tvGradient tgvDifferencesAt tgvDifferences g2NormOf tgvBeside tgvUpDown tgvCorners tgvChannelDerivatives tgvDerivatives tgvGradientPx tgvAlpha tgvGradient blended dequantise imageBlock imageData initDctTarget initPixels auxInit cosbOf cosbsOf spread spreadBlock gradientBlock dctGradient dataGradient meanOf change splitAt split clampAt clampBlock clamped keep ontoBox back projectFull projectMeans projectOntoBox isBlown pushing fitting blending moving projecting
+unfolding c1 b5-1 l3 l10 l22 l23 l24 l25 trailingZeros add sub mul div sum round units odd size span climb ofBits ofFields neg ne eq lt ofInt upto mulAdd fused square product half midpoint isqrt halves root clamp fromBlocks toBlocks onLine idct8 dct8 idct8x8 dct8x8 upsamplePixels lowest highest dequantised nextTerm termOf constants pushAt pushed dataAlpha gradientNorm movedBy moved difference bump bumpUnless tvDifferencesAt tvDifferences gNormOf tvChannelDerivatives tvDerivatives store tvGradientPx tvAlpha tvGradient tgvDifferencesAt tgvDifferences g2NormOf tgvBeside tgvUpDown tgvCorners tgvChannelDerivatives tgvDerivatives tgvGradientPx tgvAlpha tgvGradient blended dequantise imageBlock imageData initDctTarget initPixels auxInit cosbOf cosbsOf spread spreadBlock gradientBlock dctGradient dataGradient meanOf change splitAt split clampAt clampBlock clamped keep ontoBox back projectFull projectMeans projectOntoBox isBlown pushing dataJob blending moving projecting
 mark-5-1 = refl
 
 pub project-5-2 : projecting c2 16 8 b4-2 ≡ b5-2
-unfolding c2 b5-2 b4-2 k0 l5 l6 l13 l14 l15 l18 l26 l27 l28 l29 trailingZeros add sub mul div sum round units odd size span climb ofBits ofFields neg ne eq lt ofInt upto mulAdd fused square product half midpoint isqrt halves root clamp fromBlocks toBlocks onLine idct8 dct8 idct8x8 dct8x8 upsamplePixels lowest highest dequantised nextTerm termOf constants pushAt pushed dataAlpha gradientNorm movedBy moved difference bump bumpUnless tvDifferencesAt tvDifferences gNormOf tvChannelDerivatives tvDerivatives store tvGradientPx tvAlpha tvGradient tgvDifferencesAt tgvDifferences g2NormOf tgvBeside tgvUpDown tgvCorners tgvChannelDerivatives tgvDerivatives tgvGradientPx tgvAlpha tgvGradient blended dequantise imageBlock imageData initDctTarget initPixels auxInit cosbOf cosbsOf spread spreadBlock gradientBlock dctGradient dataGradient meanOf change splitAt split clampAt clampBlock clamped keep ontoBox back projectFull projectMeans projectOntoBox isBlown pushing fitting blending moving projecting
+unfolding c2 b5-2 b4-2 k0 l5 l6 l13 l14 l15 l18 l26 l27 l28 l29 trailingZeros add sub mul div sum round units odd size span climb ofBits ofFields neg ne eq lt ofInt upto mulAdd fused square product half midpoint isqrt halves root clamp fromBlocks toBlocks onLine idct8 dct8 idct8x8 dct8x8 upsamplePixels lowest highest dequantised nextTerm termOf constants pushAt pushed dataAlpha gradientNorm movedBy moved difference bump bumpUnless tvDifferencesAt tvDifferences gNormOf tvChannelDerivatives tvDerivatives store tvGradientPx tvAlpha tvGradient tgvDifferencesAt tgvDifferences g2NormOf tgvBeside tgvUpDown tgvCorners tgvChannelDerivatives tgvDerivatives tgvGradientPx tgvAlpha tgvGradient blended dequantise imageBlock imageData initDctTarget initPixels auxInit cosbOf cosbsOf spread spreadBlock gradientBlock dctGradient dataGradient meanOf change splitAt split clampAt clampBlock clamped keep ontoBox back projectFull projectMeans projectOntoBox isBlown pushing dataJob blending moving projecting
 project-5-2 = refl
 
 pub mark-5-2 : blown c2 b5-2 ≡ false
-unfolding c2 b5-2 l5 l13 l26 l27 l28 l29 trailingZeros add sub mul div sum round units odd size span climb ofBits ofFields neg ne eq lt ofInt upto mulAdd fused square product half midpoint isqrt halves root clamp fromBlocks toBlocks onLine idct8 dct8 idct8x8 dct8x8 upsamplePixels lowest highest dequantised nextTerm termOf constants pushAt pushed dataAlpha gradientNorm movedBy moved difference bump bumpUnless tvDifferencesAt tvDifferences gNormOf tvChannelDerivatives tvDerivatives store tvGradientPx tvAlpha tvGradient tgvDifferencesAt tgvDifferences g2NormOf tgvBeside tgvUpDown tgvCorners tgvChannelDerivatives tgvDerivatives tgvGradientPx tgvAlpha tgvGradient blended dequantise imageBlock imageData initDctTarget initPixels auxInit cosbOf cosbsOf spread spreadBlock gradientBlock dctGradient dataGradient meanOf change splitAt split clampAt clampBlock clamped keep ontoBox back projectFull projectMeans projectOntoBox isBlown pushing fitting blending moving projecting
+unfolding c2 b5-2 l5 l13 l26 l27 l28 l29 trailingZeros add sub mul div sum round units odd size span climb ofBits ofFields neg ne eq lt ofInt upto mulAdd fused square product half midpoint isqrt halves root clamp fromBlocks toBlocks onLine idct8 dct8 idct8x8 dct8x8 upsamplePixels lowest highest dequantised nextTerm termOf constants pushAt pushed dataAlpha gradientNorm movedBy moved difference bump bumpUnless tvDifferencesAt tvDifferences gNormOf tvChannelDerivatives tvDerivatives store tvGradientPx tvAlpha tvGradient tgvDifferencesAt tgvDifferences g2NormOf tgvBeside tgvUpDown tgvCorners tgvChannelDerivatives tgvDerivatives tgvGradientPx tgvAlpha tgvGradient blended dequantise imageBlock imageData initDctTarget initPixels auxInit cosbOf cosbsOf spread spreadBlock gradientBlock dctGradient dataGradient meanOf change splitAt split clampAt clampBlock clamped keep ontoBox back projectFull projectMeans projectOntoBox isBlown pushing dataJob blending moving projecting
 mark-5-2 = refl

@@ -20,7 +20,7 @@ use Rattle.contents.specs.declared.Sheet.{Sheet}
 use Rattle.contents.specs.declared.Header.{Header}
 use Rattle.contents.specs.declared.Channel as Line
 use Rattle.contents.specs.Sheets.{held, channelAt, levelsTo}
-use Rattle.calls.specs.Run.{coefs, count, levelsBefore, Own, fresh, own, place, side, fullSide, factor, weight, ownOk, headerOk, sheetOk, placesOk, legal, every}
+use Rattle.calls.specs.Run.{coefs, count, levelsBefore, Numbers, fresh, own, place, side, fullSide, factor, weight, ownOk, headerOk, sheetOk, placesOk, legal, every}
 use Rattle.calls.specs.Run as Model
 use Rattle.calls.specs.Calls.{all, tableOk, levelOk, lendTests, startRefusal}
 use Rattle.calls.proofs.Tests.{every-of, never, skip, of-lent}
@@ -94,7 +94,7 @@ module _ (r : Run) (f : Fine r) where
       (eq→eqb (first-long ownOf (own (sheetOf r) 3) r short))
 
   own-fine : (c : ℕ) → c < r .count → T (ownOk (sheetOf r) (own (sheetOf r) c))
-  own-fine c h = subst (λ (o : Own). T (ownOk (sheetOf r) o)) (sym (at-own r c short h)) (f .each c h)
+  own-fine c h = subst (λ (o : Numbers). T (ownOk (sheetOf r) o)) (sym (at-own r c short h)) (f .each c h)
 
   place-fine : (c : ℕ) → c < r .count → PlaceIs (sheetOf r) (place (placesOf r) c)
   place-fine c h =
@@ -226,7 +226,7 @@ module _ (limits : Limits) (S : Sheet) (ls : List ℤ) (ts : List ℕ) (l : Lega
   same-sides : (c : ℕ) → c < S .header .channels → coefs (sheetOf (joint S)) c ≡ channelAt S c .width * channelAt S c .height
   unfolding joint
   same-sides c below =
-      ap (λ (o : Own). o .width * o .height) (at-own (joint S) c joint-short below)
+      ap (λ (o : Numbers). o .width * o .height) (at-own (joint S) c joint-short below)
       ∙ below-3 (λ c. ownOf (getD (joint S .channels) c noChannel) .width * ownOf (getD (joint S .channels) c noChannel) .height ≡ channelAt S c .width * channelAt S c .height)
       refl refl refl c (omega (arith, joint-short))
 

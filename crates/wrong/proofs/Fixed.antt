@@ -6,7 +6,7 @@ use Rattle.fold.specs.Part.{part}
 use Rattle.steps.specs.declared.solve.Constants.{Constants}
 use Rattle.start.specs.Buffers.{Buffers}
 use Rattle.start.specs.Coef.{Coef}
-use Rattle.solver.specs.Solver.{starting, pushing, fitting, blending, moving, projecting}
+use Rattle.solver.specs.Solver.{starting, pushing, dataJob, blending, moving, projecting}
 use Rattle.calls.specs.Buffers.{channel, joined}
 use Rattle.calls.specs.Jobs.{fixed}
 use Rattle.demand.specs.Solver.{jobs, coefOf}
@@ -40,7 +40,7 @@ at-1 = (λ i. pushing (constants-0 i) (at-0 i)) ∙ push-1-0
 
 pub at-2 : fixed jobs low8 2 0 ≡ b2-0
 unfolding fixed low8
-at-2 = (λ i. fitting (coef-is i) 8 8 (ofBits binary32 1017370378) (at-1 i)) ∙ data-2-0
+at-2 = (λ i. dataJob (coef-is i) 8 8 (ofBits binary32 1017370378) (at-1 i)) ∙ data-2-0
 
 pub at-3 : fixed jobs low8 3 0 ≡ b3-0
 unfolding fixed low8 joined
@@ -60,7 +60,7 @@ at-6 = (λ i. pushing (constants-1 i) (at-5 i)) ∙ push-6-0
 
 pub at-7 : fixed jobs low8 7 0 ≡ b7-0
 unfolding fixed low8
-at-7 = (λ i. fitting (coef-is i) 8 8 (ofBits binary32 1017370378) (at-6 i)) ∙ data-7-0
+at-7 = (λ i. dataJob (coef-is i) 8 8 (ofBits binary32 1017370378) (at-6 i)) ∙ data-7-0
 
 pub at-8 : fixed jobs low8 8 0 ≡ b8-0
 unfolding fixed low8 joined

@@ -9,7 +9,7 @@ use lib.Ieee.{Float, nan, binary32, ofBits, ofFields, eq}
 use lib.ListN.{getD, replicate, take, length}
 use Rattle.start.specs.Buffers.{Buffers}
 use Rattle.calls.specs.Run.{Place, place, sheetOk, headerOk, ownOk, placesOk, placeOk, weight}
-use Rattle.calls.specs.Jobs.{push, fidelity, move, project, Call, on, blend, fixed, isBlown}
+use Rattle.calls.specs.Jobs.{push, fidelity, move, project, Call, on, blend, fixed, channelBlown}
 use Rattle.calls.specs.Calls.{Answer, refused, done, blown, State, start, startRefusal, noneYet, plain, plainAnswers, plainPlaces}
 use Rattle.calls.specs.Demand.{Claim}
 use Rattle.calls.specs.Buffers.{Name, Plane, Gradient, Saved, get, make, joined}
@@ -19,13 +19,13 @@ use Rattle.wrong.specs.Sheet.{low8, step, inTurn}
 use Rattle.wrong.proofs.Fixed.{at-0, at-1, at-5, at-6, at-7, at-8, at-9, at-10}
 
 -- the projects of both steps leave the channel unmarked
-fine-5 : isBlown low8 0 (fixed jobs low8 5 0) ≡ false
+fine-5 : channelBlown low8 0 (fixed jobs low8 5 0) ≡ false
 unfolding low8 c0
-fine-5 = ap (isBlown low8 0) at-5 ∙ mark-5-0
+fine-5 = ap (channelBlown low8 0) at-5 ∙ mark-5-0
 
-fine-10 : isBlown low8 0 (fixed jobs low8 10 0) ≡ false
+fine-10 : channelBlown low8 0 (fixed jobs low8 10 0) ≡ false
 unfolding low8 c0
-fine-10 = ap (isBlown low8 0) at-10 ∙ mark-10-0
+fine-10 = ap (channelBlown low8 0) at-10 ∙ mark-10-0
 
 pub all-done : plainAnswers jobs low8 inTurn (noneYet low8) ≡ replicate 10 done
 unfolding plainAnswers plain low8

@@ -1,4 +1,4 @@
--- What the proof of demand 3 uses of the jobs' arithmetic.
+-- What demand 3 asks of the jobs' arithmetic.
 use Prim.Native.Nat.{ℕ, _*_, _<_}
 use mathlib.Core.Path.{_≡_}
 use mathlib.Core.Bool.{false}
