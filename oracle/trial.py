@@ -1,7 +1,7 @@
 #!/usr/bin/env python3
 """trial.py NAME: makes the sheet NAME from a fixed seed, runs the oracle's trace of the unchanged Rust on it, and writes
-crates/trial/sheets/NAME.tsv and crates/trial/proofs/NAME.antt: every buffer after every job as f32 bits, and one theorem by
-computation for each job and channel. Run it in the repository's root, with ORACLE set to the oracle's program `trace`."""
+crates/wrong/sheets/NAME.tsv and crates/wrong/proofs/NAME.antt: every buffer after every job as f32 bits, and one theorem by
+computation for each job and channel. The sheet itself, `low8` for Low8, stands in crates/wrong/specs/Sheet.antt. Run it in the repository's root, with ORACLE set to the oracle's program `trace`."""
 import os, random, struct, subprocess, sys
 
 ORACLE = os.environ.get('ORACLE', 'oracle/target/release/trace')
@@ -83,16 +83,16 @@ USES = {
     'Rattle.fidelity.specs.DctGradient': 'cosbOf cosbsOf spread spreadBlock gradientBlock dctGradient dataGradient',
     'Rattle.projection.specs.Projection': 'meanOf splitAt split clampAt clampBlock clamped keep ontoBox back projectFull projectMeans projectOntoBox',
     'Rattle.projection.specs.Blown': 'isBlown',
-    'Rattle.solver.specs.Solver': 'pushing fitting blending moving projecting',
+    'Rattle.solver.specs.Solver': 'pushing dataJob blending moving projecting',
 }
 OTHER = '''use mathlib.Core.Path.{_≡_, refl}
-use mathlib.Core.Bool.{true, false}
-use mathlib.Core.List.{List, [], _∷_, _++_, map}
-use lib.IntN.{ℤ, pos, negsuc}
+use mathlib.Core.Bool.{false}
+use mathlib.Core.List.{List, [], _∷_, map}
 use Rattle.steps.specs.declared.solve.Constants.{Constants}
 use Rattle.start.specs.Buffers.{Buffers}
-use Rattle.start.specs.Coef.{Coef}
-use Rattle.solver.specs.Solver.{starting, blown}
+use Rattle.start.specs.Coef.{Coef, coef}
+use Rattle.solver.specs.Solver.{starting}
+use Rattle.calls.specs.Jobs.{channelBlown}
 use lib.Ieee.{Float, binary32}'''
 UNFOLD = ' '.join(USES.values())
 
@@ -109,7 +109,7 @@ def main(name):
     s = sheet(name)
     W, H, N, smoothing, weights, channels = s
     t = text(s)
-    with open('crates/trial/sheets/%s.tsv' % name, 'w') as f:
+    with open('crates/wrong/sheets/%s.tsv' % name, 'w') as f:
         f.write(t)
     buffers, marks, constants = trace(t)
     n = len(channels)
@@ -117,9 +117,11 @@ def main(name):
     o = ['-- Made by oracle/trial.py: the sheet sheets/%s.tsv, and the bits that the unchanged Rust has after each job.' % name, OTHER]
     o += ['use %s.{%s}' % (m, ', '.join(v.split())) for m, v in USES.items()]
     o.append('')
-    for c, k in enumerate(channels):
-        o.append('unfoldable pub c%d : Coef\nc%d =\n    record {\n      own = record { width = %d; height = %d; horizontal = %d; vertical = %d };\n      levels = %s;\n      table = %s;\n    }\n' % (
-            c, c, k['w'], k['h'], k['across'], k['down'], items(whole(v) for b in k['blocks'] for v in b), items(k['table'])))
+    given = name.lower()
+    o.insert(-1, 'use Rattle.wrong.specs.Sheet.{%s}' % given)
+    for c, k in enumerate(channels):  # of one channel: its levels and quantisers are all that the sheet is given
+        o.append('unfoldable pub c%d : Coef\nc%d = coef (record { width = %d; height = %d; across = %d; down = %d }) (%s .levels) (%s .tables)\n' % (
+            c, c, k['w'], k['h'], k['across'], k['down'], given, given))
     for step, k in sorted(constants.items()):
         values = '; '.join('%s = ofBits binary32 %d' % (f, v) for f, v in zip(['term', 'factor', '«step_size»', 'second'], k))
         o.append('unfoldable pub k%d : Constants\nk%d = record { %s }\n' % (step, step, values))
@@ -159,18 +161,18 @@ def main(name):
             continue
         for c in range(n):
             b, d = 'b%d-%d' % (p - 1, c), 'b%d-%d' % (p, c)
-            opened = [('c%d' % c, []), (d, names[p, c])] + ([(b, names[p - 1, c]), ('k%d' % step, [])] if p else [])
+            opened = [(given, []), ('c%d' % c, []), (d, names[p, c])] + ([(b, names[p - 1, c]), ('k%d' % step, [])] if p else [])
             left = ['starting c%d %d %d' % (c, W, H)] if p == 0 else {
                 0: ['pushing k%d %s' % (step, b)],
-                1: ['fitting c%d %d %d (ofBits binary32 %d) %s' % (c, W, H, bits(weights[c]), b)],
+                1: ['dataJob c%d %d %d (ofBits binary32 %d) %s' % (c, W, H, bits(weights[c]), b)],
                 3: ['moving k%d %s' % (step, b)],
                 4: ['projecting c%d %d %d %s' % (c, W, H, b)],
             }[job]
             label = (['start'] if p == 0 else [['push', 'data', 'blend', 'move', 'project'][job]])[0] + '-%d-%d' % (p, c)
             theorem(label, left[0], d, opened)
             if p and job == 4:
-                theorem('mark-%d-%d' % (p, c), 'blown c%d %s' % (c, d), 'true' if marks[p, c] else 'false', [('c%d' % c, []), (d, names[p, c])])
-    with open('crates/trial/proofs/%s.antt' % name, 'w') as f:
+                theorem('mark-%d-%d' % (p, c), 'channelBlown %s %d %s' % (given, c, d), 'true' if marks[p, c] else 'false', [(given, []), (d, names[p, c])])
+    with open('crates/wrong/proofs/%s.antt' % name, 'w') as f:
         f.write('\n'.join(o))
     print(name, 'positions 0 to %d' % last, 'channels', n, 'marks', sorted(k for k in marks if marks[k]))
 

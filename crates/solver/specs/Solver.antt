@@ -1,5 +1,4 @@
 -- The jobs of document 01, "Jobs and positions", over the definitions of the Rust's files. A buffer that a job does not name is as it was.
-use mathlib.Core.Bool.{Bool}
 use Prim.Native.Nat.{ℕ, _%_, _<_, _≤_}
 use lib.IntN.{natAbs}
 use lib.Ieee.{Float}
@@ -14,7 +13,6 @@ use Rattle.start.specs.Coef.{Coef, levelAt, pxCount, quantAt}
 use Rattle.start.specs.Auxiliary.{auxInit}
 use Rattle.fidelity.specs.DctGradient.{dataGradient}
 use Rattle.projection.specs.Projection.{Box, projectOntoBox}
-use Rattle.projection.specs.Blown.{isBlown}
 
 -- start, of a channel with the coefficients C, at full sides W and H: "plane and prior are the upsampled start, saved coefficients are level × quantiser, other values 0"
 abbrev pub starting : Coef → ℕ → ℕ → Buffers
@@ -52,10 +50,6 @@ unfoldable pub projecting : Coef → ℕ → ℕ → Buffers → Buffers
 projecting C W H b =
     let y = projectOntoBox C W H (boxOf b) in
     record { plane = y .plane; prior = b .prior; gradient = b .gradient; across = y .across; down = y .down; saved = y .saved }
-
--- the condition of job 5
-abbrev pub blown : Coef → Buffers → Bool
-blown C b = isBlown (pxCount (C .own)) (b .plane) (b .saved)
 
 -- ---- what the laws speak of
 

@@ -1,16 +1,13 @@
 -- What the recursion fixes for the small sheet at each count, 0 to 10: the buffers of the Rust's trace.
 use mathlib.Core.Path.{_≡_, refl, ap, _∙_}
-use Prim.Native.Nat.{ℕ}
 use lib.Ieee.{binary32, ofBits}
-use Rattle.fold.specs.Part.{part}
-use Rattle.steps.specs.declared.solve.Constants.{Constants}
 use Rattle.start.specs.Buffers.{Buffers}
 use Rattle.start.specs.Coef.{Coef}
 use Rattle.solver.specs.Solver.{starting, pushing, dataJob, blending, moving, projecting}
 use Rattle.calls.specs.Buffers.{channel, joined}
 use Rattle.calls.specs.Jobs.{fixed}
 use Rattle.demand.specs.Solver.{jobs, coefOf}
-use Rattle.trial.proofs.Low8.{c0, k0, k1, constants-0, constants-1, b0-0, b1-0, b2-0, b3-0, b4-0, b5-0, b6-0, b7-0, b8-0, b9-0, b10-0, l0, l2, l3, l4, l5, l7, l8, l9, l11, l12, l13, start-0-0, push-1-0, data-2-0, blend-3, move-4-0, project-5-0, push-6-0, data-7-0, blend-8, move-9-0, project-10-0}
+use Rattle.wrong.proofs.Low8.{c0, k0, k1, constants-0, constants-1, b0-0, b1-0, b2-0, b3-0, b4-0, b5-0, b6-0, b7-0, b8-0, b9-0, b10-0, l0, l2, l3, l4, l5, l7, l8, l9, l11, l12, l13, start-0-0, push-1-0, data-2-0, blend-3, move-4-0, project-5-0, push-6-0, data-7-0, blend-8, move-9-0, project-10-0}
 use Rattle.wrong.specs.Sheet.{low8}
 
 coef-is : coefOf low8 0 ≡ c0

@@ -1,39 +1,33 @@
 -- Document 01, "Solvers that would fool a glance": each breaks demand 3 on the small sheet.
 use mathlib.Core.Path.{_≡_, refl, sym, ap, _∙_}
 use mathlib.Core.Logic.{_≢_}
-use mathlib.Core.Bool.{Bool, true, false, cond}
+use mathlib.Core.Bool.{false, cond}
 use mathlib.Core.List.{List, [], _∷_}
 use Prim.Native.Nat.{ℕ}
 use native.Mathlib.Omega.{arith}
-use lib.Ieee.{Float, nan, binary32, ofBits, ofFields, eq}
+use lib.Ieee.{Float, nan, ofBits, ofFields, eq}
 use lib.ListN.{getD, replicate, take, length}
 use Rattle.start.specs.Buffers.{Buffers}
 use Rattle.calls.specs.Run.{Place, place, sheetOk, headerOk, ownOk, placesOk, placeOk, weight}
-use Rattle.calls.specs.Jobs.{push, fidelity, move, project, Call, on, blend, fixed, channelBlown}
+use Rattle.calls.specs.Jobs.{project, Call, on, fixed, channelBlown}
 use Rattle.calls.specs.Calls.{Answer, refused, done, blown, State, start, startRefusal, noneYet, plain, plainAnswers, plainPlaces}
 use Rattle.calls.specs.Demand.{Claim}
-use Rattle.calls.specs.Buffers.{Name, Plane, Gradient, Saved, get, make, joined}
+use Rattle.calls.specs.Buffers.{Name, Plane, Gradient, Saved, get, joined}
 use Rattle.demand.specs.Solver.{jobs}
-use Rattle.trial.proofs.Low8.{c0, b0-0, b1-0, b5-0, b6-0, b7-0, b8-0, b9-0, b10-0, l0, l2, l3, l7, l9, l10, l11, l14, l15, l16, mark-5-0, mark-10-0}
-use Rattle.wrong.specs.Sheet.{low8, step, inTurn}
+use Rattle.wrong.proofs.Low8.{b0-0, b1-0, b5-0, b6-0, b7-0, b8-0, b9-0, b10-0, l0, l2, l3, l7, l9, l10, l11, l14, l15, l16, mark-5-0, mark-10-0}
+use Rattle.wrong.specs.Sheet.{low8, step, inTurn, at, lentTo, After}
 use Rattle.wrong.proofs.Fixed.{at-0, at-1, at-5, at-6, at-7, at-8, at-9, at-10}
 
 -- the projects of both steps leave the channel unmarked
 fine-5 : channelBlown low8 0 (fixed jobs low8 5 0) ≡ false
-unfolding low8 c0
 fine-5 = ap (channelBlown low8 0) at-5 ∙ mark-5-0
 
 fine-10 : channelBlown low8 0 (fixed jobs low8 10 0) ≡ false
-unfolding low8 c0
 fine-10 = ap (channelBlown low8 0) at-10 ∙ mark-10-0
 
 pub all-done : plainAnswers jobs low8 inTurn (noneYet low8) ≡ replicate 10 done
 unfolding plainAnswers plain low8
 all-done = rw fine-5 (rw fine-10 refl)
-
--- the places after p jobs in turn
-abbrev at : ℕ → List Place
-at p = record { position = p; mark = false } ∷ []
 
 -- what a claim says of the lent buffers where the plain run's places are those: they are the ones fixed for p
 held : (xs : List Call) (p : ℕ) → plainPlaces jobs low8 xs (noneYet low8) ≡ at p → (said : List Answer) (t : State)
@@ -78,10 +72,6 @@ place-10 : plainPlaces jobs low8 (take 10 inTurn) (noneYet low8) ≡ at 10
 unfolding plainPlaces plain low8
 place-10 = ap (plainPlaces jobs low8 step) over-5 ∙ over-10
 
--- a solver whose state after the first n calls in turn is t meets demand 3
-abbrev pub After : ℕ → List Answer → State → Type 0
-After n said t = Claim jobs low8 (take n inTurn) said t (plainPlaces jobs low8 (take n inTurn) (noneYet low8))
-
 -- "blown" or "turn" given early, every job refused: each of the ten answers is done
 pub none-refused : (said : List Answer) (t : State) → After 10 said t → said ≡ replicate 10 done
 none-refused said t c = c .same-answers ∙ all-done
@@ -109,8 +99,8 @@ unfolding where-now
 stands-still said t c e = let z : _≡_ {A = ℕ} 1 0 = sym (ap where-now (c .same-places ∙ place-1)) ∙ ap where-now e in absurd (omega arith)
 
 -- the small sheet is one that start accepts, at any values of the six
-pub accepted : (xs : List Float) → length xs ≡ 64 → start jobs low8 (record { places = at 0; buffers = make (λ b. xs) }) .answer ≡ done
-unfolding start startRefusal low8 sheetOk headerOk ownOk placesOk placeOk weight c0 ofBits ofFields
+pub accepted : (xs : List Float) → length xs ≡ 64 → start jobs low8 (lentTo xs) .answer ≡ done
+unfolding start startRefusal low8 sheetOk headerOk ownOk placesOk placeOk weight ofBits ofFields
 accepted xs e = rw e refl
 
 -- Where the buffer b that is fixed for n differs from that fixed for o, no solver that meets demand 3 has the latter after n calls in turn.
