@@ -1,4 +1,5 @@
 -- The laws of the model; `Runs.demand3` is the theorem.
+pub mod Examples
 pub mod Parts
 pub mod Tests
 pub mod Legal

@@ -1,0 +1,121 @@
+-- The order of refusals, equal blends and marks, by computation on small records. Beside each stands what it excludes.
+use mathlib.Core.Path.{_≡_, refl}
+use mathlib.Core.Bool.{true, false}
+use mathlib.Core.List.{List, [], _∷_}
+use Prim.Native.Nat.{ℕ}
+use lib.IntN.{pos}
+use lib.ListN.{replicate}
+use lib.Ieee.{Float, nan, fin}
+use Rattle.projection.specs.Blown.{isBlown}
+use Rattle.calls.specs.Run.{Sheet, Place, Given, weight, ownOk, headerOk, sheetOk, placeOk, placesOk}
+use Rattle.calls.specs.Buffers.{make, channel, joined}
+use Rattle.calls.specs.Jobs.{push, fidelity, move, project, Call, on, blend, Jobs, fixed}
+use Rattle.calls.specs.Calls.{refused, done, blown, first, turnTests, startRefusal, noneYet, plain, plainAnswers, plainPlaces}
+
+-- n channels of 8 by 8, and N steps
+abbrev sheet : ℕ → ℕ → Sheet
+sheet n N =
+    let w : Float = fin false 1 (pos 0) in
+    record {
+      W = 8;
+      H = 8;
+      N = N;
+      smoothing = w;
+      count = n;
+      owns = replicate n (record { width = 8; height = 8; across = 1; down = 1; data-weight = w });
+    }
+
+abbrev at : ℕ → Place
+at p = record { position = p; mark = false }
+
+abbrev marked : ℕ → Place
+marked p = record { position = p; mark = true }
+
+-- ---- 12, 10, 11, 9
+
+abbrev turn-refusal : ℕ → ℕ → List Place → Call → ℕ
+turn-refusal n N ps x = first (turnTests (sheet n N) ps x)
+
+-- not 11, though no step is left
+pub no-channel : turn-refusal 1 0 (at 0 ∷ []) (on push 1) ≡ 12
+no-channel = refl
+
+-- not 11: a marked channel at its end is blown
+pub blown-at-the-end : turn-refusal 1 1 (marked 5 ∷ []) (on push 0) ≡ 10
+blown-at-the-end = refl
+
+-- not 9, though it is no job's turn but push's
+pub ended : turn-refusal 1 1 (at 5 ∷ []) (on move 0) ≡ 11
+ended = refl
+
+pub not-its-turn : turn-refusal 1 1 (at 0 ∷ []) (on move 0) ≡ 9
+not-its-turn = refl
+
+-- blend: not accepted while one channel is behind
+pub one-behind : turn-refusal 3 1 (at 2 ∷ at 2 ∷ at 1 ∷ []) blend ≡ 9
+one-behind = refl
+
+-- not 9, though the marked channel is not at its blend; one that is marked is enough
+pub one-blown : turn-refusal 3 2 (at 7 ∷ marked 5 ∷ at 7 ∷ []) blend ≡ 10
+one-blown = refl
+
+-- not 9; one that has ended is enough
+pub one-ended : turn-refusal 3 1 (at 5 ∷ at 3 ∷ at 3 ∷ []) blend ≡ 11
+one-ended = refl
+
+-- ---- 13, 8, 4, 5: start's, of one channel whose levels and quantisers are all alike
+
+abbrev start-refusal : Place → ℕ → ℕ → ℕ → ℕ
+start-refusal p level quantiser length =
+    startRefusal (record { sheet = sheet 1 1; levels = replicate 64 (pos level); tables = replicate 64 quantiser }) (p ∷ []) (replicate 6 length)
+
+-- a mark at a position that is no multiple of 5, and buffers that are too short
+pub illegal : start-refusal (marked 4) 2048 0 63 ≡ 13
+unfolding startRefusal sheetOk headerOk ownOk placesOk placeOk weight
+illegal = refl
+
+pub short : start-refusal (at 4) 2048 0 63 ≡ 8
+unfolding startRefusal sheetOk headerOk ownOk placesOk placeOk weight
+short = refl
+
+pub quantiser : start-refusal (at 4) 2048 0 64 ≡ 4
+unfolding startRefusal sheetOk headerOk ownOk placesOk placeOk weight
+quantiser = refl
+
+pub level : start-refusal (at 4) 2048 1 64 ≡ 5
+unfolding startRefusal sheetOk headerOk ownOk placesOk placeOk weight
+level = refl
+
+pub accepted : start-refusal (at 4) 2047 255 64 ≡ 0
+unfolding startRefusal sheetOk headerOk ownOk placesOk placeOk weight
+accepted = refl
+
+-- ---- the plain run of a channel whose plane holds one value, and stays as it was
+
+abbrev still : Float → Jobs
+still v =
+    record {
+      start = λ G c. make (λ b. v ∷ []);
+      work = λ j G c step b. b;
+      blending = λ G step B. B;
+    }
+
+abbrev two-steps : Given
+two-steps = record { sheet = sheet 1 2; levels = []; tables = [] }
+
+abbrev step : List Call
+step = on push 0 ∷ on fidelity 0 ∷ blend ∷ on move 0 ∷ on project 0 ∷ on push 0 ∷ []
+
+-- a blown channel is marked by project, not before, which says so; the next call is refused
+pub blown-by-project : plainAnswers (still nan) two-steps step (noneYet two-steps) ≡ done ∷ done ∷ done ∷ done ∷ blown ∷ refused 10 ∷ []
+unfolding plainAnswers plain fixed channel joined isBlown
+blown-by-project = refl
+
+pub marked-by-project : plainPlaces (still nan) two-steps step (noneYet two-steps) ≡ marked 5 ∷ []
+unfolding plainPlaces plain fixed channel joined isBlown
+marked-by-project = refl
+
+-- and one that is not goes on
+pub not-blown : plainAnswers (still (fin false 1 (pos 0))) two-steps step (noneYet two-steps) ≡ replicate 6 done
+unfolding plainAnswers plain fixed channel joined isBlown
+not-blown = refl
