@@ -4,15 +4,12 @@ use mathlib.Core.List.{List, [], _∷_, _++_}
 use Prim.Native.Nat.{ℕ}
 use lib.IntN.{ℤ}
 use Rattle.start.specs.Buffers.{Buffers}
-use Rattle.calls.specs.Calls.{noneYet, plainPlaces}
-use Rattle.demand.specs.Solver.{jobs}
 use Rattle.record.specs.declared.Run.{Run}
 use Rattle.record.specs.declared.Answer.{Answer}
 use Rattle.record.specs.declared.Answer.the-variants.{Done}
-use Rattle.record.specs.Model.{givenOf}
-use Rattle.run.specs.Public.{Result, gave, startOf}
-use Rattle.serve.specs.Serve.{Listed, listOf, Served}
-use Rattle.serve.specs.Made.{Made, OneByOne, callsOf, bytesOf, lastRun, lastBuffers}
+use Rattle.run.specs.Public.{Result}
+use Rattle.serve.specs.Serve.{Listed, listOf}
+use Rattle.serve.specs.Made.{Made, OneByOne, callsOf, bytesOf, lastRun, lastBuffers, MadeServed}
 use Rattle.serve.proofs.Listed.{call-first, no-call}
 use Rattle.serve.proofs.Served.{served}
 
@@ -25,8 +22,5 @@ module _ (levels : List ℤ) (tables : List ℕ) where
       call-first levels tables r (m .call) (callsOf ms) B (m .answer) (o .0)
       ∙ ap (λ (l : Listed). record { bytes = bytesOf (m ∷ []) ++ l .bytes; run = l .run; buffers = l .buffers }) (listed (m .run) (m .buffers) ms (o .1))
 
-  -- "For every list of the calls push, data, blend, move and project from a fresh run"
-  pub one-by-one : (r : Run) (B : Buffers) {r₁ : Run} {B₁ : Buffers} → startOf r levels tables B ≡ gave Done r₁ B₁ → (ms : List Made) → OneByOne levels tables r₁ B₁ ms
-      → let G = givenOf r levels tables in
-      Served G (callsOf ms) r (plainPlaces jobs G (callsOf ms) (noneYet G)) (bytesOf ms) (lastRun r₁ ms) (lastBuffers B₁ ms)
-  one-by-one r B {r₁} {B₁} e ms o = served r levels tables B (ap (λ (x : Result). x .answer) e) (callsOf ms) Done e (listed r₁ B₁ ms o)
+pub one-by-one : MadeServed
+one-by-one levels tables r B r₁ B₁ e ms o = served r levels tables B (ap (λ (x : Result). x .answer) e) (callsOf ms) Done e (listed levels tables r₁ B₁ ms o)

@@ -5,11 +5,14 @@ use mathlib.Core.List.{List, [], _∷_, map}
 use lib.IntN.{ℤ}
 use Rattle.start.specs.Buffers.{Buffers}
 use Rattle.calls.specs.Jobs.{Call}
+use Rattle.calls.specs.Calls.{noneYet, plainPlaces}
+use Rattle.demand.specs.Solver.{jobs}
 use Rattle.record.specs.declared.Run.{Run}
 use Rattle.record.specs.declared.Answer.{Answer}
-use Rattle.record.specs.Model.{answerOf}
-use Rattle.run.specs.Public.{callOf, gave}
-use Rattle.serve.specs.Serve.{byteOf}
+use Rattle.record.specs.declared.Answer.the-variants.{Done}
+use Rattle.record.specs.Model.{givenOf, answerOf}
+use Rattle.run.specs.Public.{callOf, startOf, gave}
+use Rattle.serve.specs.Serve.{byteOf, Served}
 
 -- a call that was made: which, its answer, and the record and the six buffers that it left
 pub record Made : Type 0 where
@@ -38,3 +41,11 @@ lastRun r (m ∷ ms) = lastRun (m .run) ms
 abbrev pub lastBuffers : Buffers → List Made → Buffers
 lastBuffers B [] = B
 lastBuffers B (m ∷ ms) = lastBuffers (m .buffers) ms
+
+-- Demand 3 of any program that makes the calls one by one: a start that is accepted, which leaves r₁ and B₁, and then the calls ms.
+abbrev pub MadeServed : Type 0
+MadeServed =
+    (levels : List ℤ) (tables : List ℕ) (r : Run) (B : Buffers) (r₁ : Run) (B₁ : Buffers) → startOf r levels tables B ≡ gave Done r₁ B₁
+    → (ms : List Made) → OneByOne levels tables r₁ B₁ ms
+    → Served (givenOf r levels tables) (callsOf ms) r (plainPlaces jobs (givenOf r levels tables) (callsOf ms) (noneYet (givenOf r levels tables))) (bytesOf ms)
+    (lastRun r₁ ms) (lastBuffers B₁ ms)
