@@ -5,5 +5,6 @@ pub mod Tests
 pub mod Legal
 pub mod Facts
 pub mod Step
+pub mod Turns
 pub mod Runs
 pub mod Unmarked

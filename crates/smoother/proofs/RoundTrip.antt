@@ -21,7 +21,8 @@ use Rattle.calls.specs.Calls.{Answer, startRefusal, lengths, allSix}
 use Rattle.serve.specs.Serve.{byteOf}
 use Rattle.record.specs.declared.Run.{Run}
 use Rattle.record.specs.Model.{sheetOf, placesOf, givenOf}
-use Rattle.solve.specs.Solve.{joint, alone, tablesFor, runBlows, Whole, last, runOf, separately, wholeOf, isLegal, allLegal, solveRefusal, Ends}
+use Rattle.rounds.specs.Whole.{runBlows, Whole, last, runOf, Ends}
+use Rattle.solve.specs.Solve.{joint, alone, tablesFor, separately, wholeOf, isLegal, allLegal, solveRefusal}
 use Rattle.smoother.specs.Sheets.{numbersOf, weightBits}
 use Rattle.smoother.specs.Whole.{sheetOfNumbers, numbersRefusal, SolveNumbers}
 

@@ -15,7 +15,8 @@ use Rattle.record.specs.declared.Answer.{Answer}
 use Rattle.record.specs.Model.{answerOf}
 use Rattle.serve.specs.Serve.{byteOf}
 use Rattle.contents.specs.declared.Sheet.{Sheet}
-use Rattle.solve.specs.Solve.{solveRefusal, wholeOf, Ends, SolveIs}
+use Rattle.rounds.specs.Whole.{Ends}
+use Rattle.solve.specs.Solve.{solveRefusal, wholeOf, SolveIs}
 use Rattle.picture.specs.declared.Answer as drawn
 use Rattle.picture.specs.Finish.{Finished, verdict, finishing}
 use Rattle.smoother.specs.Sheets.{recordCount}

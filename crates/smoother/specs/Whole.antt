@@ -15,7 +15,8 @@ use Rattle.contents.specs.declared.Channel.{Channel}
 use Rattle.start.specs.Buffers.{Buffers}
 use Rattle.calls.specs.Calls.{Answer, lengths, allSix}
 use Rattle.serve.specs.Serve.{byteOf}
-use Rattle.solve.specs.Solve.{solveRefusal, wholeOf, Ends}
+use Rattle.rounds.specs.Whole.{Ends}
+use Rattle.solve.specs.Solve.{solveRefusal, wholeOf}
 use Rattle.smoother.specs.Sheets.{recordCount}
 use Rattle.picture.specs.Finish.{Verdict, done, refused, finishing}
 

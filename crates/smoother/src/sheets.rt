@@ -8,7 +8,7 @@ use contents::Weight;
 ghost use mathlib.Core.Path.{_≡_};
 ghost use Prim.Native.Nat.{_+_, _<_};
 ghost use lib.ListN.{length};
-ghost use Rattle.solve.specs.Solve.{six};
+ghost use Rattle.rounds.specs.Whole.{six};
 ghost use Rattle.smoother.specs.Sheets.{recordCount};
 ghost use Rattle.smoother.specs.Whole.{headerFrom, channelFrom, sheetOfNumbers, SolveNumbers, FinishNumbers};
 

@@ -1,41 +1,39 @@
 -- Separate mode: each channel's run on its part of what the sheet is lent.
 use mathlib.Core.Path.{_≡_, refl, sym, ap, _∙_, subst}
-use mathlib.Core.Logic.{_≢_, _⊎_, inl, inr, ⊎-elim}
+use mathlib.Core.Logic.{_≢_, _⊎_, inl, inr}
 use denote.Enum.Declared.{tagOf}
 use types.Run.{OneOf}
-use mathlib.Core.Bool.{Bool, true, false, not, _&&_, cond}
+use mathlib.Core.Bool.{Bool, true, false, cond}
 use mathlib.Core.List.{List, [], _∷_}
 use Prim.Native.Nat.{ℕ, zero, suc, _+_, _-_, _*_, _≤_, _<_}
-use native.Mathlib.Nat.{eq-or-lt-of-le, le-of-eq}
+use native.Mathlib.Nat.{eq-or-lt-of-le}
 use native.Mathlib.Omega.{arith}
 use native.Mathlib.Numerals.{add-one}
 use lib.ListN.{length, getD}
-use lib.Seq.{take-all}
-use lib.Dec.{T, eqb, eqb→eq}
+use lib.Dec.{T}
 use lib.IntN.{ℤ}
-use lib.Ieee.{Float}
-use lib.Ieee.Fits.{and-l, and-r, and-i, eq→eqb}
+use lib.Ieee.Fits.{and-l, and-r}
 use Rattle.fold.specs.Part.{part, splice}
 use Rattle.fold.proofs.Parts.{part-length}
 use Rattle.start.specs.Buffers.{Buffers}
 use Rattle.contents.specs.declared.Sheet.{Sheet}
 use Rattle.calls.specs.Run.{Numbers, Given, own, count, coefs, levelsBefore, every, among}
-use Rattle.calls.specs.Buffers.{Name, Plane, Prior, Gradient, Across, Down, Saved, get, joined, channel, putChannel, Sized}
+use Rattle.calls.specs.Buffers.{Plane, Prior, Gradient, Across, Down, Saved, get, joined, channel, putChannel, Sized}
 use Rattle.calls.specs.Calls.{done, blown, all, allSix, lengths, tableOk, levelOk, lendTests, startRefusal}
 use Rattle.calls.proofs.Parts.{channel-sized, put-sized, put-same, put-other, joined-channels}
-use Rattle.calls.proofs.Tests.{every-at, all-part, skip, Lent, lent-of, of-lent}
+use Rattle.calls.proofs.Tests.{every-at, among-true, all-part, skip, sized-names, sized-of, Lent, lent-of, of-lent}
 use Rattle.record.specs.declared.Run.{Run}
 use Rattle.record.specs.declared.Answer.{Answer}
-use Rattle.record.specs.declared.Answer.the-variants.{Refused, Done, Blown}
+use Rattle.record.specs.declared.Answer.the-variants.{Refused, Done}
 use Rattle.record.proofs.Answer.{the-type}
 use Rattle.record.specs.Model.{Legal, ownOf, noChannel, sheetOf, placesOf, answerOf}
 use Rattle.record.proofs.Channels.{at-own}
 use Rattle.record.proofs.Sizes.{count-3, levels-rise, levels-small}
-use Rattle.solve.specs.Solve.{six, joint, alone, jointGiven, aloneGiven, levelsFor, tablesFor, runBlows, Whole, last, runOf, separately, wholeOf, isLegal, allLegal, solveRefusal, Ended, Ends, RunIs, SolveIs}
-use Rattle.solve.specs.Rounds.{PartsAre, AloneAsks, AloneIs, SeparateAsks, SeparateIs}
-use Rattle.solve.proofs.Rounds.{among-true}
-use Rattle.solve.proofs.Steps.{Kept, kept-of}
-use Rattle.solve.proofs.Ends.{same-lengths, sized-of, is-done, not-done}
+use Rattle.rounds.specs.Whole.{six, runBlows, Whole, last, runOf, Ended, Ends, RunIs}
+use Rattle.rounds.proofs.Steps.{Kept, kept-of}
+use Rattle.rounds.proofs.Ends.{same-lengths, is-done, not-done}
+use Rattle.solve.specs.Solve.{joint, alone, jointGiven, aloneGiven, levelsFor, tablesFor, separately, wholeOf, isLegal, allLegal, solveRefusal, SolveIs}
+use Rattle.solve.specs.Separate.{PartsAre, AloneAsks, AloneIs, SeparateAsks, SeparateIs}
 
 -- ---- what a sheet that is not refused has passed
 
@@ -175,10 +173,6 @@ alone-is S c levels tables B from to l m t u p r e a x h =
 
 -- ---- a channel's run is accepted where the sheet is
 
-all-sized : (m : ℕ) (B : Buffers) → Sized m B → (names : List Name) → T (all (λ n. eqb n m) (lengths names B))
-all-sized m B h [] = tt
-all-sized m B h (b ∷ bs) = and-i (eqb (length (get b B)) m) (all (λ n. eqb n m) (lengths bs B)) (eq→eqb (h b)) (all-sized m B h bs)
-
 sized-kept : (m : ℕ) (B₀ B : Buffers) → Sized m B₀ → Kept B₀ B → Sized m B
 sized-kept m B₀ B h k b = same-lengths B₀ B k b ∙ h b
 
@@ -208,7 +202,7 @@ module _ (S : Sheet) (levels : List ℤ) (tables : List ℕ) (B₀ : Buffers) (z
         let one : areaOf S ≡ 1 * areaOf S = omega arith in
         record {
           is-legal = alone-legal S levels tables B₀ z c below;
-          long = all-sized (1 * areaOf S) (channel (areaOf S) c B) (λ b. part-sized b ∙ one) allSix;
+          long = sized-names (1 * areaOf S) (channel (areaOf S) c B) (λ b. part-sized b ∙ one) allSix;
           levels-long = λ e. own-levels;
           tables-long = λ e. own-tables;
           tables-ok = λ e. all-part tableOk tables (c * 64) (c * 64 + 64) (tables-ok S levels tables B₀ z);

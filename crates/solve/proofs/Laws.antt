@@ -16,7 +16,8 @@ use Rattle.calls.specs.Jobs.{fixed}
 use Rattle.calls.specs.Calls.{lengths, allSix}
 use Rattle.demand.specs.Solver.{jobs}
 use Rattle.record.specs.Model.{ownOf, sheetOf}
-use Rattle.solve.specs.Solve.{joint, alone, jointGiven, aloneGiven, levelsFor, tablesFor, runBlows, Whole, last, runOf, separately, solveRefusal}
+use Rattle.rounds.specs.Whole.{runBlows, last, runOf}
+use Rattle.solve.specs.Solve.{joint, alone, jointGiven, aloneGiven, levelsFor, tablesFor, separately, solveRefusal}
 use Rattle.solve.proofs.Alone.{levels-long, tables-long}
 
 -- "N = 0 gives the unprojected start", and nothing is blown.

@@ -1,3 +1,3 @@
 -- The whole run of a sheet, in both modes.
 pub mod Solve
-pub mod Rounds
+pub mod Separate

@@ -1,11 +1,12 @@
 // The whole run of a sheet, in both modes.
 mod modes;
 mod separate;
-pub mod whole;
 
 use contents::Sheet;
 use record::Answer;
-ghost use Rattle.solve.specs.Solve.{six, SolveIs};
+use rounds::run_value;
+ghost use Rattle.rounds.specs.Whole.{six};
+ghost use Rattle.solve.specs.Solve.{SolveIs};
 
 // The six buffers of a sheet after 5N jobs, in its mode. It looks at everything first, and answers `Blown` where a channel is blown.
 // Rules out: the channel's own data weight in separate mode; the starting planes, or planes one step short, for those after the last job.
@@ -39,7 +40,7 @@ pub fn solve(
     let h = s.header;
     if h.joint {
         let run = modes::joint_of(s);
-        return whole::run_value(
+        return run_value(
             run,
             levels,
             tables,

@@ -1,13 +1,14 @@
 // Separate mode: each channel is a run of its own, on its part of the lent buffers.
 use crate::modes::alone_of;
 use crate::modes::joint_of;
-use crate::whole::run_value;
 use contents::Sheet;
 use record::Answer;
+use rounds::run_value;
 ghost use Prim.Native.Nat.{_<_};
 ghost use Rattle.record.specs.Model.{Legal};
-ghost use Rattle.solve.specs.Solve.{six, joint};
-ghost use Rattle.solve.specs.Rounds.{PartsAre, AloneAsks, AloneIs, SeparateAsks, SeparateIs};
+ghost use Rattle.rounds.specs.Whole.{six};
+ghost use Rattle.solve.specs.Solve.{joint};
+ghost use Rattle.solve.specs.Separate.{PartsAre, AloneAsks, AloneIs, SeparateAsks, SeparateIs};
 
 // Where channel c's part begins and ends in the lent buffers, in the levels and in the tables.
 struct Parts {

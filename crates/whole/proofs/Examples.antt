@@ -29,7 +29,8 @@ use Rattle.contents.specs.declared.Sheet.{Sheet}
 use Rattle.sheet.specs.Lines.{rulesOf, fieldsFault, headerOf, channelOf, recordOf}
 use Rattle.contents.specs.Sheets.{held, noChannel}
 use Rattle.sheet.specs.Reading.{contents, blank, lineTag, takenOf, lineFault, readText}
-use Rattle.solve.specs.Solve.{joint, alone, runBlows, last, runOf, separately, wholeOf, planes, blows}
+use Rattle.rounds.specs.Whole.{runBlows, last, runOf}
+use Rattle.solve.specs.Solve.{joint, alone, separately, wholeOf, planes, blows}
 use Rattle.calls.specs.Buffers.{joined}
 use Rattle.picture.specs.Finish as Finish
 use Rattle.output.specs.Output as Output

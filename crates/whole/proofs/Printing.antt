@@ -36,8 +36,10 @@ use Rattle.calls.specs.Calls.{all, allSix, lengths}
 use Rattle.record.specs.declared.Answer.{Answer}
 use Rattle.record.specs.Model.{answerOf}
 use Rattle.record.proofs.Answer.{the-type}
-use Rattle.solve.specs.Solve.{wholeOf, planes, blows, Ended, Ends, SolveIs}
-use Rattle.solve.proofs.Ends.{is-done, not-done}
+use Rattle.calls.proofs.Tests.{sized-names}
+use Rattle.rounds.specs.Whole.{Ended, Ends}
+use Rattle.solve.specs.Solve.{wholeOf, planes, blows, SolveIs}
+use Rattle.rounds.proofs.Ends.{is-done, not-done}
 use Rattle.picture.specs.Finish as Finish
 use Rattle.picture.proofs.Pixels.{picture-length}
 use Rattle.output.specs.Output.{Wrote, pictureInto, refusalText, refusalInto}
@@ -63,10 +65,6 @@ paints h l ps long rgb rgb′ room t e out r out′ m w =
 
 -- ---- solved_with: how solving a legal sheet ends
 
-all-sized : (m : ℕ) (B : Buffers) → Sized m B → (names : List Name) → T (all (λ n. eqb n m) (lengths names B))
-all-sized m B h [] = tt
-all-sized m B h (b ∷ bs) = and-i (eqb (length (get b B)) m) (all (λ n. eqb n m) (lengths bs B)) (eq→eqb (h b)) (all-sized m B h bs)
-
 module _ (S : Sheet) (ls : List ℤ) (ts : List ℕ) (l : LegalSheet limits S (held ls ts)) (B : Buffers)
     (long : SixLong (S .header) (B .plane) (B .prior) (B .gradient) (B .across) (B .down) (B .saved)) (a : Answer) (B′ : Buffers) (said : SolveIs S ls ts B a B′) where
   abbrev size : ℕ
@@ -81,7 +79,7 @@ module _ (S : Sheet) (ls : List ℤ) (ts : List ℕ) (l : LegalSheet limits S (h
   sized Saved = long .5
 
   ended : Ended (blows S ls ts) (wholeOf S ls ts) B (answerOf a) B′
-  ended = subst (λ (n : ℕ). Ends n (wholeOf S ls ts) B (answerOf a) B′) (accepts limits S ls ts l (lengths allSix B) (all-sized size B sized allSix)) said
+  ended = subst (λ (n : ℕ). Ends n (wholeOf S ls ts) B (answerOf a) B′) (accepts limits S ls ts l (lengths allSix B) (sized-names size B sized allSix)) said
 
   -- done: it did not blow, and the planes are there
   module _ (one : OneOf (1 ∷ []) (tagOf the-type a)) where

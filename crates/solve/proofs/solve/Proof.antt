@@ -1,6 +1,6 @@
 -- `solve`: refused as it was, or the runs of the sheet's mode.
 use mathlib.Core.Path.{sym, _∙_}
-use Rattle.solve.specs.Solve.{six}
+use Rattle.rounds.specs.Whole.{six}
 use Rattle.solve.proofs.Alone.{solve-refused, solve-joint, solve-separate}
 use borrow.Author.Needs.{needs}
 use Rattle.solve.proofs.solve.Statement.{statement}

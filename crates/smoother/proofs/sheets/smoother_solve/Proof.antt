@@ -1,6 +1,6 @@
 -- `smoother_solve`: no record, no mode, or what `solve` gives of the record's sheet, its answer as a number.
 use borrow.Author.Needs.{needs}
-use Rattle.solve.specs.Solve.{six}
+use Rattle.rounds.specs.Whole.{six}
 use Rattle.smoother.proofs.WholeLaws.{no-record, no-mode, solved}
 use Rattle.smoother.proofs.sheets.smoother_solve.Statement.{statement}
 use Rattle.smoother.proofs.sheets.smoother_solve.Tie as tie

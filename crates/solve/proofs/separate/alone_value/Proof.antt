@@ -1,6 +1,6 @@
 -- `alone_value`: the parts that are lent on are channel c's. Each need is a declaration of its own: one of them all takes too many steps.
 use native.Mathlib.Omega.{arith}
-use Rattle.solve.specs.Solve.{six}
+use Rattle.rounds.specs.Whole.{six}
 use Rattle.solve.proofs.Alone.{alone-is}
 use borrow.Author.Needs.{needs}
 use Rattle.solve.proofs.separate.alone_value.Statement.{statement}

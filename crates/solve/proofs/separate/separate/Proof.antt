@@ -1,7 +1,7 @@
 -- `separate`: the channels passed have their planes, and none is blown.
 use Prim.Native.Nat.{_-_}
 use native.Mathlib.Omega.{arith}
-use Rattle.solve.specs.Solve.{six}
+use Rattle.rounds.specs.Whole.{six}
 use Rattle.solve.proofs.Alone.{joint-legal, few-channels, Parting, begins, alone-asks, goes-on, stops, ends}
 use borrow.Author.Needs.{needs}
 use Rattle.solve.proofs.separate.separate.Statement.{statement}

@@ -1,7 +1,7 @@
 -- `turns_of`: one call if the job is blend.
 use borrow.Author.Tests.{eq-eqb, ne-eqb}
-use Rattle.solve.proofs.whole.turns_of.Statement.{statement}
-use Rattle.solve.proofs.whole.turns_of.Tie as tie
+use Rattle.rounds.proofs.turns_of.Statement.{statement}
+use Rattle.rounds.proofs.turns_of.Tie as tie
 
 returns : tie.Need-returns
 returns c = rw (eq-eqb (c .before .args .job) 2 (c .if1 .taken))

@@ -6,8 +6,8 @@ use run::values::start_value;
 use serve::jobs::job_value;
 ghost use mathlib.Core.Path.{_≡_};
 ghost use Rattle.record.specs.Model.{givenOf, answerOf};
-ghost use Rattle.solve.specs.Solve.{six, runOf, Ends, RunIs};
-ghost use Rattle.solve.specs.Rounds.{turns, RoundAsks, RoundIs, RunAsks};
+ghost use Rattle.rounds.specs.Whole.{six, runOf, Ends, RunIs};
+ghost use Rattle.rounds.specs.Rounds.{turns, RoundAsks, RoundIs, RunAsks};
 
 // How many calls a round makes: one for each channel, but one for all if the job is blend.
 fn turns_of(job: u32, count: u32) -> u32
@@ -62,7 +62,7 @@ fn round(
 }
 
 // All rounds of a run that stands at its start: 5N of them.
-fn rounds(
+fn all_rounds(
     run: Run,
     levels: &[i16],
     tables: &[u16],
@@ -134,7 +134,7 @@ pub fn run_value(
         return a;
     };
     let started = t.run;
-    rounds(
+    all_rounds(
         started,
         levels,
         tables,

@@ -9,9 +9,8 @@ use Prim.Native.Nat.{ℕ, zero, suc, _+_, _*_, _≤_, _<_}
 use native.Mathlib.Omega.{arith}
 use native.Mathlib.Numerals.{add-one}
 use lib.ListN.{length}
-use lib.Dec.{T, eqb, eqb→eq}
 use lib.IntN.{ℤ}
-use lib.Ieee.Fits.{and-l, and-r}
+use lib.Ieee.Fits.{and-r}
 use Rattle.start.specs.Buffers.{Buffers}
 use Rattle.calls.specs.Run.{Given, Sheet, Place, fresh, place, count, area, among, sheetOk, placesOk}
 use Rattle.calls.specs.Buffers.{Plane, Prior, Gradient, Across, Down, Saved, Sized}
@@ -22,7 +21,7 @@ use Rattle.calls.specs.Between.{GivenOk, Inv}
 use Rattle.calls.proofs.Legal.{places-are}
 use Rattle.calls.proofs.Facts.{sheet-is}
 use Rattle.calls.proofs.Parts.{joined-channels}
-use Rattle.calls.proofs.Tests.{Lent, lent-of}
+use Rattle.calls.proofs.Tests.{among-true, sized-of, Lent, lent-of}
 use Rattle.calls.proofs.Runs.{between, given-ok}
 use Rattle.demand.specs.Solver.{jobs}
 use Rattle.demand.proofs.Laws.{laws}
@@ -33,10 +32,9 @@ use Rattle.record.proofs.Answer.{the-type}
 use Rattle.record.specs.Model.{sheetOf, placesOf, givenOf, answerOf}
 use Rattle.record.proofs.Placed.{sheet-stays, places-placed}
 use Rattle.run.specs.Public.{Result, stateOf, StartIs}
-use Rattle.solve.specs.Solve.{jobCount, runBlows, Whole, last, runOf, SameLengths, Ended, Ends, RunIs}
-use Rattle.solve.specs.Rounds.{AllAt, roundBlows, RoundAsks, RoundIs, RunAsks}
-use Rattle.solve.proofs.Rounds.{among-true}
-use Rattle.solve.proofs.Steps.{Kept, kept-of}
+use Rattle.rounds.specs.Whole.{jobCount, runBlows, Whole, last, runOf, SameLengths, Ended, Ends, RunIs}
+use Rattle.rounds.specs.Rounds.{AllAt, roundBlows, RoundAsks, RoundIs, RunAsks}
+use Rattle.rounds.proofs.Steps.{Kept, kept-of}
 
 -- ---- lengths
 
@@ -47,14 +45,6 @@ same-lengths B₀ B k Gradient = k .gradient-long
 same-lengths B₀ B k Across = k .across-long
 same-lengths B₀ B k Down = k .down-long
 same-lengths B₀ B k Saved = k .saved-long
-
-pub sized-of : (m : ℕ) (B : Buffers) → T (all (λ n. eqb n m) (lengths allSix B)) → Sized m B
-sized-of m B t Plane = eqb→eq (length (B .plane)) m (search (and-l, and-r) depth 12)
-sized-of m B t Prior = eqb→eq (length (B .prior)) m (search (and-l, and-r) depth 12)
-sized-of m B t Gradient = eqb→eq (length (B .gradient)) m (search (and-l, and-r) depth 12)
-sized-of m B t Across = eqb→eq (length (B .across)) m (search (and-l, and-r) depth 12)
-sized-of m B t Down = eqb→eq (length (B .down)) m (search (and-l, and-r) depth 12)
-sized-of m B t Saved = eqb→eq (length (B .saved)) m (search (and-l, and-r) depth 12)
 
 -- ---- the rounds
 

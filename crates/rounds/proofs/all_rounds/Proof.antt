@@ -1,12 +1,12 @@
--- `rounds`: after p rounds all channels stand at p, and none is blown.
+-- `all_rounds`: after p rounds all channels stand at p, and none is blown.
 use Prim.Native.Nat.{_-_}
 use native.Mathlib.Omega.{arith}
 use Rattle.record.specs.Model.{givenOf}
-use Rattle.solve.specs.Solve.{six}
-use Rattle.solve.proofs.Ends.{Rounding, few, begins, round-asks, goes-on, stops, ends}
+use Rattle.rounds.specs.Whole.{six}
+use Rattle.rounds.proofs.Ends.{Rounding, few, begins, round-asks, goes-on, stops, ends}
 use borrow.Author.Needs.{needs}
-use Rattle.solve.proofs.whole.rounds.Statement.{statement}
-use Rattle.solve.proofs.whole.rounds.Tie as tie
+use Rattle.rounds.proofs.all_rounds.Statement.{statement}
+use Rattle.rounds.proofs.all_rounds.Tie as tie
 
 abbrev Inv-loop : tie.InvT-loop
 Inv-loop levels tables plane₀ prior₀ gradient₀ across₀ down₀ saved₀ next₀ p₀ p-end plane prior gradient across down saved next p =
@@ -53,8 +53,8 @@ returns-2 c =
     ends _ _ _ _ (c .before .before .before .before .before .before .before .before .before .before .pre)
     _ _ _ (s .inv) (c .loop-test .left)
 
-pub rounds-spec : {M : Type 1} → statement M
-rounds-spec =
+pub all-rounds-spec : {M : Type 1} → statement M
+all-rounds-spec =
     tie.close
     (tie.spec Inv-loop μ-loop mul-p-end loop-holds round-requires (λ c. search needs) (λ c. search needs)
     (λ c. search needs) (λ c. search needs) (λ c. search needs) (λ c. search needs) (λ c. search needs) returns

@@ -1,11 +1,11 @@
 -- `round`: the channels passed have had the job.
 use Prim.Native.Nat.{_-_}
 use Rattle.record.specs.Model.{givenOf}
-use Rattle.solve.specs.Solve.{six}
-use Rattle.solve.proofs.Steps.{Passing, begins, goes-on, stops, ends}
+use Rattle.rounds.specs.Whole.{six}
+use Rattle.rounds.proofs.Steps.{Passing, begins, goes-on, stops, ends}
 use borrow.Author.Needs.{needs}
-use Rattle.solve.proofs.whole.round.Statement.{statement}
-use Rattle.solve.proofs.whole.round.Tie as tie
+use Rattle.rounds.proofs.round.Statement.{statement}
+use Rattle.rounds.proofs.round.Tie as tie
 
 abbrev Inv-loop : tie.InvT-loop
 Inv-loop p levels tables plane₀ prior₀ gradient₀ across₀ down₀ saved₀ job next₀ c₀ c-end plane prior gradient across down saved next c =

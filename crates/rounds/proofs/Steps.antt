@@ -21,8 +21,9 @@ use Rattle.calls.specs.Calls as Calls
 use Rattle.calls.specs.Calls.{Called, refused, done, blown, advance, onward, reply, call}
 use Rattle.calls.specs.Between.{GivenOk, Inv}
 use Rattle.calls.proofs.Legal.{advance-position, place-here, place-elsewhere}
-use Rattle.calls.proofs.Tests.{getD-map-lt}
+use Rattle.calls.proofs.Tests.{among-false, among-true, getD-map-lt}
 use Rattle.calls.proofs.Step.{call-good}
+use Rattle.calls.proofs.Turns.{on-answer, on-places, blend-answer, blend-places}
 use Rattle.demand.specs.Solver.{jobs}
 use Rattle.demand.proofs.Laws.{laws}
 use Rattle.record.specs.declared.Run.{Run}
@@ -33,9 +34,8 @@ use Rattle.record.specs.Model.{sheetOf, placesOf, givenOf, answerOf}
 use Rattle.record.proofs.Placed.{sheet-stays, places-placed}
 use Rattle.run.specs.Public.{Result, result, gave, stateOf, callOf}
 use Rattle.serve.specs.Serve.{numbered}
-use Rattle.solve.specs.Solve.{blowsAt}
-use Rattle.solve.specs.Rounds.{AllAt, passed, Within, turns, roundBlows, RoundAsks, RoundIs}
-use Rattle.solve.proofs.Rounds.{among-false, among-true, on-answer, on-places, blend-answer, blend-places}
+use Rattle.rounds.specs.Whole.{blowsAt}
+use Rattle.rounds.specs.Rounds.{AllAt, passed, Within, turns, roundBlows, RoundAsks, RoundIs}
 
 -- ---- what a call by its number leaves, where it is the model's call x
 

@@ -1,42 +1,19 @@
--- A call in its turn, of the model.
-use mathlib.Core.Path.{_≡_, refl, ap, _∙_}
-use mathlib.Core.Logic.{_⊎_, inl, inr}
-use mathlib.Core.Bool.{Bool, true, false, not, _||_}
+-- A call in its turn, for any jobs: it is accepted, and what it answers and leaves is by the fixed buffers.
+use mathlib.Core.Path.{_≡_, ap, _∙_}
+use mathlib.Core.Bool.{Bool, true, false, not}
 use mathlib.Core.List.{List, [], map}
-use Prim.Native.Nat.{ℕ, zero, suc, _*_, _%_, _<_}
-use native.Mathlib.Nat.{eq-or-lt-of-le}
+use Prim.Native.Nat.{ℕ, _*_, _%_, _<_}
 use native.Mathlib.Omega.{arith}
 use lib.ListN.{set}
 use lib.Dec.{eqb}
 use borrow.Author.Tests.{lt-ltb, eq-eqb, ne-eqb}
-use Rattle.calls.specs.Run.{Given, Sheet, Place, place, count, among, every}
+use Rattle.calls.specs.Run.{Given, Sheet, Place, place, count}
 use Rattle.calls.specs.Jobs.{Job, on, blend, turn, blendTurn, Jobs, Seen, seenAt}
 use Rattle.calls.specs.Calls.{State, Plain, done, first, test, turnTests, advance, onward, reply, call, plain, plainAccept, plainSettle}
 use Rattle.calls.specs.Between.{GivenOk, Inv}
 use Rattle.calls.specs.Laws.{Laws}
-use Rattle.calls.proofs.Tests.{skip}
+use Rattle.calls.proofs.Tests.{every-true, among-false, skip}
 use Rattle.calls.proofs.Step.{call-good}
-
--- a test of every channel below k is true where each is, and of any is false where none is
-pub every-true : (k : ℕ) (f : ℕ → Bool) → ((c : ℕ) → c < k → f c ≡ true) → every k f ≡ true
-every-true zero f h = refl
-every-true (suc k) f h = rw (every-true k f (λ c p. h c (omega arith))) (h k (omega arith))
-
-pub among-false : (k : ℕ) (f : ℕ → Bool) → ((c : ℕ) → c < k → f c ≡ false) → among k f ≡ false
-among-false zero f h = refl
-among-false (suc k) f h = rw (among-false k f (λ c p. h c (omega arith))) (h k (omega arith))
-
-or-true : (a b : Bool) → b ≡ true → (a || b) ≡ true
-or-true true b e = refl
-or-true false b e = e
-
-pub among-true : (k : ℕ) (f : ℕ → Bool) (c : ℕ) → c < k → f c ≡ true → among k f ≡ true
-among-true zero f c h e = absurd (omega arith)
-among-true (suc k) f c h e = go (eq-or-lt-of-le h) (λ l. among-true k f c l e)
-  where
-    go : (suc c ≡ suc k) ⊎ (suc c < suc k) → (c < k → among k f ≡ true) → (among k f || f k) ≡ true
-    go (inl q) ih = let same : k ≡ c = omega arith in or-true (among k f) (f k) (ap f same ∙ e)
-    go (inr l) ih = rw (ih (omega arith))
 
 module _ (S : Sheet) (ps : List Place) (p : ℕ) (left : p < 5 * S .N) where
   -- in its turn, none of the tests is true

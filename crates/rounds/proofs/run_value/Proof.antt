@@ -1,9 +1,9 @@
 -- `run_value`: refused as start refuses, or all rounds from what start leaves.
-use Rattle.solve.specs.Solve.{six}
-use Rattle.solve.proofs.Ends.{refuses, run-asks, runs-on}
+use Rattle.rounds.specs.Whole.{six}
+use Rattle.rounds.proofs.Ends.{refuses, run-asks, runs-on}
 use borrow.Author.Needs.{needs}
-use Rattle.solve.proofs.whole.run_value.Statement.{statement}
-use Rattle.solve.proofs.whole.run_value.Tie as tie
+use Rattle.rounds.proofs.run_value.Statement.{statement}
+use Rattle.rounds.proofs.run_value.Tie as tie
 
 returns : tie.Need-returns
 returns c =
@@ -11,8 +11,8 @@ returns c =
     let o = c .before .before .before .before .before .before .before .before .before .before .before .before .before .start-value in
     refuses (a .run) (a .levels .now) (a .tables .now) (six (a .plane .now) (a .prior .now) (a .gradient .now) (a .across .now) (a .down .now) (a .saved .now)) (o .result .answer) (o .result .run) _ (o .ensures) (c .match .keys2)
 
-rounds-requires : tie.Need-rounds-requires
-rounds-requires c κs =
+all-rounds-requires : tie.Need-all-rounds-requires
+all-rounds-requires c κs =
     let a = c .before .before .before .before .before .before .before .before .before .before .before .before .before .before .before .before .before .before .before .before .before .before .before .before .before .before .before .before .before .before .before .before .before .before .before .args in
     let o = c .before .before .before .before .before .before .before .before .before .before .before .before .before .before .before .before .before .before .before .before .before .start-value in
     run-asks (a .run) (a .levels .now) (a .tables .now) (six (a .plane .now) (a .prior .now) (a .gradient .now) (a .across .now) (a .down .now) (a .saved .now)) (o .result .answer) (o .result .run) _ (o .ensures) (c .before .before .before .before .before .before .before .before .match .keys1)
@@ -21,11 +21,11 @@ returns-2 : tie.Need-returns-2
 returns-2 c =
     let a = c .before .before .before .before .before .before .before .before .before .before .before .before .before .before .before .before .before .before .before .before .before .before .before .before .before .before .before .before .before .before .before .before .before .before .before .before .before .before .before .before .before .before .before .before .before .before .before .before .args in
     let o = c .before .before .before .before .before .before .before .before .before .before .before .before .before .before .before .before .before .before .before .before .before .before .before .before .before .before .before .before .before .before .before .before .before .before .start-value in
-    runs-on (a .run) (a .levels .now) (a .tables .now) (six (a .plane .now) (a .prior .now) (a .gradient .now) (a .across .now) (a .down .now) (a .saved .now)) (o .result .answer) (o .result .run) _ (o .ensures) (c .before .before .before .before .before .before .before .before .before .before .before .before .before .before .before .before .before .before .before .before .before .match .keys1) (c .before .before .before .before .before .before .before .before .before .before .before .before .rounds .result) _ (c .before .before .before .before .before .before .before .before .before .before .before .before .rounds .ensures)
+    runs-on (a .run) (a .levels .now) (a .tables .now) (six (a .plane .now) (a .prior .now) (a .gradient .now) (a .across .now) (a .down .now) (a .saved .now)) (o .result .answer) (o .result .run) _ (o .ensures) (c .before .before .before .before .before .before .before .before .before .before .before .before .before .before .before .before .before .before .before .before .before .match .keys1) (c .before .before .before .before .before .before .before .before .before .before .before .before .all-rounds .result) _ (c .before .before .before .before .before .before .before .before .before .before .before .before .all-rounds .ensures)
 
 pub run-value-spec : {M : Type 1} → statement M
 run-value-spec =
     tie.close
     (tie.spec (λ c κs. search needs) (λ c. search needs) (λ c. search needs) (λ c. search needs) (λ c. search needs)
-    (λ c. search needs) (λ c. search needs) (λ c. search needs) returns rounds-requires (λ c. search needs)
+    (λ c. search needs) (λ c. search needs) (λ c. search needs) returns all-rounds-requires (λ c. search needs)
     (λ c. search needs) (λ c. search needs) (λ c. search needs) (λ c. search needs) (λ c. search needs) returns-2)

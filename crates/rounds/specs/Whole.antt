@@ -1,0 +1,74 @@
+-- A run of all its jobs (document 01, "Whole run and picture"): the buffers that it leaves, when it blows, and how it ends.
+use Prim.Native.Nat.{ℕ, zero, suc, _*_, _%_}
+use mathlib.Core.Path.{_≡_}
+use mathlib.Core.Bool.{Bool, true, false, _&&_}
+use mathlib.Core.List.{List}
+use lib.IntN.{ℤ}
+use lib.ListN.{length}
+use lib.Dec.{eqb}
+use lib.Ieee.{Float}
+use Rattle.start.specs.Buffers.{Buffers}
+use Rattle.calls.specs.Run.{Given, count, among}
+use Rattle.calls.specs.Buffers.{Name, get, joined}
+use Rattle.calls.specs.Jobs.{fixed, channelBlown}
+use Rattle.calls.specs.Calls as Calls
+use Rattle.calls.specs.Calls.{lengths, allSix, startRefusal}
+use Rattle.demand.specs.Solver.{jobs}
+use Rattle.record.specs.declared.Run.{Run}
+use Rattle.record.specs.declared.Answer.{Answer}
+use Rattle.record.specs.Model.{placesOf, givenOf, answerOf}
+
+-- ---- what a run leaves, by what it is given
+
+-- how many jobs a channel of the run has: 5N
+abbrev pub jobCount : Given → ℕ
+jobCount G = 5 * G .sheet .N
+
+-- Job k of channel c, counted from 0, leaves it blown: it is a project, after which the condition of job 5 holds.
+unfoldable pub blowsAt : Given → ℕ → ℕ → Bool
+blowsAt G c k = eqb (k % 5) 4 && channelBlown G c (fixed jobs G (suc k) c)
+
+-- any of the run's jobs does
+unfoldable pub runBlows : Given → Bool
+runBlows G = among (jobCount G) (λ k. among (count G) (λ c. blowsAt G c k))
+
+pub record Whole : Type 0 where
+  -- channel after channel, the six buffers as they are fixed for 5N jobs
+  pub buffers : Buffers
+  -- a channel is blown
+  pub blown : Bool
+
+-- "`solve` is the plane after 5N jobs; N = 0 gives the unprojected start."
+unfoldable pub last : Given → ℕ → Buffers
+last G c = fixed jobs G (jobCount G) c
+
+-- a run of all its jobs
+unfoldable pub runOf : Given → Whole
+runOf G = record { buffers = joined (count G) (last G); blown = runBlows G }
+
+-- ---- how a run ends
+
+-- the six lent buffers
+abbrev pub six : List Float → List Float → List Float → List Float → List Float → List Float → Buffers
+six plane prior gradient across down saved =
+    record { plane = plane; prior = prior; gradient = gradient; across = across; down = down; saved = saved }
+
+-- each of the six keeps its length; what it holds is left free
+abbrev pub SameLengths : Buffers → Buffers → Type 0
+SameLengths B B′ = (b : Name) → length (get b B′) ≡ length (get b B)
+
+-- How a whole run that is not refused ends, by whether it blows: blown, the six being free but for their lengths; or done, with the six.
+abbrev pub Ended : Bool → Whole → Buffers → Calls.Answer → Buffers → Type 0
+Ended true w B a B′ = (a ≡ Calls.blown) × SameLengths B B′
+Ended false w B a B′ = (a ≡ Calls.done) × (B′ ≡ w .buffers) × SameLengths B B′
+
+-- By its refusal, 0 for none: a refusal leaves the six as they were.
+abbrev pub Ends : ℕ → Whole → Buffers → Calls.Answer → Buffers → Type 0
+Ends (suc n) w B a B′ = (a ≡ Calls.refused (suc n)) × (B′ ≡ B)
+Ends zero w B a B′ = Ended (w .blown) w B a B′
+
+-- the run of one record, from its start to its last job
+abbrev pub RunIs : Run → List ℤ → List ℕ → Buffers → Answer → Buffers → Type 0
+RunIs r levels tables B a B′ =
+    let G = givenOf r levels tables in
+    Ends (startRefusal G (placesOf r) (lengths allSix B)) (runOf G) B (answerOf a) B′
