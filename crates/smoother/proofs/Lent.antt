@@ -1,4 +1,4 @@
--- What the walks of the thin calls share of this crate's types: the record `Run`, which is lent, and `Numbered`, the answer and the record that each covered function returns.
+-- What the walks of the thin calls share of the types: the record `Run`, which is lent, and `Numbered`, the answer and the record that each covered function returns.
 --     mach, answer     the machine values of a record and of an answer
 --     answer-is, run-is        what whoever holds a result knows of its fields
 --     run-typed, result-typed, answer-typed    that a machine value has its MIR type.        result-told      a result's machine value, spelled out.        answer-makes     what an answer owns is had for nothing

@@ -2,5 +2,7 @@
 pub mod SheetLaws
 pub mod InNumbers
 pub mod Lent
+pub mod Thin
+pub mod Walk
 pub mod WholeLaws
 pub mod RoundTrip

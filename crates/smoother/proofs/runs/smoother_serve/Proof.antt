@@ -1,8 +1,8 @@
 -- `smoother::runs::smoother_serve` meets its contract: a walk of its MIR, by hand. The record is copied out of its borrow, `serve_number` is called with the copy and with the other parameters, which are given up for good, and the record that it returns is stored.
 -- All that the proof knows of `serve_number` is that it meets its contract, and it opens no clause: what is ensured of the result and of the record at exit is what `serve_number` ensures of its result's fields.
 -- What all such walks share is in `Thin.antt` and `Lent.antt`. Assumes nothing.
-use Rattle.lent.proofs.Walk.{ℕ, refl, List, [], _∷_, URA, fullShare, Val, vptr, SProp, ent, sep, via, GName, Lft, Share, fat, flft, fobs, fbor, Memory, Routine, Heap, Calls, Loops, WpFn, Tables, Atoms, Fun, Lfts, Shares, givenOf, tables, tablesOf, Given, ‵, raw, _⊛_, ⋆, _$_, _∵_, !, qed, by, move, keep, drop, use3, split, rewrite, fsplit, fsplit3, look, look-raw, init, forget, store-raw, stop, hop, fld, from, load, addr, of-opd, and-then, no-more, assigns, land, returns, enter, alloc1, alloc0, params1, pass1, pass0, free1, free0, agg, whole, sub, look-in, Body, FmC, fmOf, RattleType, Denots, Valss, owns, flat, mirs, Is, Ises, Are, Spells, valss, Tellss, Lawfuls, Typed, all-typed, shows, mem, RefT, ptr-vals, mut-tells, plain, typesAt, slice-vals, mut-slice-tells, mut-slice-lawful, shr-slice-tells, shr-slice-lawful, u8, u16, u32, i16, f32, peeks, named, Contract, Triple, calls-at, Lasts, lasts, atExit, lastsOf, alive, onEntry, Meets, tripleOf, entered, cited, Stays, stay-ref, walkOf, goes-ref, ends-at}
-use Rattle.lent.proofs.Thin.{tail, gives, gives-fit, gives-go, opens-record, closes-record, passes-on, returned, hands-back, by-walk}
+use Rattle.smoother.proofs.Walk.{ℕ, refl, List, [], _∷_, URA, fullShare, Val, vptr, SProp, ent, sep, via, GName, Lft, Share, fat, flft, fobs, fbor, Memory, Routine, Heap, Calls, Loops, WpFn, Tables, Atoms, Fun, Lfts, Shares, givenOf, tables, tablesOf, Given, ‵, raw, _⊛_, ⋆, _$_, _∵_, !, qed, by, move, keep, drop, use3, split, rewrite, fsplit, fsplit3, look, look-raw, init, forget, store-raw, stop, hop, fld, from, load, addr, of-opd, and-then, no-more, assigns, land, returns, enter, alloc1, alloc0, params1, pass1, pass0, free1, free0, agg, whole, sub, look-in, Body, FmC, fmOf, RattleType, Denots, Valss, owns, flat, mirs, Is, Ises, Are, Spells, valss, Tellss, Lawfuls, Typed, all-typed, shows, mem, RefT, ptr-vals, mut-tells, plain, typesAt, slice-vals, mut-slice-tells, mut-slice-lawful, shr-slice-tells, shr-slice-lawful, u8, u16, u32, i16, f32, peeks, named, Contract, Triple, calls-at, Lasts, lasts, atExit, lastsOf, alive, onEntry, Meets, tripleOf, entered, cited, Stays, stay-ref, walkOf, goes-ref, ends-at}
+use Rattle.smoother.proofs.Thin.{tail, gives, gives-fit, gives-go, opens-record, closes-record, passes-on, returned, hands-back, by-walk}
 use Rattle.smoother.proofs.Lent.{mach, answer, answer-is, run-is, result-told, run-typed, result-typed, answer-typed, answer-makes}
 use Rattle.record.specs.declared.Run.{Run}
 use Rattle.smoother.specs.declared.Numbered.{Numbered}
