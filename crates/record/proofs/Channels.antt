@@ -11,8 +11,8 @@ use lib.Seq.{getD-take, length-take-le}
 use lib.Dec.{T, eqb, eqb→eq}
 use lib.Ieee.Fits.{and-l, and-r}
 use borrow.Author.Tests.{eq-eqb}
-use Rattle.calls.specs.Run.{Numbers, Sheet, own, Place, fresh, place, every, among, headerOk}
-use Rattle.record.specs.Model.{ownOf, placeOf, sheetOf, placesOf, noChannel}
+use Rattle.calls.specs.Run.{Numbers, Sheet, own, ownOk, Place, fresh, place, placeOk, blendsIn, every, among, headerOk}
+use Rattle.record.specs.Model.{ownOf, placeOf, sheetOf, placesOf, channelOk, noChannel}
 use Rattle.record.specs.declared.Run.{Run}
 use Rattle.record.specs.declared.Channel.{Channel}
 
@@ -86,6 +86,27 @@ header-count S e =
 
 pub places-counted : (r : Run) → r .count ≤ length (r .channels) → eqb (length (placesOf r)) (r .count) ≡ true
 places-counted r long = eq-eqb (length (placesOf r)) (r .count) (first-long placeOf fresh r long)
+
+-- ---- all tests of each channel, or each test of all channels
+
+apart : (F G H a b c : Bool) → (F && (G && H) && (a && b && c)) ≡ (F && a && (G && b && (H && c)))
+apart false G H a b c = refl
+apart true false H true b c = refl
+apart true false H false b c = refl
+apart true true false true true c = refl
+apart true true false true false c = refl
+apart true true false false b c = refl
+apart true true true true b c = refl
+apart true true true false b c = refl
+
+pub each-channel : (S : Sheet) (ps : List Place) (k : ℕ) → every k (channelOk S ps)
+    ≡ (every k (λ c. ownOk S (own S c))
+    && (every k (λ c. placeOk S (place ps c)) && every k (λ c. eqb (blendsIn (place ps c .position)) (blendsIn (place ps 0 .position)))))
+each-channel S ps zero = refl
+each-channel S ps (suc k) =
+    let equal : ℕ → Bool = λ c. eqb (blendsIn (place ps c .position)) (blendsIn (place ps 0 .position)) in
+    ap (λ (b : Bool). b && channelOk S ps k) (each-channel S ps k)
+    ∙ apart (every k (λ c. ownOk S (own S c))) (every k (λ c. placeOk S (place ps c))) (every k equal) (ownOk S (own S k)) (placeOk S (place ps k)) (equal k)
 
 -- ---- a loop's end
 

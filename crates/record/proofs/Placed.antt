@@ -67,15 +67,20 @@ placed-same r = ap (withChannels r) (none (r .count) (r .channels))
 pub placed-none : (r : Run) (qs : List Place) → r ≡ placed r (take 0 qs)
 placed-none r qs = ap (withChannels r) (sym (none-yet (r .channels) qs))
 
--- a change of places: of channel c's; and of each, channel by channel, one more, at the code's `k + 1`, and all of them
+-- channel c at the place p
+pub placed-at : (r : Run) (c : ℕ) (p : Place) {x : Channel} → c < r .count → x ≡ withPlace (getD (r .channels) c noChannel) p
+    → withChannels r (set (r .channels) c x) ≡ placed r (set (placesOf r) c p)
+placed-at r c p h e = ap (λ (y : Channel). withChannels r (set (r .channels) c y)) e ∙ ap (withChannels r) (sym (one (r .count) (r .channels) c p h))
+
+-- a channel x with its place changed by g, x being y and its place p
+pub on-place : (g : Place → Place) {x y z : Channel} {p : Place} → z ≡ withPlace x (g (placeOf x)) → x ≡ y → placeOf x ≡ p → z ≡ withPlace y (g p)
+on-place g h e q = h ∙ (λ i. withPlace (e i) (g (q i)))
+
+-- a change of each place, channel by channel: one more, at the code's `k + 1`, and all of them
 module _ (r : Run) (long : r .count ≤ length (r .channels)) (g : Place → Place) where
   -- channel c with its place changed
   abbrev changed : ℕ → Channel
   changed c = withPlace (getD (r .channels) c noChannel) (g (placeOf (getD (r .channels) c noChannel)))
-
-  pub placed-one : (c : ℕ) → c < r .count
-      → withChannels r (set (r .channels) c (changed c)) ≡ placed r (set (placesOf r) c (g (place (placesOf r) c)))
-  placed-one c h = rw (at-place r c long h) (ap (withChannels r) (sym (one (r .count) (r .channels) c (g (placeOf (getD (r .channels) c noChannel))) h)))
 
   counted : length (map g (placesOf r)) ≡ r .count
   counted = length-map (placesOf r) g ∙ first-long placeOf fresh r long

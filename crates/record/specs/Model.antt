@@ -1,12 +1,13 @@
 -- The code's struct as the model's record: the first `count` of its three channels, a sheet's half and a place of each.
-use Prim.Native.Nat.{ℕ}
-use mathlib.Core.Bool.{Bool, false}
+use Prim.Native.Nat.{ℕ, _≤_}
+use mathlib.Core.Path.{_≡_}
+use mathlib.Core.Bool.{Bool, false, _&&_}
 use mathlib.Core.List.{List, [], _∷_, map}
-use lib.ListN.{take}
+use lib.ListN.{getD, take}
 use lib.Ieee.{nan}
-use lib.Dec.{T}
+use lib.Dec.{T, eqb}
 use lib.IntN.{ℤ}
-use Rattle.calls.specs.Run.{Numbers, Sheet, Place, Given, legal}
+use Rattle.calls.specs.Run.{Numbers, Sheet, Place, Given, own, ownOk, place, placeOk, blendsIn, legal}
 use Rattle.calls.specs.Jobs as Jobs
 use Rattle.calls.specs.Calls as Calls
 use Rattle.record.specs.declared.Run.{Run}
@@ -39,6 +40,10 @@ givenOf r levels tables = record { sheet = sheetOf r; levels = levels; tables = 
 abbrev pub Legal : Run → Type 0
 Legal r = T (legal (sheetOf r) (placesOf r))
 
+-- channel c of a legal record: its own numbers, its place, and as many blends as channel 0 has had
+abbrev pub channelOk : Sheet → List Place → ℕ → Bool
+channelOk S ps c = ownOk S (own S c) && placeOk S (place ps c) && eqb (blendsIn (place ps c .position)) (blendsIn (place ps 0 .position))
+
 -- ---- the struct with other channels, and with other places: channel by channel, as long as there are places; the rest of it stays
 
 abbrev pub withChannels : Run → List Channel → Run
@@ -59,6 +64,13 @@ placed r ps = withChannels r (withPlaces (r .channels) ps)
 -- what is read past the three channels
 abbrev pub noChannel : Channel
 noChannel = record { width = 0; height = 0; across = 0; down = 0; weight = nan; position = 0; mark = false }
+
+-- x is channel c of the record: its own numbers and its place are the model's
+pub record ChannelIs (r : Run) (c : ℕ) (x : Channel) : Type 0 where
+  pub is : x ≡ getD (r .channels) c noChannel
+  pub its-own : ownOf x ≡ own (sheetOf r) c
+  pub its-place : placeOf x ≡ place (placesOf r) c
+  pub position-small : x .position ≤ 5000
 
 -- ---- answers
 

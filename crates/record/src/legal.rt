@@ -4,12 +4,12 @@ use crate::Run;
 use fold::flags::both;
 use fold::flags::either;
 ghost use mathlib.Core.Path.{_≡_};
-ghost use mathlib.Core.Bool.{not};
+ghost use mathlib.Core.Bool.{_&&_, not};
 ghost use Prim.Native.Nat.{ℕ, _+_, _/_, _≤_};
 ghost use lib.ListN.{getD};
 ghost use lib.Dec.{eqb};
-ghost use Rattle.calls.specs.Run.{Sheet, legal, side, fullSide, factor, weight, own, ownOk, place, placeOk, headerOk, placesOk, every, blendsIn};
-ghost use Rattle.record.specs.Model.{ownOf, placeOf, sheetOf, placesOf};
+ghost use Rattle.calls.specs.Run.{Sheet, legal, side, fullSide, factor, weight, ownOk, placeOk, headerOk, every, blendsIn};
+ghost use Rattle.record.specs.Model.{ownOf, placeOf, sheetOf, placesOf, channelOk};
 
 // A multiple of 8, at least 8.
 fn side_ok(x: u32) -> bool
@@ -76,42 +76,27 @@ fn header_ok(run: Run) -> bool
     both(numbers, either(run.count == 1, run.count == 3))
 }
 
-fn owns_ok(run: Run) -> bool
-    requires { ⌜ run .count ≤ 3 ⌝ }
-    ensures { λ r. ⌜ r ≡ every (run .count) (λ c. ownOk (sheetOf run) (own (sheetOf run) c)) ⌝ }
+// A channel of the record; `first` are the blends of the first channel.
+fn channel_ok(run: Run, first: u64, x: Channel) -> bool
+    ensures { λ r. ⌜ r ≡ (ownOk (sheetOf run) (ownOf x) && placeOk (sheetOf run) (placeOf x) && eqb (blendsIn (x .position)) first) ⌝ }
 {
-    let channels = run.channels;
-    let mut ok = true;
-    for c in 0..run.count as usize {
-        ok = both(ok, own_ok(run.w, run.h, channels[c]));
-    }
-    ok
+    let own = own_ok(run.w, run.h, x);
+    let place = place_ok(run.n, x);
+    let equal = blends(x.position) == first;
+    both(both(own, place), equal)
 }
 
-// Each channel's place is legal.
-fn each_place_ok(run: Run) -> bool
+// Every channel's own numbers and place, and as many blends as the first channel has had.
+fn channels_ok(run: Run) -> bool
     requires { ⌜ run .count ≤ 3 ⌝ }
-    ensures { λ r. ⌜ r ≡ every (run .count) (λ c. placeOk (sheetOf run) (place (placesOf run) c)) ⌝ }
-{
-    let channels = run.channels;
-    let mut ok = true;
-    for c in 0..run.count as usize {
-        ok = both(ok, place_ok(run.n, channels[c]));
-    }
-    ok
-}
-
-// All channels have had as many blends as the first.
-fn equal_blends(run: Run) -> bool
-    requires { ⌜ run .count ≤ 3 ⌝ }
-    ensures { λ r. ⌜ r ≡ every (run .count) (λ c. eqb (blendsIn (place (placesOf run) c .position)) (blendsIn (place (placesOf run) 0 .position))) ⌝ }
+    ensures { λ r. ⌜ r ≡ every (run .count) (channelOk (sheetOf run) (placesOf run)) ⌝ }
 {
     let zero = run.channels[0];
     let first = blends(zero.position);
     let mut ok = true;
     for c in 0..run.count as usize {
         let x = run.channels[c];
-        ok = both(ok, blends(x.position) == first);
+        ok = both(ok, channel_ok(run, first, x));
     }
     ok
 }
@@ -124,6 +109,5 @@ pub fn legal(run: Run) -> bool
     if !header_ok(run) {
         return false;
     }
-    let places = both(each_place_ok(run), equal_blends(run));
-    both(owns_ok(run), places)
+    channels_ok(run)
 }

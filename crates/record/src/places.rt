@@ -5,11 +5,29 @@ use crate::Seen;
 use crate::refusals::area;
 ghost use mathlib.Core.Path.{_≡_};
 ghost use mathlib.Core.List.{map};
-ghost use Prim.Native.Nat.{suc, _+_, _*_, _/_, _<_, _≤_};
-ghost use lib.ListN.{set};
-ghost use Rattle.calls.specs.Run.{fresh, place};
+ghost use Prim.Native.Nat.{_+_, _*_, _/_, _<_, _≤_};
+ghost use mathlib.Core.Bool.{cond};
+ghost use lib.ListN.{getD, set};
+ghost use Rattle.calls.specs.Run.{Place, fresh, place, coefs};
 ghost use Rattle.calls.specs.Calls.{onward, marked};
-ghost use Rattle.record.specs.Model.{Legal, placeOf, placesOf, placed, withChannels, withPlace, seenOf};
+ghost use Rattle.record.specs.Model.{Legal, ChannelIs, sheetOf, placeOf, placesOf, placed, withChannels, withPlace, noChannel, seenOf};
+
+// Channel c of the record.
+pub fn channel_of(run: Run, c: u32) -> Channel
+    requires { ⌜ Legal run × (c < run .count) ⌝ }
+    ensures { λ r. ⌜ ChannelIs run c r ⌝ }
+{
+    run.channels[c as usize]
+}
+
+// Channel c's coefficients, w × h of them.
+pub fn coefs_of(run: Run, c: u32) -> usize
+    requires { ⌜ Legal run × (c < run .count) ⌝ }
+    ensures { λ r. ⌜ r ≡ coefs (sheetOf run) c ⌝ }
+{
+    let x = channel_of(run, c);
+    (x.width as usize) * (x.height as usize)
+}
 
 // Where channel c's values begin and end in a lent buffer, and the step that its next job belongs to.
 pub struct Span {
@@ -25,7 +43,7 @@ pub fn span_of(run: Run, c: u32) -> Span
 {
     let n = area(run);
     let from = (c as usize) * n;
-    let x = run.channels[c as usize];
+    let x = channel_of(run, c);
     Span {
         from,
         to: from + n,
@@ -74,12 +92,20 @@ fn fresh(x: Channel) -> Channel
     next
 }
 
+// The record with channel c, x, at another place.
+fn replaced(run: Run, c: u32, x: Channel) -> Run
+    requires { ⌜ Legal run × (c < run .count) ⌝ }
+    ensures { λ r. ⌜ ((p : Place) → x ≡ withPlace (getD (run .channels) c noChannel) p → r ≡ placed run (set (placesOf run) c p)) ⌝ }
+{
+    with_channel(run, c as usize, x)
+}
+
 // The record after an accepted job of channel c, but for project.
 pub fn advanced(run: Run, c: u32) -> Run
     requires { ⌜ Legal run × (c < run .count) ⌝ }
     ensures { λ r. ⌜ r ≡ placed run (set (placesOf run) c (onward (place (placesOf run) c))) ⌝ }
 {
-    with_channel(run, c as usize, onward(run.channels[c as usize]))
+    replaced(run, c, onward(channel_of(run, c)))
 }
 
 // The record after an accepted project of channel c.
@@ -87,7 +113,30 @@ pub fn projected(run: Run, c: u32, seen: Seen) -> Run
     requires { ⌜ Legal run × (c < run .count) ⌝ }
     ensures { λ r. ⌜ r ≡ placed run (set (placesOf run) c (marked (seenOf seen) (place (placesOf run) c))) ⌝ }
 {
-    with_channel(run, c as usize, marked(run.channels[c as usize], seen))
+    replaced(run, c, marked(channel_of(run, c), seen))
+}
+
+// A channel at the place of a fresh run, or after an accepted job.
+fn next_place(x: Channel, anew: bool) -> Channel
+    requires { ⌜ x .position < 4294967295 ⌝ }
+    ensures { λ r. ⌜ r ≡ withPlace x (cond anew fresh (onward (placeOf x))) ⌝ }
+{
+    if anew {
+        return fresh(x);
+    }
+    onward(x)
+}
+
+// The record with every channel so.
+fn next_places(run: Run, anew: bool) -> Run
+    requires { ⌜ Legal run ⌝ }
+    ensures { λ r. ⌜ r ≡ placed run (map (λ p. cond anew fresh (onward p)) (placesOf run)) ⌝ }
+{
+    let mut next = run;
+    for c in 0..run.count as usize {
+        next = with_channel(next, c, next_place(run.channels[c], anew));
+    }
+    next
 }
 
 // The record after an accepted blend.
@@ -95,11 +144,7 @@ pub fn blended(run: Run) -> Run
     requires { ⌜ Legal run ⌝ }
     ensures { λ r. ⌜ r ≡ placed run (map onward (placesOf run)) ⌝ }
 {
-    let mut next = run;
-    for c in 0..run.count as usize {
-        next = with_channel(next, c, onward(run.channels[c]));
-    }
-    next
+    next_places(run, false)
 }
 
 // The record of a fresh run.
@@ -107,9 +152,5 @@ pub fn cleared(run: Run) -> Run
     requires { ⌜ Legal run ⌝ }
     ensures { λ r. ⌜ r ≡ placed run (map (λ p. fresh) (placesOf run)) ⌝ }
 {
-    let mut next = run;
-    for c in 0..run.count as usize {
-        next = with_channel(next, c, fresh(run.channels[c]));
-    }
-    next
+    next_places(run, true)
 }

@@ -1,21 +1,42 @@
 // What each call refuses, in the table's order: 13, 8, 4, 5, 12, 10, 11, 9. An answer 0 is no refusal.
 use crate::Run;
 use crate::legal::legal;
+use crate::places::channel_of;
 use crate::scans::all_equal;
 use crate::scans::levels_fault;
 use crate::scans::tables_ok;
 use fold::flags::both;
 use fold::flags::either;
 ghost use mathlib.Core.Path.{_≡_};
-ghost use mathlib.Core.List.{List};
+ghost use mathlib.Core.List.{List, [], _∷_};
 ghost use mathlib.Core.Bool.{true, false};
 ghost use Prim.Native.Nat.{ℕ, _*_, _≤_};
 ghost use lib.IntN.{ℤ};
 ghost use lib.ListN.{length};
 ghost use Rattle.calls.specs.Run.{levelsBefore};
 ghost use Rattle.calls.specs.Jobs.{Job, on, blend, turn};
-ghost use Rattle.calls.specs.Calls.{first, turnTests, lendTests, lentLevels, valuesLong, refusal, startRefusal};
+ghost use Rattle.calls.specs.Calls.{first, test, turnTests, lendTests, lentLevels, valuesLong, refusal, startRefusal};
 ghost use Rattle.record.specs.Model.{Legal, sheetOf, placesOf, givenOf};
+
+// The number n where the test holds, else 0.
+fn test(n: u8, holds: bool) -> u8
+    ensures { λ r. ⌜ r ≡ test n holds ⌝ }
+{
+    if holds {
+        return n;
+    }
+    0
+}
+
+// The first of two that isn't 0.
+fn first(a: u8, b: u8) -> u8
+    ensures { λ r. ⌜ r ≡ first (a ∷ b ∷ []) ⌝ }
+{
+    if a == 0 {
+        return b;
+    }
+    a
+}
 
 // W × H, the values of a channel in a lent buffer.
 pub fn area(run: Run) -> usize
@@ -83,10 +104,9 @@ pub fn start_refusal(run: Run, lengths: &[usize], levels: &[i16], tables: &[u16]
     if !long {
         return 8;
     }
-    if !tables_ok(tables) {
-        return 4;
-    }
-    levels_fault(levels)
+    let table = test(4, !tables_ok(tables));
+    let level = levels_fault(levels);
+    first(table, level)
 }
 
 // 12, 10, 11 and 9 of a job of one channel; `job` is its place in the five.
@@ -97,17 +117,12 @@ fn turn_refusal(run: Run, c: u32, job: u32) -> u8
     if run.count <= c {
         return 12;
     }
-    let x = run.channels[c as usize];
-    if x.mark {
-        return 10;
-    }
-    if x.position == 5 * run.n {
-        return 11;
-    }
-    if x.position % 5 != job {
-        return 9;
-    }
-    0
+    let x = channel_of(run, c);
+    let marked = test(10, x.mark);
+    let ended = test(11, x.position == 5 * run.n);
+    let turn = test(9, x.position % 5 != job);
+    let past = first(ended, turn);
+    first(marked, past)
 }
 
 // 10, 11 and 9 of blend: any channel marked, any at its end, not every channel's turn.
@@ -125,16 +140,8 @@ fn blend_turn_refusal(run: Run) -> u8
         ended = either(ended, x.position == end);
         due = both(due, x.position % 5 == 2);
     }
-    if marked {
-        return 10;
-    }
-    if ended {
-        return 11;
-    }
-    if !due {
-        return 9;
-    }
-    0
+    let past = first(test(11, ended), test(9, !due));
+    first(test(10, marked), past)
 }
 
 // The refusal of push or move.

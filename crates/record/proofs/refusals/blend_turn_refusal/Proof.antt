@@ -1,16 +1,18 @@
 -- `blend_turn_refusal`: the three tests of the channels passed.
-use borrow.Author.Tests.{not-true, not-false}
-use mathlib.Core.Path.{_≡_, refl, sym, _∙_}
-use mathlib.Core.Bool.{Bool, _&&_, _||_}
+use mathlib.Core.Path.{_≡_, refl, sym, ap, _∙_}
+use mathlib.Core.List.{[], _∷_}
+use mathlib.Core.Bool.{Bool, not}
 use Prim.Native.Nat.{ℕ, _*_, _%_, _-_, _≤_, _<_}
 use native.Mathlib.Omega.{arith}
 use lib.Dec.{eqb}
 use lib.ListN.{length}
 use Rattle.calls.specs.Run.{place, every, among}
+use Rattle.calls.specs.Calls.{first, test}
 use Rattle.record.specs.Model.{placesOf}
 use Rattle.record.specs.declared.Run.{Run}
 use Rattle.record.proofs.Channels.{length-parts, every-more, among-more, at-position, at-mark, ends}
 use Rattle.record.proofs.Sizes.{count-3, n-1000}
+use Rattle.record.proofs.Turns.{first-three}
 use borrow.Author.Needs.{needs}
 use Rattle.record.proofs.refusals.blend_turn_refusal.Statement.{statement}
 use Rattle.record.proofs.refusals.blend_turn_refusal.Tie as tie
@@ -57,46 +59,18 @@ loop-again c =
 
 returns : tie.Need-returns Inv-loop μ-loop
 returns c =
-    let r = c .before .before .before .args .t1 in
-    rw (← ends (λ n. among n (markedAt r)) (c .before .before .loop .c) (r .count) (c .before .before .loop .inv .1) (omega arith), c .if1 .taken)
-
-returns-2 : tie.Need-returns-2 Inv-loop μ-loop
-returns-2 c =
-    let r = c .before .before .before .before .args .t1 in
-    rw (
-      ← ends (λ n. among n (markedAt r)) (c .before .before .before .loop .c) (r .count) (c .before .before .before .loop .inv .1) (omega arith),
-      c .before .if1 .left,
-      ← ends (λ n. among n (endedAt r)) (c .before .before .before .loop .c) (r .count) (c .before .before .before .loop .inv .2) (omega arith),
-      c .if2 .taken,
-    )
-
-returns-3 : tie.Need-returns-3 Inv-loop μ-loop
-returns-3 c =
-    let r = c .before .before .before .before .before .args .t1 in
-    rw (
-      ← ends (λ n. among n (markedAt r)) (c .before .before .before .before .loop .c) (r .count) (c .before .before .before .before .loop .inv .1) (omega arith),
-      c .before .before .if1 .left,
-      ← ends (λ n. among n (endedAt r)) (c .before .before .before .before .loop .c) (r .count) (c .before .before .before .before .loop .inv .2) (omega arith),
-      c .before .if2 .left,
-      ← ends (λ n. every n (dueAt r)) (c .before .before .before .before .loop .c) (r .count) (c .before .before .before .before .loop .inv .3) (omega arith),
-      not-true (c .before .before .before .before .loop .due) (c .if3 .taken),
-    )
-
-returns-4 : tie.Need-returns-4 Inv-loop μ-loop
-returns-4 c =
-    let r = c .before .before .before .before .before .args .t1 in
-    rw (
-      ← ends (λ n. among n (markedAt r)) (c .before .before .before .before .loop .c) (r .count) (c .before .before .before .before .loop .inv .1) (omega arith),
-      c .before .before .if1 .left,
-      ← ends (λ n. among n (endedAt r)) (c .before .before .before .before .loop .c) (r .count) (c .before .before .before .before .loop .inv .2) (omega arith),
-      c .before .if2 .left,
-      ← ends (λ n. every n (dueAt r)) (c .before .before .before .before .loop .c) (r .count) (c .before .before .before .before .loop .inv .3) (omega arith),
-      not-false (c .before .before .before .before .loop .due) (c .if3 .left),
-    )
+    let r = c .before .before .before .before .before .before .before .args .t1 in
+    let l = c .before .before .before .before .before .before .loop in
+    first-three (c .before .test3 .result) (c .before .before .before .before .test .result) (c .before .before .before .test2 .result) (c .first2 .ensures) (c .before .before .first .ensures)
+    ∙ (λ i.
+    first
+    ((c .before .test3 .ensures ∙ ap (test 10) (ends (λ n. among n (markedAt r)) (l .c) (r .count) (l .inv .1) (omega arith))) i
+    ∷ (c .before .before .before .before .test .ensures ∙ ap (test 11) (ends (λ n. among n (endedAt r)) (l .c) (r .count) (l .inv .2) (omega arith))) i
+    ∷ (c .before .before .before .test2 .ensures ∙ ap (λ (b : Bool). test 9 (not b)) (ends (λ n. every n (dueAt r)) (l .c) (r .count) (l .inv .3) (omega arith))) i
+    ∷ []))
 
 pub blend-turn-refusal-spec : {M : Type 1} → statement M
 blend-turn-refusal-spec =
     tie.close
     (tie.spec Inv-loop μ-loop mul-end (λ c. search needs) loop-holds mul-x element-copy-out-x (λ c κs. search needs)
-    (λ c κs. search needs) (λ c κs. search needs) (λ c. search needs) (λ c. search needs) loop-again returns
-    returns-2 returns-3 returns-4)
+    (λ c κs. search needs) (λ c κs. search needs) (λ c. search needs) (λ c. search needs) loop-again (λ c κs. search needs) (λ c κs. search needs) (λ c κs. search needs) (λ c κs. search needs) (λ c κs. search needs) returns)

@@ -1,12 +1,10 @@
 -- `start_refusal`: each return has the outcome of the tests before it.
 use borrow.Author.Tests.{not-true, not-false}
-use mathlib.Core.Path.{_≡_, refl, sym, _∙_, subst}
-use mathlib.Core.Bool.{true, false}
-use lib.Dec.{T}
+use mathlib.Core.Path.{refl, sym, ap, _∙_}
+use mathlib.Core.Bool.{Bool, not}
+use mathlib.Core.List.{[], _∷_}
 use Rattle.calls.specs.Run.{legal}
-use Rattle.calls.specs.Calls.{levelsFault, startRefusal}
-use Rattle.calls.proofs.Tests.{first-one}
-use Rattle.record.specs.Model.{sheetOf, placesOf}
+use Rattle.calls.specs.Calls.{first, test, startRefusal}
 use Rattle.record.proofs.Tested.{is-legal}
 use borrow.Author.Needs.{needs}
 use Rattle.record.proofs.refusals.start_refusal.Statement.{statement}
@@ -31,18 +29,16 @@ returns-2 c =
 returns-3 : tie.Need-returns-3
 unfolding startRefusal
 returns-3 c =
-    let long = rw (c .before .before .before .before .before .all-equal .ensures, c .before .before .before .before .before .before .total .ensures, c .before .before .before .before .values-long .ensures (c .before .before .before .before .before .before .before .before .before .before .before .args .levels .now) (c .before .before .before .before .before .before .before .before .before .before .before .args .tables .now) refl refl) at (c .before .before .before .both .ensures) in
-    rw (sym (c .before .before .before .before .before .before .before .before .legal .ensures) ∙ not-false (c .before .before .before .before .before .before .before .before .legal .result) (c .before .before .before .before .before .before .before .if1 .left), ← long, not-false (c .before .before .before .both .result) (c .before .before .if2 .left), ← c .before .tables-ok .ensures, not-true (c .before .tables-ok .result) (c .if3 .taken))
-
-returns-4 : tie.Need-returns-4
-unfolding startRefusal
-returns-4 c =
-    let long = rw (c .before .before .before .before .before .before .all-equal .ensures, c .before .before .before .before .before .before .before .total .ensures, c .before .before .before .before .before .values-long .ensures (c .before .before .before .before .before .before .before .before .before .before .before .before .args .levels .now) (c .before .before .before .before .before .before .before .before .before .before .before .before .args .tables .now) refl refl) at (c .before .before .before .before .both .ensures) in
-    rw (sym (c .before .before .before .before .before .before .before .before .before .legal .ensures) ∙ not-false (c .before .before .before .before .before .before .before .before .before .legal .result) (c .before .before .before .before .before .before .before .before .if1 .left), ← long, not-false (c .before .before .before .before .both .result) (c .before .before .before .if2 .left), ← c .before .before .tables-ok .ensures, not-false (c .before .before .tables-ok .result) (c .before .if3 .left))
-    (c .levels-fault .ensures ∙ sym (first-one (levelsFault (c .before .before .before .before .before .before .before .before .before .before .before .before .args .levels .now))))
+    let s = c .before .before .before .before .before .before .before .before .before .before .before .before .before in
+    let long = rw (c .before .before .before .before .before .before .before .all-equal .ensures, c .before .before .before .before .before .before .before .before .total .ensures, c .before .before .before .before .before .before .values-long .ensures (s .args .levels .now) (s .args .tables .now) refl refl) at (c .before .before .before .before .before .both .ensures) in
+    let table = c .before .before .test .ensures ∙ ap (λ (b : Bool). test 4 (not b)) (c .before .before .before .tables-ok .ensures) in
+    let level = c .before .levels-fault .ensures in
+    c .first .ensures
+    ∙ (λ i. first (table i ∷ level i ∷ []))
+    ∙ rw (sym (c .before .before .before .before .before .before .before .before .before .before .legal .ensures) ∙ not-false (c .before .before .before .before .before .before .before .before .before .before .legal .result) (c .before .before .before .before .before .before .before .before .before .if1 .left), ← long, not-false (c .before .before .before .before .before .both .result) (c .before .before .before .before .if2 .left))
 
 pub start-refusal-spec : {M : Type 1} → statement M
 start-refusal-spec =
     tie.close
     (tie.spec (λ c κs. search needs) returns total-requires (λ c κs. search needs) values-long-requires
-    (λ c κs. search needs) returns-2 (λ c κs. search needs) returns-3 (λ c κs. search needs) returns-4)
+    (λ c κs. search needs) returns-2 (λ c κs. search needs) (λ c κs. search needs) (λ c κs. search needs) (λ c κs. search needs) returns-3)
