@@ -1,22 +1,20 @@
 -- The lent buffers after each job of a channel: what it writes is put back into its part, and the rest stays.
-use mathlib.Core.Path.{_≡_, refl, _∙_}
+use mathlib.Core.Path.{_≡_, refl}
 use mathlib.Core.List.{List}
-use Prim.Native.Nat.{ℕ, _+_, _*_, _<_}
+use Prim.Native.Nat.{ℕ, _+_, _*_}
 use lib.Ieee.{Float}
 use Rattle.start.specs.Buffers.{Buffers}
 use Rattle.steps.specs.declared.solve.Constants.{Constants}
-use Rattle.steps.specs.Solve.{Planes, pushedPart}
+use Rattle.steps.specs.Solve.{pushedPart}
 use Rattle.steps.specs.Step.{movedPart}
-use Rattle.projection.specs.Projection.{Box}
 use Rattle.projection.specs.Blown.{isBlown}
-use Rattle.projection.proofs.Lengths.{BoxLong, projected-long}
-use Rattle.calls.specs.Run.{Given, own, count, area, coefs}
-use Rattle.calls.specs.Buffers.{partOf, channel, putChannel}
-use Rattle.calls.proofs.Parts.{put-part, length-part, length-put, part-put-same}
+use Rattle.calls.specs.Run.{Given, own, area, coefs}
+use Rattle.calls.specs.Buffers.{channel, putChannel}
+use Rattle.calls.proofs.Parts.{put-part}
 use Rattle.solver.specs.Solver.{pushing, dataJob, moving, projecting}
 use Rattle.demand.specs.Solver.{coefOf}
 use Rattle.run.specs.Public.{forPush, forData, forMove, forProject}
-use Rattle.run.specs.Parts.{partBox, fittedPart, projectedBox, projectedPart, blownPart}
+use Rattle.parts.specs.Parts.{fittedPart, projectedPart, blownPart}
 
 module _ (n c : ℕ) (o : Buffers) (k : Constants) where
   pub push-buffers : (plane prior : List Float)
@@ -93,34 +91,3 @@ module _ (G : Given) (c : ℕ) (o : Buffers) where
       ≡ blownPart G c (record { plane = plane; across = across; down = down; saved = saved })
   unfolding channel projecting
   project-marks plane across down saved = refl
-
--- channel c's part of the four buffers after project: what the condition of job 5 looks at
-module _ (G : Given) (c : ℕ) (below : c < count G) (b : Box) (long : BoxLong (count G * area G) b) where
-  parts-long : BoxLong (area G) (partBox (area G) c b)
-  parts-long =
-      record {
-        plane-long = length-part (area G) c (count G) (b .plane) (long .plane-long) below;
-        across-long = length-part (area G) c (count G) (b .across) (long .across-long) below;
-        down-long = length-part (area G) c (count G) (b .down) (long .down-long) below;
-        saved-long = length-part (area G) c (count G) (b .saved) (long .saved-long) below;
-      }
-
-  pub project-blown : isBlown (coefs (G .sheet) c) (partOf (area G) c (projectedPart G c b .plane)) (partOf (area G) c (projectedPart G c b .saved))
-      ≡ blownPart G c b
-  project-blown =
-      let x = projectedBox G c b in
-      let l = projected-long (coefOf G c) (G .sheet .W) (G .sheet .H) (area G) (partBox (area G) c b) parts-long in
-      λ i.
-      isBlown (coefs (G .sheet) c) (part-put-same (area G) c (count G) (b .plane) (long .plane-long) below (x .plane) (l .plane-long) i)
-      (part-put-same (area G) c (count G) (b .saved) (long .saved-long) below (x .saved) (l .saved-long) i)
-
-  pub project-long : BoxLong (count G * area G) (projectedPart G c b)
-  project-long =
-      let x = projectedBox G c b in
-      let l = projected-long (coefOf G c) (G .sheet .W) (G .sheet .H) (area G) (partBox (area G) c b) parts-long in
-      record {
-        plane-long = length-put (area G) c (count G) (b .plane) (long .plane-long) below (x .plane) (l .plane-long) ∙ long .plane-long;
-        across-long = length-put (area G) c (count G) (b .across) (long .across-long) below (x .across) (l .across-long) ∙ long .across-long;
-        down-long = length-put (area G) c (count G) (b .down) (long .down-long) below (x .down) (l .down-long) ∙ long .down-long;
-        saved-long = length-put (area G) c (count G) (b .saved) (long .saved-long) below (x .saved) (l .saved-long) ∙ long .saved-long;
-      }

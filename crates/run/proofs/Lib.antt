@@ -1,5 +1,4 @@
 -- Laws for the proofs of the public calls.
 pub mod Ready
 pub mod Jobs
-pub mod Covered
-pub mod Started
+pub mod Startable

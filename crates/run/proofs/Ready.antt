@@ -23,7 +23,7 @@ use Rattle.record.specs.declared.Answer.{Answer}
 use Rattle.record.specs.declared.Answer.the-variants.{Refused}
 use Rattle.record.specs.Model.{Legal, sheetOf, placesOf, givenOf, placed, answerOf}
 use Rattle.record.proofs.Placed.{placed-same}
-use Rattle.run.specs.Parts.{Fed}
+use Rattle.parts.specs.Parts.{Fed}
 use Rattle.run.specs.Public.{Result, result, gave, stateOf, callOf}
 
 -- ---- refused

@@ -1,3 +1,2 @@
--- What the contracts of the public calls say, and what their parts ask.
+-- What the contracts of the public calls say.
 pub mod Public
-pub mod Parts

@@ -1,5 +1,4 @@
 // The public calls with the record by value: each looks at everything it is lent, and refuses or does its job.
-use crate::parts;
 use gradients::grid::Grid;
 use record::Answer;
 use record::Run;

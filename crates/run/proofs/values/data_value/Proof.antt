@@ -5,7 +5,7 @@ use lib.Ieee.{Float}
 use lib.ListN.{length}
 use Rattle.calls.specs.Jobs.{fidelity, on}
 use Rattle.record.specs.Model.{givenOf}
-use Rattle.run.specs.Parts.{Fed}
+use Rattle.parts.specs.Parts.{Fed}
 use Rattle.run.specs.Public.{forData}
 use Rattle.run.proofs.Ready.{call-refused, Accepted, accepted, fed, job-result}
 use Rattle.run.proofs.Jobs.{data-buffers}

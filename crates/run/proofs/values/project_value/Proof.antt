@@ -6,7 +6,7 @@ use lib.ListN.{length}
 use Rattle.projection.specs.Projection.{Box}
 use Rattle.calls.specs.Jobs.{project, on}
 use Rattle.record.specs.Model.{givenOf, seenOf}
-use Rattle.run.specs.Parts.{Fed}
+use Rattle.parts.specs.Parts.{Fed}
 use Rattle.run.specs.Public.{forProject}
 use Rattle.run.proofs.Ready.{call-refused, Accepted, accepted, fed, project-result}
 use Rattle.run.proofs.Jobs.{project-buffers, project-marks}

@@ -2,7 +2,7 @@
 use mathlib.Core.Path.{_≡_, sym, _∙_}
 use Rattle.start.specs.Buffers.{Buffers}
 use Rattle.calls.specs.Calls.{lengths, allSix}
-use Rattle.run.proofs.Started.{start-refused, Startable, startable, start-result}
+use Rattle.run.proofs.Startable.{start-refused, Startable, startable, start-result}
 use borrow.Author.Needs.{needs}
 use Rattle.run.proofs.values.start_value.Statement.{statement}
 use Rattle.run.proofs.values.start_value.Tie as tie

@@ -8,11 +8,11 @@ use Rattle.start.specs.Buffers.{Buffers}
 use Rattle.calls.specs.Buffers.{Plane, Prior, Gradient, Across, Down, Saved, Sized}
 use Rattle.record.specs.Model.{givenOf}
 use Rattle.record.proofs.Sizes.{count-3}
-use Rattle.run.specs.Parts.{startedPart}
-use Rattle.run.proofs.Started.{six-long, loop-sized}
+use Rattle.parts.specs.Parts.{startedPart}
+use Rattle.parts.proofs.Started.{six-long, loop-sized}
 use borrow.Author.Needs.{needs}
-use Rattle.run.proofs.parts.start_parts.Statement.{statement}
-use Rattle.run.proofs.parts.start_parts.Tie as tie
+use Rattle.parts.proofs.start_parts.Statement.{statement}
+use Rattle.parts.proofs.start_parts.Tie as tie
 
 abbrev Inv-loop : tie.InvT-loop
 Inv-loop run levels tables plane₀ prior₀ gradient₀ across₀ down₀ saved₀ c₀ c-end plane prior gradient across down saved c =

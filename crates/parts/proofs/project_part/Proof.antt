@@ -4,10 +4,10 @@ use Prim.Native.Nat.{_*_}
 use lib.ListN.{length}
 use Rattle.demand.specs.Solver.{coefOf}
 use Rattle.calls.proofs.Parts.{length-part}
-use Rattle.run.proofs.Covered.{covers, lent-long}
+use Rattle.parts.proofs.Covered.{covers, lent-long}
 use borrow.Author.Needs.{needs}
-use Rattle.run.proofs.parts.project_part.Statement.{statement}
-use Rattle.run.proofs.parts.project_part.Tie as tie
+use Rattle.parts.proofs.project_part.Statement.{statement}
+use Rattle.parts.proofs.project_part.Tie as tie
 
 span-of-requires : tie.Need-span-of-requires
 span-of-requires c κs = (c .before .before .before .before .before .pre .0 .is-legal, c .before .before .before .before .before .pre .0 .below)

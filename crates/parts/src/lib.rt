@@ -1,4 +1,5 @@
-// What a job of one channel is handed: its own sides, and its part of the levels and of the tables.
+// What a job of one channel is handed, its own sides and its part of the levels, tables and buffers; and the jobs on that part: data, project, start. Internal: each asks
+// what the public calls of `run` have tested.
 use record::Run;
 use record::Seen;
 use start::coef::Own;
@@ -11,18 +12,18 @@ ghost use Rattle.calls.specs.Run.{own, coefs, levelsBefore};
 ghost use Rattle.calls.specs.Buffers.{partOf};
 ghost use Rattle.projection.specs.Blown.{isBlown};
 ghost use Rattle.record.specs.Model.{Legal, sheetOf, givenOf};
-ghost use Rattle.run.specs.Parts.{Fed, FedAll, Whole, fittedPart, projectedPart, blownPart, startedPart};
+ghost use Rattle.parts.specs.Parts.{Fed, FedAll, Whole, fittedPart, projectedPart, blownPart, startedPart};
 
 pub fn own_of(run: Run, c: u32) -> Own
     requires { ⌜ Legal run × (c < run .count) ⌝ }
-    ensures { λ r. ⌜ r ≡ record { width = own (sheetOf run) c .width; height = own (sheetOf run) c .height; horizontal = own (sheetOf run) c .across; vertical = own (sheetOf run) c .down } ⌝ }
+    ensures { λ r. ⌜ r ≡ record { width = own (sheetOf run) c .width; height = own (sheetOf run) c .height; across = own (sheetOf run) c .across; down = own (sheetOf run) c .down } ⌝ }
 {
-    let x = run.channels[c as usize];
+    let x = record::places::channel_of(run, c);
     Own {
         width: x.width as usize,
         height: x.height as usize,
-        horizontal: x.across as usize,
-        vertical: x.down as usize,
+        across: x.across as usize,
+        down: x.down as usize,
     }
 }
 
@@ -30,7 +31,7 @@ pub fn weight_of(run: Run, c: u32) -> f32
     requires { ⌜ Legal run × (c < run .count) ⌝ }
     ensures { λ r. ⌜ r ≡ own (sheetOf run) c .data-weight ⌝ }
 {
-    let x = run.channels[c as usize];
+    let x = record::places::channel_of(run, c);
     x.weight
 }
 
@@ -38,9 +39,8 @@ pub fn levels_of(run: Run, c: u32, levels: &[i16]) -> &[i16]
     requires { ⌜ Legal run × (c < run .count) × (length (now levels) ≡ levelsBefore (sheetOf run) (run .count)) ⌝ }
     ensures { λ r. ⌜ now r ≡ part (now (levels .entry)) (levelsBefore (sheetOf run) c) (levelsBefore (sheetOf run) c + coefs (sheetOf run) c) ⌝ }
 {
-    let x = run.channels[c as usize];
     let from = record::refusals::levels_before(run, c);
-    let to = from + (x.width as usize) * (x.height as usize);
+    let to = from + record::places::coefs_of(run, c);
     &levels[from..to]
 }
 
@@ -131,8 +131,7 @@ pub fn blown_part(run: Run, c: u32, plane: &[f32], saved: &[f32]) -> bool
     let s = record::places::span_of(run, c);
     let from = s.from;
     let to = s.to;
-    let x = run.channels[c as usize];
-    let n = (x.width as usize) * (x.height as usize);
+    let n = record::places::coefs_of(run, c);
     projection::blown::is_blown(&plane[from..to], &saved[from..to], n)
 }
 

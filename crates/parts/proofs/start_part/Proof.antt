@@ -3,11 +3,11 @@ use mathlib.Core.Path.{_≡_, refl, _∙_}
 use Prim.Native.Nat.{_*_}
 use lib.ListN.{length}
 use Rattle.calls.proofs.Parts.{length-part}
-use Rattle.run.proofs.Covered.{covers, lent-long}
-use Rattle.run.proofs.Started.{part-started}
+use Rattle.parts.proofs.Covered.{covers, lent-long}
+use Rattle.parts.proofs.Started.{part-started}
 use borrow.Author.Needs.{needs}
-use Rattle.run.proofs.parts.start_part.Statement.{statement}
-use Rattle.run.proofs.parts.start_part.Tie as tie
+use Rattle.parts.proofs.start_part.Statement.{statement}
+use Rattle.parts.proofs.start_part.Tie as tie
 
 span-of-requires : tie.Need-span-of-requires
 span-of-requires c κs = (c .before .before .before .before .before .before .before .pre .0 .is-legal, c .before .before .before .before .before .before .before .pre .0 .below)

@@ -8,10 +8,10 @@ use Rattle.projection.proofs.Lengths.{BoxLong}
 use Rattle.calls.specs.Run.{Given, coefs}
 use Rattle.calls.specs.Buffers.{partOf}
 use Rattle.record.specs.Model.{sheetOf, givenOf}
-use Rattle.run.proofs.Jobs.{project-long, project-blown}
+use Rattle.parts.proofs.Projected.{project-long, project-blown}
 use borrow.Author.Needs.{needs}
-use Rattle.run.proofs.parts.project_seen.Statement.{statement}
-use Rattle.run.proofs.parts.project_seen.Tie as tie
+use Rattle.parts.proofs.project_seen.Statement.{statement}
+use Rattle.parts.proofs.project_seen.Tie as tie
 
 -- the four buffers as they were lent, and what the channel is given
 abbrev box : tie.After-project-part → Box

@@ -1,0 +1,2 @@
+-- What the jobs of a channel are handed, and what they leave.
+pub mod Parts
