@@ -42,7 +42,7 @@ pub struct Seen {
 }
 
 // A call's answer, with the record as it is afterwards.
-pub struct Told {
+pub struct Answered {
     pub answer: Answer,
     pub run: Run,
 }

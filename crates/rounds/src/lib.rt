@@ -1,7 +1,7 @@
 // A run from its start to its last job, in rounds: a round makes one job for every channel.
 use record::Answer;
+use record::Answered;
 use record::Run;
-use record::Told;
 use run::values::start_value;
 use serve::jobs::job_value;
 ghost use mathlib.Core.Path.{_≡_};
@@ -28,7 +28,7 @@ fn round(
     across: &mut [f32],
     down: &mut [f32],
     saved: &mut [f32],
-) -> Told
+) -> Answered
     requires { ⌜ RoundAsks run p (now levels) (now tables) (six (now plane) (now prior) (now gradient) (now across) (now down) (now saved)) ⌝ }
     ensures { λ r. ⌜ RoundIs (givenOf run (now (levels .entry)) (now (tables .entry))) p (r .answer) (r .run)
         (six (now (plane .exit)) (now (prior .exit)) (now (gradient .exit)) (now (across .exit)) (now (down .exit)) (now (saved .exit))) ⌝ }
@@ -55,7 +55,7 @@ fn round(
         };
         next = t.run;
     }
-    Told {
+    Answered {
         answer: Answer::Done,
         run: next,
     }

@@ -1,9 +1,9 @@
 // The public calls with the record by value: each looks at everything it is lent, and refuses or does its job.
 use gradients::grid::Grid;
 use record::Answer;
+use record::Answered;
 use record::Run;
 use record::Seen;
-use record::Told;
 use steps::solve::Constants;
 ghost use mathlib.Core.Path.{_≡_};
 ghost use Prim.Native.Nat.{_/_, _<_};
@@ -24,13 +24,13 @@ fn constants_of(run: Run, c: u32) -> Constants
 }
 
 // Push. Rules out: a plane handed back unmoved, and a position counted up without the job.
-pub fn push_value(run: Run, c: u32, plane: &mut [f32], prior: &mut [f32]) -> Told
+pub fn push_value(run: Run, c: u32, plane: &mut [f32], prior: &mut [f32]) -> Answered
     ensures { λ r. ⌜ PushIs run c (now (plane .entry)) (now (prior .entry)) (r .answer) (r .run) (now (plane .exit)) (now (prior .exit)) ⌝ }
 {
     let lengths = [plane.len(), prior.len()];
     let r = record::refusals::job_refusal(run, c, 0, &lengths);
     if r != 0 {
-        return Told {
+        return Answered {
             answer: Answer::Refused(r),
             run,
         };
@@ -39,7 +39,7 @@ pub fn push_value(run: Run, c: u32, plane: &mut [f32], prior: &mut [f32]) -> Tol
     let n = record::refusals::area(run);
     steps::solve::push_channel(plane, prior, k, c as usize, n);
     let next = record::places::advanced(run, c);
-    Told {
+    Answered {
         answer: Answer::Done,
         run: next,
     }
@@ -53,20 +53,20 @@ pub fn data_value(
     tables: &[u16],
     gradient: &mut [f32],
     saved: &[f32],
-) -> Told
+) -> Answered
     ensures { λ r. ⌜ DataIs run c (now (levels .entry)) (now (tables .entry)) (now (gradient .entry)) (now (saved .entry)) (r .answer) (r .run) (now (gradient .exit)) ⌝ }
 {
     let lengths = [gradient.len(), saved.len()];
     let r = record::refusals::fed_refusal(run, c, 1, &lengths, levels, tables);
     if r != 0 {
-        return Told {
+        return Answered {
             answer: Answer::Refused(r),
             run,
         };
     }
     parts::data_part(run, c, levels, tables, gradient, saved);
     let next = record::places::advanced(run, c);
-    Told {
+    Answered {
         answer: Answer::Done,
         run: next,
     }
@@ -79,14 +79,14 @@ pub fn blend_value(
     gradient: &mut [f32],
     across: &mut [f32],
     down: &mut [f32],
-) -> Told
+) -> Answered
     ensures { λ r. ⌜ BlendIs run (now (plane .entry)) (now (gradient .entry)) (now (across .entry)) (now (down .entry))
         (r .answer) (r .run) (now (gradient .exit)) (now (across .exit)) (now (down .exit)) ⌝ }
 {
     let lengths = [plane.len(), gradient.len(), across.len(), down.len()];
     let r = record::refusals::blend_refusal(run, &lengths);
     if r != 0 {
-        return Told {
+        return Answered {
             answer: Answer::Refused(r),
             run,
         };
@@ -99,20 +99,20 @@ pub fn blend_value(
     };
     gradients::blend(plane, gradient, across, down, g, k);
     let next = record::places::blended(run);
-    Told {
+    Answered {
         answer: Answer::Done,
         run: next,
     }
 }
 
 // Move. Rules out: a move up the gradient, and the step size of another step.
-pub fn move_value(run: Run, c: u32, plane: &mut [f32], gradient: &[f32]) -> Told
+pub fn move_value(run: Run, c: u32, plane: &mut [f32], gradient: &[f32]) -> Answered
     ensures { λ r. ⌜ MoveIs run c (now (plane .entry)) (now (gradient .entry)) (r .answer) (r .run) (now (plane .exit)) ⌝ }
 {
     let lengths = [plane.len(), gradient.len()];
     let r = record::refusals::job_refusal(run, c, 3, &lengths);
     if r != 0 {
-        return Told {
+        return Answered {
             answer: Answer::Refused(r),
             run,
         };
@@ -121,7 +121,7 @@ pub fn move_value(run: Run, c: u32, plane: &mut [f32], gradient: &[f32]) -> Told
     let n = record::refusals::area(run);
     steps::step::move_channel(plane, gradient, k, c as usize, n);
     let next = record::places::advanced(run, c);
-    Told {
+    Answered {
         answer: Answer::Done,
         run: next,
     }
@@ -147,14 +147,14 @@ pub fn project_value(
     across: &mut [f32],
     down: &mut [f32],
     saved: &mut [f32],
-) -> Told
+) -> Answered
     ensures { λ r. ⌜ ProjectIs run c (now (levels .entry)) (now (tables .entry)) (now (plane .entry)) (now (across .entry)) (now (down .entry)) (now (saved .entry))
         (r .answer) (r .run) (now (plane .exit)) (now (across .exit)) (now (down .exit)) (now (saved .exit)) ⌝ }
 {
     let lengths = [plane.len(), across.len(), down.len(), saved.len()];
     let r = record::refusals::fed_refusal(run, c, 4, &lengths, levels, tables);
     if r != 0 {
-        return Told {
+        return Answered {
             answer: Answer::Refused(r),
             run,
         };
@@ -162,7 +162,7 @@ pub fn project_value(
     let seen = parts::project_seen(run, c, levels, tables, plane, across, down, saved);
     let next = record::places::projected(run, c, seen);
     let answer = project_reply(seen);
-    Told { answer, run: next }
+    Answered { answer, run: next }
 }
 
 // Start. Rules out: values left over in a buffer, and the levels of one channel taken for every channel's.
@@ -176,7 +176,7 @@ pub fn start_value(
     across: &mut [f32],
     down: &mut [f32],
     saved: &mut [f32],
-) -> Told
+) -> Answered
     ensures { λ r. ⌜ StartIs run (now (levels .entry)) (now (tables .entry))
         (record { plane = now (plane .entry); prior = now (prior .entry); gradient = now (gradient .entry); across = now (across .entry); down = now (down .entry); saved = now (saved .entry) })
         (r .answer) (r .run)
@@ -192,7 +192,7 @@ pub fn start_value(
     ];
     let r = record::refusals::start_refusal(run, &lengths, levels, tables);
     if r != 0 {
-        return Told {
+        return Answered {
             answer: Answer::Refused(r),
             run,
         };
@@ -209,7 +209,7 @@ pub fn start_value(
         saved,
     );
     let next = record::places::cleared(run);
-    Told {
+    Answered {
         answer: Answer::Done,
         run: next,
     }

@@ -1,6 +1,6 @@
 // One call of any job, by the job's number and the channel's.
+use record::Answered;
 use record::Run;
-use record::Told;
 ghost use Prim.Native.Nat.{_<_};
 ghost use Rattle.serve.specs.Serve.{NumberedIs};
 
@@ -18,7 +18,7 @@ pub fn job_value(
     across: &mut [f32],
     down: &mut [f32],
     saved: &mut [f32],
-) -> Told
+) -> Answered
     requires { ⌜ job < 5 ⌝ }
     ensures { λ r. ⌜ NumberedIs run job c (now (levels .entry)) (now (tables .entry))
         (record { plane = now (plane .entry); prior = now (prior .entry); gradient = now (gradient .entry); across = now (across .entry); down = now (down .entry); saved = now (saved .entry) })

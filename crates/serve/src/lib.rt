@@ -3,8 +3,8 @@ pub mod jobs;
 mod lists;
 
 use record::Answer;
+use record::Answered;
 use record::Run;
-use record::Told;
 ghost use Rattle.serve.specs.Serve.{ServeIs};
 
 // A fresh run of the record, and then the calls of the two lists of numbers, one after the other; their answers as bytes.
@@ -22,7 +22,7 @@ pub fn serve_value(
     across: &mut [f32],
     down: &mut [f32],
     saved: &mut [f32],
-) -> Told
+) -> Answered
     ensures { λ r. ⌜ ServeIs run (now (jobs .entry)) (now (channels .entry)) (now (answers .entry)) (now (levels .entry)) (now (tables .entry))
         (record { plane = now (plane .entry); prior = now (prior .entry); gradient = now (gradient .entry); across = now (across .entry); down = now (down .entry); saved = now (saved .entry) })
         (r .answer) (r .run) (now (answers .exit))
@@ -46,12 +46,12 @@ pub fn serve_value(
         tables,
     );
     if r != 0 {
-        return Told {
+        return Answered {
             answer: Answer::Refused(r),
             run,
         };
     }
-    let told = run::values::start_value(
+    let answered = run::values::start_value(
         run,
         levels,
         tables,
@@ -62,7 +62,7 @@ pub fn serve_value(
         down,
         saved,
     );
-    let fresh = told.run;
+    let fresh = answered.run;
     let last = lists::list_value(
         fresh,
         jobs,
@@ -77,7 +77,7 @@ pub fn serve_value(
         down,
         saved,
     );
-    Told {
+    Answered {
         answer: Answer::Done,
         run: last,
     }

@@ -83,7 +83,7 @@ pub fn list_value(
 {
     let mut last = run;
     for i in 0..jobs.len() {
-        let told = crate::jobs::job_value(
+        let answered = crate::jobs::job_value(
             last,
             jobs[i],
             channels[i],
@@ -96,9 +96,9 @@ pub fn list_value(
             down,
             saved,
         );
-        let answer = told.answer;
+        let answer = answered.answer;
         answers[i] = answer_byte(answer);
-        last = told.run;
+        last = answered.run;
     }
     last
 }
