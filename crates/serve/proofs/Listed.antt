@@ -20,7 +20,7 @@ use Rattle.record.specs.Model.{placesOf, givenOf, placed, answerOf}
 use Rattle.record.proofs.Placed.{placed-same, sheet-stays, places-placed, placed-twice}
 use Rattle.run.specs.Public.{Result, gave, stateOf, callOf}
 use Rattle.calls.proofs.Tests.{all-anywhere}
-use Rattle.serve.specs.Serve.{numbered, callList, allJobs, byteOf, Listed, ran, listOf}
+use Rattle.serve.specs.Serve.{numbered, callList, allJobs, byteOf, GaveNumber, Listed, ran, listOf}
 
 -- ---- places keep their number
 
@@ -41,6 +41,16 @@ module _ (G : Given) where
   unfolding final
   final-long [] s = refl
   final-long (x ∷ xs) s = final-long xs (call jobs G x s .after) ∙ call-long x s
+
+-- ---- what a call gives by value, it gives in numbers
+
+pub in-number : (a : Answer) {x : Result} {r : Run} {B : Buffers} {k : ℕ} → x ≡ gave a r B → k ≡ byteOf (answerOf a) → GaveNumber x k r B
+in-number a h e =
+    record {
+      number = e ∙ ap (λ (o : Result). byteOf (o .answer)) (sym h);
+      run = ap (λ (o : Result). o .run) (sym h);
+      buffers = ap (λ (o : Result). o .buffers) (sym h);
+    }
 
 -- ---- a list of calls
 
@@ -75,11 +85,15 @@ module _ (levels : List ℤ) (tables : List ℕ) where
       let o = call jobs G x (stateOf r B) in
       sym (ap (λ (l : Listed). record { bytes = byteOf (o .answer) ∷ l .bytes; run = l .run; buffers = l .buffers }) (from-placed r (o .after) (call-long G x (stateOf r B)) xs))
 
-  pub call-first : (r : Run) (x : Call) (xs : List Call) (B : Buffers) (a : Answer) {r′ : Run} {B′ : Buffers} → callOf r x levels tables B ≡ gave a r′ B′
+  pub call-first : (r : Run) (x : Call) (xs : List Call) (B : Buffers) {k : ℕ} {r′ : Run} {B′ : Buffers} → GaveNumber (callOf r x levels tables B) k r′ B′
       → let l = listOf r′ levels tables xs B′ in
-      listOf r levels tables (x ∷ xs) B ≡ record { bytes = byteOf (answerOf a) ∷ l .bytes; run = l .run; buffers = l .buffers }
+      listOf r levels tables (x ∷ xs) B ≡ record { bytes = k ∷ l .bytes; run = l .run; buffers = l .buffers }
   unfolding after
-  call-first r x xs B a e = one-more r x xs B ∙ ap (after xs) e
+  call-first r x xs B e =
+      one-more r x xs B
+      ∙ (λ i.
+      let l = listOf (sym (e .run) i) levels tables xs (sym (e .buffers) i) in
+      record { bytes = sym (e .number) i ∷ l .bytes; run = l .run; buffers = l .buffers })
 
   pub no-call : (r : Run) (B : Buffers) → listOf r levels tables [] B ≡ record { bytes = []; run = r; buffers = B }
   unfolding ran answers final
@@ -101,19 +115,17 @@ module _ (levels : List ℤ) (tables : List ℕ) (js cs : List ℕ) where
 
   -- one call more, its answer written
   pub one-turn : (r : Run) (B : Buffers) (bytes : List ℕ) (i : ℕ) → i < length js → length cs ≡ length js → length bytes ≡ length js
-      → (a : Answer) {r′ : Run} {B′ : Buffers} → callOf r (numbered (getD js i 0) (getD cs i 0)) levels tables B ≡ gave a r′ B′
-      → {b : ℕ} → b ≡ byteOf (answerOf a)
+      → {b : ℕ} {r′ : Run} {B′ : Buffers} → GaveNumber (callOf r (numbered (getD js i 0) (getD cs i 0)) levels tables B) b r′ B′
       → sofar r′ B′ (set bytes i b) (i + 1) ≡ sofar r B bytes i
-  one-turn r B bytes i h long-cs long-bytes a {r′} {B′} e {b} w =
+  one-turn r B bytes i h long-cs long-bytes {b} {r′} {B′} e =
       let xs : List Call = callList (drop (suc i) js) (drop (suc i) cs) in
       let l = listOf r′ levels tables xs B′ in
-      let whole : listOf r levels tables (callList (drop i js) (drop i cs)) B ≡ record { bytes = byteOf (answerOf a) ∷ l .bytes; run = l .run; buffers = l .buffers } =
+      let whole : listOf r levels tables (callList (drop i js) (drop i cs)) B ≡ record { bytes = b ∷ l .bytes; run = l .run; buffers = l .buffers } =
       ap (λ (ys : List Call). listOf r levels tables ys B) (calls-left i h (omega arith))
-      ∙ call-first levels tables r (numbered (getD js i 0) (getD cs i 0)) xs B a e in
-      let written : take (suc i) (set bytes i b) ++ l .bytes ≡ take i bytes ++ (byteOf (answerOf a) ∷ l .bytes) =
+      ∙ call-first levels tables r (numbered (getD js i 0) (getD cs i 0)) xs B e in
+      let written : take (suc i) (set bytes i b) ++ l .bytes ≡ take i bytes ++ (b ∷ l .bytes) =
       ap (λ (ys : List ℕ). ys ++ l .bytes) (take-suc-set bytes i b (omega arith))
-      ∙ append-snoc (take i bytes) b (l .bytes)
-      ∙ ap (λ (y : ℕ). take i bytes ++ (y ∷ l .bytes)) w in
+      ∙ append-snoc (take i bytes) b (l .bytes) in
       rw add-one
       ((λ k. record { bytes = written k; run = l .run; buffers = l .buffers })
       ∙ sym (ap (λ (m : Listed). record { bytes = take i bytes ++ m .bytes; run = m .run; buffers = m .buffers }) whole))

@@ -1,17 +1,15 @@
 -- Demand 3 of any program that makes the calls one by one: a start that is accepted, and then calls, each by its contract.
-use mathlib.Core.Path.{_≡_, ap, _∙_}
+use mathlib.Core.Path.{_≡_, sym, ap, _∙_}
 use mathlib.Core.List.{List, [], _∷_, _++_}
 use Prim.Native.Nat.{ℕ}
 use lib.IntN.{ℤ}
 use Rattle.start.specs.Buffers.{Buffers}
 use Rattle.record.specs.declared.Run.{Run}
-use Rattle.record.specs.declared.Answer.{Answer}
-use Rattle.record.specs.declared.Answer.the-variants.{Done}
-use Rattle.run.specs.Public.{Result}
-use Rattle.serve.specs.Serve.{Listed, listOf}
+use Rattle.run.specs.Public.{startOf}
+use Rattle.serve.specs.Serve.{GaveNumber, Listed, listOf, Served}
 use Rattle.serve.specs.Made.{Made, OneByOne, callsOf, bytesOf, lastRun, lastBuffers, MadeServed}
 use Rattle.serve.proofs.Listed.{call-first, no-call}
-use Rattle.serve.proofs.Served.{served}
+use Rattle.serve.proofs.Served.{start-zero, served}
 
 module _ (levels : List ℤ) (tables : List ℕ) where
   -- the calls made are the model's list
@@ -19,7 +17,7 @@ module _ (levels : List ℤ) (tables : List ℕ) where
       → listOf r levels tables (callsOf ms) B ≡ record { bytes = bytesOf ms; run = lastRun r ms; buffers = lastBuffers B ms }
   listed r B [] o = no-call levels tables r B
   listed r B (m ∷ ms) o =
-      call-first levels tables r (m .call) (callsOf ms) B (m .answer) (o .0)
+      call-first levels tables r (m .call) (callsOf ms) B (o .0)
       ∙ ap (λ (l : Listed). record { bytes = bytesOf (m ∷ []) ++ l .bytes; run = l .run; buffers = l .buffers }) (listed (m .run) (m .buffers) ms (o .1))
 
 pub one-by-one : MadeServed

@@ -3,7 +3,8 @@ use mathlib.Core.Path.{_≡_, refl, sym, ap, _∙_, subst}
 use mathlib.Core.Logic.{_≢_}
 use mathlib.Core.Bool.{true, not, _&&_}
 use mathlib.Core.List.{List, [], _∷_, map}
-use Prim.Native.Nat.{ℕ}
+use Prim.Native.Nat.{ℕ, zero, suc}
+use native.Mathlib.Omega.{arith}
 use lib.Dec.{T, eqb, eqb→eq}
 use lib.Ieee.Fits.{and-l, and-r}
 use borrow.Author.Tests.{not-false}
@@ -14,7 +15,7 @@ use Rattle.calls.specs.Run.{Given, fresh, area}
 use Rattle.calls.specs.Buffers.{channel}
 use Rattle.calls.specs.Jobs.{Call}
 use Rattle.calls.specs.Calls as Calls
-use Rattle.calls.specs.Calls.{test, begin, start, startRefusal, allSix, lengths, noneYet, plainPlaces}
+use Rattle.calls.specs.Calls.{test, begin, settle, start, startRefusal, allSix, lengths, noneYet, plainPlaces}
 use Rattle.calls.specs.Demand.{SavedIn}
 use Rattle.calls.proofs.Tests.{silent, holds, passed-of}
 use Rattle.demand.specs.Solver.{jobs}
@@ -23,9 +24,9 @@ use Rattle.record.specs.declared.Run.{Run}
 use Rattle.record.specs.declared.Answer.{Answer}
 use Rattle.record.specs.declared.Answer.the-variants.{Refused, Done}
 use Rattle.record.specs.Model.{placesOf, givenOf, placed}
-use Rattle.run.specs.Public.{Result, gave, stateOf, startOf}
-use Rattle.serve.specs.Serve.{callList, allJobs, byteOf, Listed, ran, listOf, serveRefusal, serveRefusalOf, Served, ServeIs}
-use Rattle.serve.proofs.Listed.{settle-long, from-placed}
+use Rattle.run.specs.Public.{gave, stateOf, startOf}
+use Rattle.serve.specs.Serve.{callList, allJobs, byteOf, GaveNumber, Listed, ran, listOf, serveRefusal, serveRefusalOf, Served, ServeIs}
+use Rattle.serve.proofs.Listed.{in-number, settle-long, from-placed}
 
 -- ---- what a list that is not refused has passed
 
@@ -62,15 +63,24 @@ module _ (r : Run) (levels : List ℤ) (tables : List ℕ) (B : Buffers) where
   unfolding start
   start-done e = rw e
 
+  -- no refusal's number is 0
+  pub start-zero : byteOf (start jobs G (stateOf r B) .answer) ≡ 0 → start jobs G (stateOf r B) .answer ≡ Calls.done
+  unfolding start
+  start-zero = go (startRefusal G (placesOf r) (lengths allSix B))
+    where
+      go : (t : ℕ) → byteOf (settle t (stateOf r B) (begin jobs G (stateOf r B)) .answer) ≡ 0 → settle t (stateOf r B) (begin jobs G (stateOf r B)) .answer ≡ Calls.done
+      go zero e = refl
+      go (suc t) e = absurd (omega arith)
+
   -- a start that is accepted, and the calls xs after it: what they leave is as the model has it, so demand 3 holds of it
-  pub served : start jobs G (stateOf r B) .answer ≡ Calls.done → (xs : List Call) (a : Answer) {r₁ : Run} {B₁ : Buffers} → startOf r levels tables B ≡ gave a r₁ B₁
+  pub served : start jobs G (stateOf r B) .answer ≡ Calls.done → (xs : List Call) {k : ℕ} {r₁ : Run} {B₁ : Buffers} → GaveNumber (startOf r levels tables B) k r₁ B₁
       → {bytes′ : List ℕ} {r′ : Run} {B′ : Buffers} → listOf r₁ levels tables xs B₁ ≡ record { bytes = bytes′; run = r′; buffers = B′ }
       → Served G xs r (plainPlaces jobs G xs (noneYet G)) bytes′ r′ B′
   unfolding ran
-  served z xs a e {bytes′} {r′} {B′} l =
+  served z xs e {bytes′} {r′} {B′} l =
       let claim = demand3 G (stateOf r B) z xs in
       let q : ran r G xs (start jobs G (stateOf r B) .after) ≡ record { bytes = bytes′; run = r′; buffers = B′ } =
-      sym (ap (λ (o : Result). listOf (o .run) levels tables xs (o .buffers)) (sym e) ∙ from-placed levels tables r (start jobs G (stateOf r B) .after) start-long xs)
+      sym ((λ i. listOf (e .run i) levels tables xs (e .buffers i)) ∙ from-placed levels tables r (start jobs G (stateOf r B) .after) start-long xs)
       ∙ l in
       record {
         same-answers = sym (ap (λ (l : Listed). l .bytes) q) ∙ ap (map byteOf) (claim .same-answers);
@@ -88,4 +98,4 @@ module _ (r : Run) (js cs bytes : List ℕ) (levels : List ℤ) (tables : List �
       → ServeIs r js cs bytes levels tables B Done r′ bytes′ B′
   done-whole z a e l =
       let p = passed (startRefusal (givenOf r levels tables) (placesOf r) (lengths allSix B)) js (length cs) (length bytes) z in
-      record { if-refused = λ n. absurd (n z); if-done = λ y. (refl, served r levels tables B (start-done r levels tables B (p .startable)) (callList js cs) a e l) }
+      record { if-refused = λ n. absurd (n z); if-done = λ y. (refl, served r levels tables B (start-done r levels tables B (p .startable)) (callList js cs) (in-number a e refl) l) }

@@ -1,6 +1,5 @@
 -- Calls made one after the other by any program: each is lent the record and the buffers that the one before left, with the same levels and tables.
 use Prim.Native.Nat.{ℕ}
-use mathlib.Core.Path.{_≡_}
 use mathlib.Core.List.{List, [], _∷_, map}
 use lib.IntN.{ℤ}
 use Rattle.start.specs.Buffers.{Buffers}
@@ -8,16 +7,13 @@ use Rattle.calls.specs.Jobs.{Call}
 use Rattle.calls.specs.Calls.{noneYet, plainPlaces}
 use Rattle.demand.specs.Solver.{jobs}
 use Rattle.record.specs.declared.Run.{Run}
-use Rattle.record.specs.declared.Answer.{Answer}
-use Rattle.record.specs.declared.Answer.the-variants.{Done}
-use Rattle.record.specs.Model.{givenOf, answerOf}
-use Rattle.run.specs.Public.{callOf, startOf, gave}
-use Rattle.serve.specs.Serve.{byteOf, Served}
+use Rattle.run.specs.Public.{callOf}
+use Rattle.serve.specs.Serve.{GaveNumber}
 
--- a call that was made: which, its answer, and the record and the six buffers that it left
+-- a call that was made: which, its answer's number, and the record and the six buffers that it left
 pub record Made : Type 0 where
   pub call : Call
-  pub answer : Answer
+  pub number : ℕ
   pub run : Run
   pub buffers : Buffers
 
@@ -25,13 +21,13 @@ pub record Made : Type 0 where
 abbrev pub OneByOne : List ℤ → List ℕ → Run → Buffers → List Made → Type 0
 OneByOne levels tables r B [] = Unit {0}
 OneByOne levels tables r B (m ∷ ms) =
-    (callOf r (m .call) levels tables B ≡ gave (m .answer) (m .run) (m .buffers)) × OneByOne levels tables (m .run) (m .buffers) ms
+    GaveNumber (callOf r (m .call) levels tables B) (m .number) (m .run) (m .buffers) × OneByOne levels tables (m .run) (m .buffers) ms
 
 abbrev pub callsOf : List Made → List Call
 callsOf ms = map (λ (m : Made). m .call) ms
 
 abbrev pub bytesOf : List Made → List ℕ
-bytesOf ms = map (λ (m : Made). byteOf (answerOf (m .answer))) ms
+bytesOf ms = map (λ (m : Made). m .number) ms
 
 -- what the last call left
 abbrev pub lastRun : Run → List Made → Run

@@ -18,7 +18,7 @@ use Rattle.demand.specs.Solver.{jobs}
 use Rattle.record.specs.declared.Run.{Run}
 use Rattle.record.specs.declared.Answer.{Answer}
 use Rattle.record.specs.Model.{placesOf, givenOf, placed, answerOf}
-use Rattle.run.specs.Public.{gave, stateOf, callOf}
+use Rattle.run.specs.Public.{Result, gave, stateOf, callOf}
 
 -- A call by two numbers. The job's number is the remainder modulo 5 at which it is the next: "0 push to 4 project".
 abbrev pub numbered : ℕ → ℕ → Call
@@ -48,6 +48,12 @@ abbrev pub byteOf : Calls.Answer → ℕ
 byteOf (Calls.refused n) = n
 byteOf Calls.done = 0
 byteOf Calls.blown = 255
+
+-- what a call gives, its answer as a number: the number, the record and the buffers afterwards
+pub record GaveNumber (x : Result) (k : ℕ) (r : Run) (B : Buffers) : Type 0 where
+  pub number : k ≡ byteOf (x .answer)
+  pub run : r ≡ x .run
+  pub buffers : B ≡ x .buffers
 
 -- what a list of calls leaves: a byte for each answer, the record, and the buffers
 pub record Listed : Type 0 where

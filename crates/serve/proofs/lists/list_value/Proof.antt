@@ -4,7 +4,7 @@ use Prim.Native.Nat.{_-_, _≤_}
 use native.Mathlib.Omega.{arith}
 use lib.ListN.{length, length-set}
 use Rattle.serve.specs.Serve.{callList, listOf}
-use Rattle.serve.proofs.Listed.{sofar, is-job, one-turn, last-turn}
+use Rattle.serve.proofs.Listed.{in-number, sofar, is-job, one-turn, last-turn}
 use borrow.Author.Needs.{needs}
 use Rattle.serve.proofs.lists.list_value.Statement.{statement}
 use Rattle.serve.proofs.lists.list_value.Tie as tie
@@ -43,7 +43,7 @@ loop-again : tie.Need-loop-again Inv-loop μ-loop
 loop-again c =
     let a = c .before .before .before .before .before .before .before .before .before .before .before .before .before .before .before .before .before .before .before .before .before .before .before .before .before .before .before .before .before .before .before .before .before .before .before .args in
     let l = c .before .before .before .before .before .before .before .before .before .before .before .before .before .before .before .before .before .before .before .before .before .before .before .before .loop in
-    let told = c .before .before .before .before .before .before .before .before .before .before .before .before .before .before .job-value in (
+    let job = c .before .before .before .before .before .before .before .before .before .before .before .before .before .before .job-value in (
       omega (arith, c .before .before .before .before .before .before .before .before .before .before .before .before .before .before .before .before .before .before .before .before .before .before .before .loop-test .taken),
       simp length-set (l .inv .1),
       search needs,
@@ -53,7 +53,7 @@ loop-again c =
       search needs,
       search needs,
       one-turn (a .levels .now) (a .tables .now) (a .jobs .now) (a .channels .now) (l .last) (record { plane = l .plane; prior = l .prior; gradient = l .gradient; across = l .across; down = l .down; saved = l .saved }) (l .answers) (l .i) (c .before .before .before .before .before .before .before .before .before .before .before .before .before .before .before .before .before .before .before .before .before .before .before .loop-test .taken)
-          (c .before .before .before .before .before .before .before .before .before .before .before .before .before .before .before .before .before .before .before .before .before .before .before .before .before .before .before .before .before .before .before .before .before .before .before .pre .0) (l .inv .1 ∙ c .before .before .before .before .before .before .before .before .before .before .before .before .before .before .before .before .before .before .before .before .before .before .before .before .before .before .before .before .before .before .before .before .before .before .before .pre .1) (told .result .answer) (told .ensures) (c .before .answer-byte .ensures)
+          (c .before .before .before .before .before .before .before .before .before .before .before .before .before .before .before .before .before .before .before .before .before .before .before .before .before .before .before .before .before .before .before .before .before .before .before .pre .0) (l .inv .1 ∙ c .before .before .before .before .before .before .before .before .before .before .before .before .before .before .before .before .before .before .before .before .before .before .before .before .before .before .before .before .before .before .before .before .before .before .before .pre .1) (in-number (job .result .answer) (job .ensures) (c .before .answer-byte .ensures))
           ∙ l .inv .8,
     )
 
