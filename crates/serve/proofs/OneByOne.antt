@@ -5,8 +5,7 @@ use Prim.Native.Nat.{ℕ}
 use lib.IntN.{ℤ}
 use Rattle.start.specs.Buffers.{Buffers}
 use Rattle.record.specs.declared.Run.{Run}
-use Rattle.run.specs.Public.{startOf}
-use Rattle.serve.specs.Serve.{GaveNumber, Listed, listOf, Served}
+use Rattle.serve.specs.Serve.{Listed, listOf}
 use Rattle.serve.specs.Made.{Made, OneByOne, callsOf, bytesOf, lastRun, lastBuffers, MadeServed}
 use Rattle.serve.proofs.Listed.{call-first, no-call}
 use Rattle.serve.proofs.Served.{start-zero, served}
@@ -21,4 +20,4 @@ module _ (levels : List ℤ) (tables : List ℕ) where
       ∙ ap (λ (l : Listed). record { bytes = bytesOf (m ∷ []) ++ l .bytes; run = l .run; buffers = l .buffers }) (listed (m .run) (m .buffers) ms (o .1))
 
 pub one-by-one : MadeServed
-one-by-one levels tables r B r₁ B₁ e ms o = served r levels tables B (ap (λ (x : Result). x .answer) e) (callsOf ms) Done e (listed levels tables r₁ B₁ ms o)
+one-by-one levels tables r B r₁ B₁ e ms o = served r levels tables B (start-zero r levels tables B (sym (e .number))) (callsOf ms) e (listed levels tables r₁ B₁ ms o)

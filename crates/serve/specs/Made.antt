@@ -7,8 +7,9 @@ use Rattle.calls.specs.Jobs.{Call}
 use Rattle.calls.specs.Calls.{noneYet, plainPlaces}
 use Rattle.demand.specs.Solver.{jobs}
 use Rattle.record.specs.declared.Run.{Run}
-use Rattle.run.specs.Public.{callOf}
-use Rattle.serve.specs.Serve.{GaveNumber}
+use Rattle.record.specs.Model.{givenOf}
+use Rattle.run.specs.Public.{callOf, startOf}
+use Rattle.serve.specs.Serve.{GaveNumber, Served}
 
 -- a call that was made: which, its answer's number, and the record and the six buffers that it left
 pub record Made : Type 0 where
@@ -38,10 +39,11 @@ abbrev pub lastBuffers : Buffers → List Made → Buffers
 lastBuffers B [] = B
 lastBuffers B (m ∷ ms) = lastBuffers (m .buffers) ms
 
--- Demand 3 of any program that makes the calls one by one: a start that is accepted, which leaves r₁ and B₁, and then the calls ms.
+-- Demand 3 of any program that makes the calls one by one, "every list of calls push, data, blend, move and project from a fresh run": a start that is
+-- accepted, which leaves r₁ and B₁, and then the calls ms.
 abbrev pub MadeServed : Type 0
 MadeServed =
-    (levels : List ℤ) (tables : List ℕ) (r : Run) (B : Buffers) (r₁ : Run) (B₁ : Buffers) → startOf r levels tables B ≡ gave Done r₁ B₁
+    (levels : List ℤ) (tables : List ℕ) (r : Run) (B : Buffers) (r₁ : Run) (B₁ : Buffers) → GaveNumber (startOf r levels tables B) 0 r₁ B₁
     → (ms : List Made) → OneByOne levels tables r₁ B₁ ms
     → Served (givenOf r levels tables) (callsOf ms) r (plainPlaces jobs (givenOf r levels tables) (callsOf ms) (noneYet (givenOf r levels tables))) (bytesOf ms)
     (lastRun r₁ ms) (lastBuffers B₁ ms)

@@ -1,4 +1,5 @@
 -- What the contracts of the exported calls cite.
 pub mod Sheets
 pub mod Numbers
+pub mod OneByOne
 pub mod Whole

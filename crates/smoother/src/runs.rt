@@ -2,11 +2,12 @@
 // for done with the channel now marked blown.
 use crate::Numbered;
 use record::Answer;
+use record::Answered;
 use record::Run;
 ghost use mathlib.Core.Path.{_≡_};
 ghost use Rattle.record.specs.Model.{answerOf};
 ghost use Rattle.serve.specs.Serve.{byteOf};
-ghost use Rattle.smoother.specs.Numbers.{StartNumbers, PushNumbers, DataNumbers, BlendNumbers, MoveNumbers, ProjectNumbers, ServeNumbers};
+ghost use Rattle.smoother.specs.Numbers.{inNumbers, StartNumbers, PushNumbers, DataNumbers, BlendNumbers, MoveNumbers, ProjectNumbers, ServeNumbers};
 
 // An answer's number. Ruled out: 0 for a project that marks its channel; 255 for a refusal.
 pub fn number_of(a: Answer) -> u32
@@ -17,6 +18,16 @@ pub fn number_of(a: Answer) -> u32
         Answer::Done => 0,
         Answer::Blown => 255,
     }
+}
+
+// A call's answer and record, the answer as its number.
+fn in_numbers(p: Answered) -> Numbered
+    ensures { λ r. ⌜ r ≡ inNumbers p ⌝ }
+{
+    let a = p.answer;
+    let k = number_of(a);
+    let r = p.run;
+    Numbered { answer: k, run: r }
 }
 
 pub fn start_number(
@@ -46,10 +57,7 @@ pub fn start_number(
         down,
         saved,
     );
-    let a = p.answer;
-    let k = number_of(a);
-    let r = p.run;
-    Numbered { answer: k, run: r }
+    in_numbers(p)
 }
 
 // Start. Ruled out: a record at positions that are not 0, or marked, afterwards; a prior that is not the plane.
@@ -89,10 +97,7 @@ pub fn push_number(run: Run, c: u32, plane: &mut [f32], prior: &mut [f32]) -> Nu
     ensures { λ r. ⌜ PushNumbers run c (now (plane .entry)) (now (prior .entry)) (r .answer) (r .run) (now (plane .exit)) (now (prior .exit)) ⌝ }
 {
     let p = run::values::push_value(run, c, plane, prior);
-    let a = p.answer;
-    let k = number_of(a);
-    let r = p.run;
-    Numbered { answer: k, run: r }
+    in_numbers(p)
 }
 
 // Push. Ruled out: the record's position counted up where the answer is a refusal; the plane of another channel written.
@@ -116,10 +121,7 @@ pub fn data_number(
     ensures { λ r. ⌜ DataNumbers run c (now (levels .entry)) (now (tables .entry)) (now (gradient .entry)) (now (saved .entry)) (r .answer) (r .run) (now (gradient .exit)) ⌝ }
 {
     let p = run::values::data_value(run, c, levels, tables, gradient, saved);
-    let a = p.answer;
-    let k = number_of(a);
-    let r = p.run;
-    Numbered { answer: k, run: r }
+    in_numbers(p)
 }
 
 // Data. Ruled out: 9 where the level of another channel is beyond its range (5); a gradient added to what stood there.
@@ -150,10 +152,7 @@ pub fn blend_number(
         (r .answer) (r .run) (now (gradient .exit)) (now (across .exit)) (now (down .exit)) ⌝ }
 {
     let p = run::values::blend_value(run, plane, gradient, across, down);
-    let a = p.answer;
-    let k = number_of(a);
-    let r = p.run;
-    Numbered { answer: k, run: r }
+    in_numbers(p)
 }
 
 // Blend. Ruled out: done where a channel's data is still to come; the position of the first channel alone counted up.
@@ -177,10 +176,7 @@ pub fn move_number(run: Run, c: u32, plane: &mut [f32], gradient: &[f32]) -> Num
     ensures { λ r. ⌜ MoveNumbers run c (now (plane .entry)) (now (gradient .entry)) (r .answer) (r .run) (now (plane .exit)) ⌝ }
 {
     let p = run::values::move_value(run, c, plane, gradient);
-    let a = p.answer;
-    let k = number_of(a);
-    let r = p.run;
-    Numbered { answer: k, run: r }
+    in_numbers(p)
 }
 
 // Move. Ruled out: a plane moved twice by two calls in a row; 11 given before the last step's project.
@@ -207,10 +203,7 @@ pub fn project_number(
         (r .answer) (r .run) (now (plane .exit)) (now (across .exit)) (now (down .exit)) (now (saved .exit)) ⌝ }
 {
     let p = run::values::project_value(run, c, levels, tables, plane, across, down, saved);
-    let a = p.answer;
-    let k = number_of(a);
-    let r = p.run;
-    Numbered { answer: k, run: r }
+    in_numbers(p)
 }
 
 // Project. Ruled out: 255 for a plane that was blown before, in a step of another channel; a mark with the answer 0.
@@ -266,10 +259,7 @@ pub fn serve_number(
         down,
         saved,
     );
-    let a = p.answer;
-    let k = number_of(a);
-    let r = p.run;
-    Numbered { answer: k, run: r }
+    in_numbers(p)
 }
 
 // A fresh run, and then a list of calls, each by its job's number (0 push to 4 project) and a channel. Ruled out: all steps done in the first job;

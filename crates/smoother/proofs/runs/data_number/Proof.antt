@@ -6,8 +6,8 @@ use Rattle.smoother.proofs.runs.data_number.Tie as tie
 
 returns : tie.Need-returns
 returns c =
-    let p = c .before .before .before .before .data-value in
-    λ o. in-numbers (p .result .answer) (p .ensures o) (c .before .number-of .ensures)
+    let p = c .before .before .before .data-value in
+    λ o. in-numbers (p .result) (c .in-numbers .ensures) (p .ensures o)
 
 pub data-number-spec : {M : Type 1} → statement M
 data-number-spec = tie.close (tie.spec (λ c κs. search needs) (λ c κs. search needs) (λ c. search needs) returns)

@@ -6,8 +6,8 @@ use Rattle.smoother.proofs.runs.serve_number.Tie as tie
 
 returns : tie.Need-returns
 returns c =
-    let p = c .before .before .before .before .before .before .before .before .before .before .before .before .before .before .before .before .serve-value in
-    serve-numbers _ _ _ _ _ _ _ (p .result .answer) _ _ _ _ (p .ensures) (c .before .number-of .ensures)
+    let p = c .before .before .before .before .before .before .before .before .before .before .before .before .before .before .before .serve-value in
+    serve-numbers (p .result) (c .in-numbers .ensures) _ _ _ _ _ _ _ (p .ensures)
 
 pub serve-number-spec : {M : Type 1} → statement M
 serve-number-spec = tie.close (tie.spec (λ c κs. search needs) (λ c κs. search needs) (λ c. search needs) (λ c. search needs) (λ c. search needs) (λ c. search needs) (λ c. search needs) (λ c. search needs) (λ c. search needs) returns)

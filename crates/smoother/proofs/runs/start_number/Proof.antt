@@ -6,8 +6,8 @@ use Rattle.smoother.proofs.runs.start_number.Tie as tie
 
 returns : tie.Need-returns
 returns c =
-    let p = c .before .before .before .before .before .before .before .before .before .before .before .before .before .before .start-value in
-    in-numbers (p .result .answer) (p .ensures) (c .before .number-of .ensures)
+    let p = c .before .before .before .before .before .before .before .before .before .before .before .before .before .start-value in
+    in-numbers (p .result) (c .in-numbers .ensures) (p .ensures)
 
 pub start-number-spec : {M : Type 1} → statement M
 start-number-spec = tie.close (tie.spec (λ c κs. search needs) (λ c κs. search needs) (λ c. search needs) (λ c. search needs) (λ c. search needs) (λ c. search needs) (λ c. search needs) (λ c. search needs) returns)
