@@ -3,3 +3,4 @@ pub mod Sheets
 pub mod Numbers
 pub mod OneByOne
 pub mod Whole
+pub mod Sizes
