@@ -5,7 +5,7 @@
 --   `start`, `answers`, `final`, the plain run       calls/specs/Calls
 --   `InInterval`                                     interval/specs/Interval
 --   `Claim`, `MeetsDemand3`, the statement           calls/specs/Demand
---   `jobs`, the arithmetic of the jobs               demand/specs/Solver, solver/specs/Solver
+--   `jobs`, the arithmetic of the jobs               demand/specs/Solver, work/specs/Work
 use Rattle.calls.specs.Demand.{MeetsDemand3}
 use Rattle.calls.proofs.Runs as Runs
 use Rattle.demand.specs.Solver.{jobs}

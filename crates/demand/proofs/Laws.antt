@@ -11,9 +11,9 @@ use lib.Seq.{getD-take, getD-drop}
 use Rattle.fold.specs.Part.{part}
 use Rattle.start.specs.Buffers.{Buffers}
 use Rattle.start.specs.Coef.{Covers, levelAt, quantAt, pxCount}
-use Rattle.solver.specs.Solver as Solver
-use Rattle.solver.specs.Solver.{starting, blending, projecting}
-use Rattle.solver.proofs.Laws as Solver-laws
+use Rattle.work.specs.Work as Solver
+use Rattle.work.specs.Work.{starting, blending, projecting}
+use Rattle.work.proofs.Laws as Solver-laws
 use Rattle.calls.specs.Run.{Sheet, Given, own, count, area, coefs, level, quantiser, levelsBefore}
 use Rattle.calls.specs.Buffers.{channel, Sized}
 use Rattle.calls.specs.Jobs.{Job, push, fidelity, move, project}

@@ -5,7 +5,7 @@ use Rattle.steps.specs.declared.solve.Constants.{Constants}
 use Rattle.steps.specs.Solve.{constants}
 use Rattle.start.specs.Buffers.{Buffers}
 use Rattle.start.specs.Coef.{Coef, coef}
-use Rattle.solver.specs.Solver.{starting, pushing, dataJob, blending, moving, projecting}
+use Rattle.work.specs.Work.{starting, pushing, dataJob, blending, moving, projecting}
 use Rattle.calls.specs.Run.{Sheet, Given, own, count, coefs, levelsBefore}
 use Rattle.calls.specs.Jobs.{Job, push, fidelity, move, project, Jobs}
 

@@ -13,7 +13,7 @@ use Rattle.start.specs.Buffers.{Buffers}
 use Rattle.start.specs.declared.coef.Own as Sides
 use Rattle.start.specs.Coef.{coef}
 use Rattle.start.specs.Auxiliary.{auxInit}
-use Rattle.solver.proofs.Laws.{starting-sized}
+use Rattle.work.proofs.Laws.{starting-sized}
 use Rattle.calls.specs.Run.{Given, count, area, coefs, levelsBefore}
 use Rattle.calls.specs.Buffers.{Plane, Prior, Gradient, Across, Down, Saved, get, channel, putChannel, joined, Sized}
 use Rattle.calls.proofs.Parts.{put-sized, put-same, put-other, joined-channels}

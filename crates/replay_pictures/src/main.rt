@@ -37,7 +37,7 @@ fn print_next(space: &mut [u8], out: &mut [u8]) -> bool
     }
     let n = length_of(&d);
     let m = io::read_full(STDIN_FILENO, &mut space[0..n]);
-    let r = whole::smooth_text(&space[0..m], out);
+    let r = program::smooth_text(&space[0..m], out);
     io::write_all(STDOUT_FILENO, &out[0..r]);
     true
 }

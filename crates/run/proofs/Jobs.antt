@@ -11,7 +11,7 @@ use Rattle.projection.specs.Blown.{isBlown}
 use Rattle.calls.specs.Run.{Given, own, area, coefs}
 use Rattle.calls.specs.Buffers.{channel, putChannel}
 use Rattle.calls.proofs.Parts.{put-part}
-use Rattle.solver.specs.Solver.{pushing, dataJob, moving, projecting}
+use Rattle.work.specs.Work.{pushing, dataJob, moving, projecting}
 use Rattle.demand.specs.Solver.{coefOf}
 use Rattle.run.specs.Public.{forPush, forData, forMove, forProject}
 use Rattle.parts.specs.Parts.{fittedPart, projectedPart, blownPart}

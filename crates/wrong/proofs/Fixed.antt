@@ -3,7 +3,7 @@ use mathlib.Core.Path.{_≡_, refl, ap, _∙_}
 use lib.Ieee.{binary32, ofBits}
 use Rattle.start.specs.Buffers.{Buffers}
 use Rattle.start.specs.Coef.{Coef}
-use Rattle.solver.specs.Solver.{starting, pushing, dataJob, blending, moving, projecting}
+use Rattle.work.specs.Work.{starting, pushing, dataJob, blending, moving, projecting}
 use Rattle.calls.specs.Buffers.{channel, joined}
 use Rattle.calls.specs.Jobs.{fixed}
 use Rattle.demand.specs.Solver.{jobs, coefOf}

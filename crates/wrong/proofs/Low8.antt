@@ -5,7 +5,7 @@ use mathlib.Core.List.{List, [], _∷_, map}
 use Rattle.steps.specs.declared.solve.Constants.{Constants}
 use Rattle.start.specs.Buffers.{Buffers}
 use Rattle.start.specs.Coef.{Coef, coef, change}
-use Rattle.solver.specs.Solver.{starting}
+use Rattle.work.specs.Work.{starting}
 use Rattle.calls.specs.Jobs.{channelBlown}
 use lib.Ieee.{Float, binary32}
 use lib.Count.{trailingZeros}
@@ -26,7 +26,7 @@ use Rattle.start.specs.Auxiliary.{initPixels, auxInit}
 use Rattle.fidelity.specs.DctGradient.{cosbOf, cosbsOf, spread, spreadBlock, gradientBlock, dctGradient, dataGradient}
 use Rattle.projection.specs.Projection.{meanOf, splitAt, split, clampAt, clampBlock, clamped, keep, ontoBox, back, projectFull, projectMeans, projectOntoBox}
 use Rattle.projection.specs.Blown.{isBlown}
-use Rattle.solver.specs.Solver.{pushing, dataJob, blending, moving, projecting}
+use Rattle.work.specs.Work.{pushing, dataJob, blending, moving, projecting}
 use Rattle.wrong.specs.Sheet.{low8}
 
 unfoldable pub c0 : Coef

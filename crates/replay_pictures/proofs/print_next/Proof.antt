@@ -7,7 +7,7 @@ use Rattle.replay_pictures.proofs.print_next.Lts as lts
 use Rattle.io.proofs.read_full.Reads as read-full-reads
 use Rattle.io.proofs.write_all.Reads as write-all-reads
 use Rattle.replay_pictures.proofs.length_of.Reads as length-of-reads
-use Rattle.whole.proofs.smooth_text.Reads as smooth-text-reads
+use Rattle.program.proofs.smooth_text.Reads as smooth-text-reads
 
 slice-aggregate-read-full : tie.Need-slice-aggregate-read-full
 slice-aggregate-read-full c = search needs

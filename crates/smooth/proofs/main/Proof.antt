@@ -7,7 +7,7 @@ use Rattle.smooth.proofs.main.Lts as lts
 use Rattle.io.proofs.large_buffer.Reads as large-buffer-reads
 use Rattle.io.proofs.read_full.Reads as read-full-reads
 use Rattle.io.proofs.write_all.Reads as write-all-reads
-use Rattle.whole.proofs.smooth_text.Reads as smooth-text-reads
+use Rattle.program.proofs.smooth_text.Reads as smooth-text-reads
 
 large-buffer-requires : tie.Need-large-buffer-requires
 large-buffer-requires c κs = search needs

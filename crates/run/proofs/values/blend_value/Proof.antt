@@ -7,7 +7,7 @@ use Rattle.calls.specs.Run.{place}
 use Rattle.calls.specs.Jobs.{blend}
 use Rattle.calls.specs.Calls as Calls
 use Rattle.gradients.specs.Tv.{Terms}
-use Rattle.solver.specs.Solver.{blending}
+use Rattle.work.specs.Work.{blending}
 use Rattle.demand.specs.Solver.{constantsOf}
 use Rattle.record.specs.Model.{sheetOf, placesOf}
 use Rattle.record.proofs.Sizes.{count-1, count-3}

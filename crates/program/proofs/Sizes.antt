@@ -14,8 +14,8 @@ use Rattle.contents.specs.declared.Header.{Header}
 use Rattle.picture.specs.Finish as Finish
 use Rattle.output.specs.Output.{pictureText, pictureInto, refusalText, refusalInto}
 use Rattle.output.proofs.Sizes.{room-more, picture-into, refusal-into}
-use Rattle.whole.specs.Printed.{limits, painted, mostPrinted}
-use Rattle.whole.proofs.Accepts.{at-most, is-true, counted, wider, full-test}
+use Rattle.program.specs.Printed.{limits, painted, mostPrinted}
+use Rattle.program.proofs.Accepts.{at-most, is-true, counted, wider, full-test}
 
 module _ (h : Header) (l : LegalHeader limits h) where
   pub area-small : h .width * h .height ≤ 1024

@@ -1,9 +1,9 @@
--- `whole::read_and_solve` meets its contract: no sheet at the program's limit has more than 3,072 levels or 192 quantisers.
+-- `program::read_and_solve` meets its contract: no sheet at the program's limit has more than 3,072 levels or 192 quantisers.
 use borrow.Author.Needs.{needs}
 use native.Mathlib.Omega.{arith}
-use Rattle.whole.proofs.Printing.{room-small, same-room, front-long}
-use Rattle.whole.proofs.read_and_solve.Statement.{statement}
-use Rattle.whole.proofs.read_and_solve.Tie as tie
+use Rattle.program.proofs.Printing.{room-small, same-room, front-long}
+use Rattle.program.proofs.read_and_solve.Statement.{statement}
+use Rattle.program.proofs.read_and_solve.Tie as tie
 
 part-levels-end : tie.Need-part-levels-end
 part-levels-end c = let a = c .before .before .args in omega (arith, room-small (a .text .now) (a .n) (a .m) (c .before .before .pre .0) .0)

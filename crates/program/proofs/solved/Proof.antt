@@ -1,10 +1,10 @@
--- `whole::solved` meets its contract: no sheet at the program's limit has more than 3,072 values.
+-- `program::solved` meets its contract: no sheet at the program's limit has more than 3,072 values.
 use borrow.Author.Needs.{needs}
 use native.Mathlib.Omega.{arith}
-use Rattle.whole.proofs.Sizes.{area-small, values-small}
-use Rattle.whole.proofs.Printing.{front-long}
-use Rattle.whole.proofs.solved.Statement.{statement}
-use Rattle.whole.proofs.solved.Tie as tie
+use Rattle.program.proofs.Sizes.{area-small, values-small}
+use Rattle.program.proofs.Printing.{front-long}
+use Rattle.program.proofs.solved.Statement.{statement}
+use Rattle.program.proofs.solved.Tie as tie
 
 mul-n : tie.Need-mul-n
 mul-n c = record { fits = omega (arith, area-small (c .before .before .before .before .before .before .args .s .header) (c .before .before .before .before .before .before .pre .0 .header)) }

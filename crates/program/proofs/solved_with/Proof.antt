@@ -1,10 +1,10 @@
--- `whole::solved_with` meets its contract: a legal sheet is not refused, so that an answer other than done is 10.
+-- `program::solved_with` meets its contract: a legal sheet is not refused, so that an answer other than done is 10.
 use borrow.Author.Needs.{needs}
 use mathlib.Core.Path.{refl}
 use Rattle.rounds.specs.Whole.{six}
-use Rattle.whole.proofs.Printing.{done-long, done-text, blown-text}
-use Rattle.whole.proofs.solved_with.Statement.{statement}
-use Rattle.whole.proofs.solved_with.Tie as tie
+use Rattle.program.proofs.Printing.{done-long, done-text, blown-text}
+use Rattle.program.proofs.solved_with.Statement.{statement}
+use Rattle.program.proofs.solved_with.Tie as tie
 
 returns : tie.Need-returns
 returns c =

@@ -1,8 +1,8 @@
--- `whole::paint_with` meets its contract: finish is handed what it accepts, and the text of its picture has room.
+-- `program::paint_with` meets its contract: finish is handed what it accepts, and the text of its picture has room.
 use borrow.Author.Needs.{needs}
-use Rattle.whole.proofs.Printing.{paints}
-use Rattle.whole.proofs.paint_with.Statement.{statement}
-use Rattle.whole.proofs.paint_with.Tie as tie
+use Rattle.program.proofs.Printing.{paints}
+use Rattle.program.proofs.paint_with.Statement.{statement}
+use Rattle.program.proofs.paint_with.Tie as tie
 
 returns : tie.Need-returns
 returns c =

@@ -1,13 +1,13 @@
--- `whole::smooth_text` meets its contract: the first `decisive 32` bytes decide.
+-- `program::smooth_text` meets its contract: the first `decisive 32` bytes decide.
 use borrow.Author.Needs.{needs}
 use native.Mathlib.Omega.{arith}
 use mathlib.Core.Path.{refl}
 use borrow.Author.Tests.{lt-leb}
 use Rattle.output.proofs.Fronts.{wrote-none}
-use Rattle.whole.specs.Printed.{printedInto}
-use Rattle.whole.proofs.Printing.{decisive-32, first-bytes, roomy}
-use Rattle.whole.proofs.smooth_text.Statement.{statement}
-use Rattle.whole.proofs.smooth_text.Tie as tie
+use Rattle.program.specs.Printed.{printedInto}
+use Rattle.program.proofs.Printing.{decisive-32, first-bytes, roomy}
+use Rattle.program.proofs.smooth_text.Statement.{statement}
+use Rattle.program.proofs.smooth_text.Tie as tie
 
 returns : tie.Need-returns
 unfolding printedInto

@@ -44,10 +44,10 @@ use Rattle.picture.specs.Finish as Finish
 use Rattle.picture.proofs.Pixels.{picture-length}
 use Rattle.output.specs.Output.{Wrote, pictureInto, refusalText, refusalInto}
 use Rattle.output.proofs.Fronts.{wrote-as}
-use Rattle.whole.specs.Printed.{limits, painted, sheetText, says, printed, mostPrinted, printedInto, SixLong}
-use Rattle.whole.proofs.Accepts.{at-most, accepts}
+use Rattle.program.specs.Printed.{limits, painted, sheetText, says, printed, mostPrinted, printedInto, SixLong}
+use Rattle.program.proofs.Accepts.{at-most, accepts}
 use Rattle.sheet.proofs.BoundLaws.{LineTo, line-bound}
-use Rattle.whole.proofs.Sizes.{values-small, finished, written, refused}
+use Rattle.program.proofs.Sizes.{values-small, finished, written, refused}
 
 -- ---- paint_with: what finish leaves, written out
 

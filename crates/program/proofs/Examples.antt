@@ -35,7 +35,7 @@ use Rattle.calls.specs.Buffers.{joined}
 use Rattle.picture.specs.Finish as Finish
 use Rattle.output.specs.Output as Output
 use Rattle.output.specs.Output.{pictureText, refusalText}
-use Rattle.whole.specs.Printed.{limits, painted, sheetText, says, printed}
+use Rattle.program.specs.Printed.{limits, painted, sheetText, says, printed}
 
 -- the bytes of a text
 abbrev bytesFrom : String → ℕ → ℕ → List ℕ

@@ -1,9 +1,9 @@
--- `whole::paint` meets its contract: no picture at the program's limit takes more than 3,072 bytes.
+-- `program::paint` meets its contract: no picture at the program's limit takes more than 3,072 bytes.
 use borrow.Author.Needs.{needs}
 use native.Mathlib.Omega.{arith}
-use Rattle.whole.proofs.Sizes.{shown-small}
-use Rattle.whole.proofs.paint.Statement.{statement}
-use Rattle.whole.proofs.paint.Tie as tie
+use Rattle.program.proofs.Sizes.{shown-small}
+use Rattle.program.proofs.paint.Statement.{statement}
+use Rattle.program.proofs.paint.Tie as tie
 
 mul-n : tie.Need-mul-n
 mul-n c = record { fits = omega (arith, shown-small (c .before .before .before .before .args .h) (c .before .before .before .before .pre .0)) }

@@ -26,7 +26,7 @@ use Rattle.start.proofs.Lengths.{initDctTarget-length, initPixels-length}
 use Rattle.start.proofs.Writes.{initDctTarget-at}
 use Rattle.projection.proofs.Writes.{projected-saved}
 use Rattle.calls.specs.Buffers.{Plane, Prior, Gradient, Across, Down, Saved, Sized}
-use Rattle.solver.specs.Solver.{CoefsIn, Legal, CoefIn, blending, boxOf, dataJob, moving, projecting, pushing, starting}
+use Rattle.work.specs.Work.{CoefsIn, Legal, CoefIn, blending, boxOf, dataJob, moving, projecting, pushing, starting}
 
 -- ---- lengths
 

@@ -14,7 +14,7 @@ ghost use Rattle.sheet.specs.Longest.{decisive};
 ghost use Rattle.sheet.specs.Reading.Outcome.{Gives};
 ghost use Rattle.contents.specs.Legal.{LegalHeader, LegalSheet};
 ghost use Rattle.output.specs.Output.{Wrote};
-ghost use Rattle.whole.specs.Printed.{limits, painted, sheetText, printed, mostPrinted, printedInto, SixLong};
+ghost use Rattle.program.specs.Printed.{limits, painted, sheetText, printed, mostPrinted, printedInto, SixLong};
 
 // So many bytes of a text decide what is printed for it: `decisive 32`.
 const DECISIVE: usize = 20453;

@@ -1,2 +1,2 @@
 -- What each job makes of the six buffers.
-pub mod Solver
+pub mod Work

@@ -1,8 +1,8 @@
--- `whole::read_with` meets its contract: the sheet that is read is legal, and no text whose lengths were measured is refused.
+-- `program::read_with` meets its contract: the sheet that is read is legal, and no text whose lengths were measured is refused.
 use borrow.Author.Needs.{needs}
-use Rattle.whole.proofs.Printing.{sheet-legal, sheet-text, not-refused}
-use Rattle.whole.proofs.read_with.Statement.{statement}
-use Rattle.whole.proofs.read_with.Tie as tie
+use Rattle.program.proofs.Printing.{sheet-legal, sheet-text, not-refused}
+use Rattle.program.proofs.read_with.Statement.{statement}
+use Rattle.program.proofs.read_with.Tie as tie
 
 solved-requires : tie.Need-solved-requires
 solved-requires c κs =

@@ -1,8 +1,8 @@
--- `whole::answer` meets its contract: a refusal of measuring is the one of reading, and its line has few digits.
+-- `program::answer` meets its contract: a refusal of measuring is the one of reading, and its line has few digits.
 use borrow.Author.Needs.{needs}
-use Rattle.whole.proofs.Printing.{measured-room, refusal-text}
-use Rattle.whole.proofs.answer.Statement.{statement}
-use Rattle.whole.proofs.answer.Tie as tie
+use Rattle.program.proofs.Printing.{measured-room, refusal-text}
+use Rattle.program.proofs.answer.Statement.{statement}
+use Rattle.program.proofs.answer.Tie as tie
 
 read-and-solve-requires : tie.Need-read-and-solve-requires
 read-and-solve-requires c κs = let o = c .before .before .before .before .measure in (measured-room _ (o .result) _ _ (o .ensures) (c .before .before .n .given .1), c .before .before .before .before .before .before .before .pre .1)
