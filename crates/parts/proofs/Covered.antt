@@ -18,7 +18,7 @@ use Rattle.parts.specs.Parts.{Fed}
 
 abbrev pub sides : Run → ℕ → Sides.Own
 sides r c =
-    record { width = own (sheetOf r) c .width; height = own (sheetOf r) c .height; across = own (sheetOf r) c .across; down = own (sheetOf r) c .down }
+    record { width = own (sheetOf r) c .width; height = own (sheetOf r) c .height; horizontal = own (sheetOf r) c .across; vertical = own (sheetOf r) c .down }
 
 pub covers : (r : Run) → Legal r → (c : ℕ) → c < r .count → Covers (sides r c) (r .w) (r .h)
 covers r ok c h = covers-of (sheetOf r) (facts r ok) c h

@@ -16,14 +16,14 @@ ghost use Rattle.parts.specs.Parts.{Fed, FedAll, Whole, fittedPart, proj
 
 pub fn own_of(run: Run, c: u32) -> Own
     requires { ⌜ Legal run × (c < run .count) ⌝ }
-    ensures { λ r. ⌜ r ≡ record { width = own (sheetOf run) c .width; height = own (sheetOf run) c .height; across = own (sheetOf run) c .across; down = own (sheetOf run) c .down } ⌝ }
+    ensures { λ r. ⌜ r ≡ record { width = own (sheetOf run) c .width; height = own (sheetOf run) c .height; horizontal = own (sheetOf run) c .across; vertical = own (sheetOf run) c .down } ⌝ }
 {
     let x = record::places::channel_of(run, c);
     Own {
         width: x.width as usize,
         height: x.height as usize,
-        across: x.across as usize,
-        down: x.down as usize,
+        horizontal: x.across as usize,
+        vertical: x.down as usize,
     }
 }
 
