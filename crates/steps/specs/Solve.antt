@@ -1,7 +1,8 @@
 -- scalar/mod.rs, `solve`: the step constants of document 01, "Modules towards the jobs", and job 1, push.
-use mathlib.Core.List.{List}
-use Prim.Native.Nat.{ℕ, _*_}
-use lib.ListN.{length, set}
+use mathlib.Core.Path.{_≡_}
+use mathlib.Core.List.{List, [], _∷_}
+use Prim.Native.Nat.{ℕ, zero, suc, _*_, _<_, _≤_}
+use lib.ListN.{length}
 use lib.Ieee.{Float}
 use Rattle.fold.specs.Fold.{upto}
 use Rattle.fold.specs.Part.{part, splice}
@@ -35,14 +36,32 @@ pub record Planes : Type 0 where
   pub plane : List Float
   pub prior : List Float
 
--- new plane = mul_add!(factor, plane - prior, plane); new prior = old plane
-unfoldable pub pushAt : Float → ℕ → Planes → Planes
-pushAt factor k s =
-    let p = val (s .plane) k in
-    record { plane = set (s .plane) k (mulAdd factor (p ⊖ val (s .prior) k) p); prior = set (s .prior) k p }
+-- Job 1, of the old plane and the old prior: new plane = mul_add!(factor, plane - prior, plane); new prior = old plane
+abbrev pub newPlane : Float → Planes → ℕ → Float
+newPlane factor old k = mulAdd factor (val (old .plane) k ⊖ val (old .prior) k) (val (old .plane) k)
 
+abbrev pub newPrior : Planes → ℕ → Float
+newPrior old k = val (old .plane) k
+
+-- f 0, f 1, .., f (n - 1)
+abbrev pub values : ℕ → (ℕ → Float) → List Float
+values zero f = []
+values (suc n) f = f 0 ∷ values n (λ k. f (suc k))
+
+-- each place of both, of the old ones alone (both are as long, so that the new prior is the old plane: `pushed-prior` of proofs/Laws.antt)
 unfoldable pub pushed : Float → Planes → Planes
-pushed factor s = upto (pushAt factor) (length (s .plane)) s
+pushed factor old =
+    record { plane = values (length (old .plane)) (newPlane factor old); prior = values (length (old .prior)) (newPrior old) }
+
+-- Document 02, M-101: after each place both planes hold new values up to it and old ones after it. `now` is what they hold once n places are done.
+-- `push_places` of src/solve.rt ensures it for each n, and it is the invariant of that function's loop.
+pub record PushedTo (factor : Float) (old : Planes) (n : ℕ) (now : Planes) : Type 0 where
+  pub new-plane : (k : ℕ) → k < n → val (now .plane) k ≡ newPlane factor old k
+  pub new-prior : (k : ℕ) → k < n → val (now .prior) k ≡ newPrior old k
+  pub old-plane : (k : ℕ) → n ≤ k → val (now .plane) k ≡ val (old .plane) k
+  pub old-prior : (k : ℕ) → n ≤ k → val (now .prior) k ≡ val (old .prior) k
+  pub plane-length : length (now .plane) ≡ length (old .plane)
+  pub prior-length : length (now .prior) ≡ length (old .prior)
 
 -- the same of the parts from a to e
 abbrev pub partPlanes : ℕ → ℕ → Planes → Planes

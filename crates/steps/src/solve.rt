@@ -4,7 +4,7 @@ ghost use Prim.Native.Nat.{_+_, _*_, _≤_};
 ghost use lib.ListN.{length};
 ghost use Rattle.float.specs.Ops.{root};
 ghost use Rattle.float.specs.Names.{float};
-ghost use Rattle.steps.specs.Solve.{nextTerm, termOf, constants, pushed, pushedPart};
+ghost use Rattle.steps.specs.Solve.{nextTerm, termOf, constants, pushed, PushedTo, pushedPart};
 
 // The constants of a step: term, factor, step size, second-order weight.
 pub struct Constants {
@@ -58,19 +58,31 @@ pub fn step_constants(w: u32, h: u32, iterations: u32, weight: f32, step: u32) -
     }
 }
 
-// Job 1: new plane = mul_add!(factor, plane - prior, plane), new prior = old plane, place by place in one pass.
+// The first n places of push, in one pass and with no further buffer: both values of a place are read once, then both are written once.
+// Rules out: a prior taken after the plane is written, and a plane made from a prior that lags by one place.
+pub fn push_places(plane: &mut [f32], prior: &mut [f32], factor: f32, n: usize)
+    requires { ⌜ (n ≤ length (now plane)) × (length (now plane) ≡ length (now prior)) ⌝ }
+    ensures { λ _. ⌜ PushedTo factor (record { plane = now (plane .entry); prior = now (prior .entry) }) n
+        (record { plane = now (plane .exit); prior = now (prior .exit) }) ⌝ }
+{
+    for i in 0..n {
+        let old_plane = plane[i];
+        let old_prior = prior[i];
+        let new_plane = float::mul_add_rounded(factor, old_plane - old_prior, old_plane);
+        plane[i] = new_plane;
+        prior[i] = old_plane;
+    }
+}
+
+// Job 1: new plane = mul_add!(factor, plane - prior, plane), new prior = old plane.
 // Rules out: the product and sum rounded once, and a prior that is the old prior.
 pub fn push(plane: &mut [f32], prior: &mut [f32], k: Constants)
     requires { ⌜ length (now plane) ≡ length (now prior) ⌝ }
     ensures { λ _. ⌜ record { plane = now (plane .exit); prior = now (prior .exit) }
         ≡ pushed (k .factor) (record { plane = now (plane .entry); prior = now (prior .entry) }) ⌝ }
 {
-    let factor = k.factor;
-    for i in 0..plane.len() {
-        let p = plane[i];
-        plane[i] = float::mul_add_rounded(factor, p - prior[i], p);
-        prior[i] = p;
-    }
+    let n = plane.len();
+    push_places(plane, prior, k.factor, n);
 }
 
 // Job 1 on the part of channel c, of n values. Rules out: another channel's part pushed, and a place beyond the part changed.
