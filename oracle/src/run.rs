@@ -74,6 +74,14 @@ pub fn runs(sheet: &sheet::Sheet) -> Vec<Run> {
     given.into_iter().enumerate().map(|(c, one)| Run::start(sheet, vec![one], c)).collect()
 }
 
+/// Statements of `solve` on one channel.
+pub fn push(aux: &mut Aux, count: usize, factor: f32) {
+    for i in 0..count {
+        aux.fista[i] = mul_add!(factor, aux.fdata[i] - aux.fista[i], aux.fdata[i]);
+    }
+    std::mem::swap(&mut aux.fdata, &mut aux.fista);
+}
+
 impl Run {
     /// The start of the run with the smoothing weight and iteration count at place `c`.
     fn start(sheet: &sheet::Sheet, given: Vec<Coefficient>, c: usize) -> Self {
@@ -155,14 +163,9 @@ impl Run {
         (Constants { term, factor, step_size, second_order_weight }, next_term)
     }
 
-    /// Statements of `solve`.
     pub fn push(&mut self, c: usize, factor: f32) {
         let count = self.count();
-        let aux = &mut self.auxs[c];
-        for i in 0..count {
-            aux.fista[i] = mul_add!(factor, aux.fdata[i] - aux.fista[i], aux.fdata[i]);
-        }
-        std::mem::swap(&mut aux.fdata, &mut aux.fista);
+        push(&mut self.auxs[c], count, factor);
         self.positions[c] += 1;
     }
 
