@@ -73,7 +73,7 @@ USES = {
     'Rattle.utils.specs.Dct': 'onLine idct8 dct8 idct8x8 dct8x8',
     'Rattle.utils.specs.Auxiliary': 'upsamplePixels',
     'Rattle.interval.specs.Interval': 'lowest highest dequantised',
-    'Rattle.steps.specs.Solve': 'nextTerm termOf constants pushAt pushed',
+    'Rattle.steps.specs.Solve': 'nextTerm termOf constants pushed',
     'Rattle.steps.specs.Step': 'dataAlpha gradientNorm movedBy moved',
     'Rattle.gradients.specs.Tv': 'difference bump bumpUnless tvDifferencesAt tvDifferences gNormOf tvChannelDerivatives tvDerivatives store tvGradientPx tvAlpha tvGradient',
     'Rattle.gradients.specs.Tgv': 'tgvDifferencesAt tgvDifferences g2NormOf tgvBeside tgvUpDown tgvCorners tgvChannelDerivatives tgvDerivatives tgvGradientPx tgvAlpha tgvGradient',
