@@ -9,6 +9,8 @@ use Rattle.contents.specs.declared.Header.{Header}
 use Rattle.contents.specs.declared.Channel.{Channel}
 use Rattle.contents.specs.declared.Sheet.{Sheet}
 use Rattle.contents.specs.declared.Weight.the-variants as weight
+use Rattle.contents.specs.declared.Choice.the-variants as choice
+use Rattle.contents.specs.declared.Settings.{Settings}
 
 -- What goes to the lent buffers: levels and tables
 pub record Held : Type 0 where
@@ -18,7 +20,7 @@ pub record Held : Type 0 where
 abbrev pub held : List ℤ → List ℕ → Held
 held ls ts = record { levels = ls; tables = ts }
 
--- no header, no channel
+-- no header, no settings, no channel
 abbrev pub noHeader : Header
 noHeader =
     record {
@@ -38,6 +40,9 @@ noHeader =
       data1 = weight.Whole 0;
       data2 = weight.Whole 0;
     }
+
+abbrev pub noSettings : Settings
+noSettings = record { rounding = choice.Unsaid }
 
 abbrev pub noChannel : Channel
 noChannel = record { width = 0; height = 0; across = 0; down = 0 }

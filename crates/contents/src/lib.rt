@@ -40,9 +40,22 @@ pub struct Channel {
     pub down: u32,
 }
 
+// A setting with one of two letters: no line says it, or the first letter, or the second.
+pub enum Choice {
+    Unsaid,
+    First,
+    Second,
+}
+
+// The settings: F, the rounding, t or n.
+pub struct Settings {
+    pub rounding: Choice,
+}
+
 // A sheet but for its levels and quantisers. With one channel the second and third are zero.
 pub struct Sheet {
     pub header: Header,
+    pub settings: Settings,
     pub first: Channel,
     pub second: Channel,
     pub third: Channel,

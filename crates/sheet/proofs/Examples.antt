@@ -17,7 +17,7 @@ use Rattle.text.specs.Fields.{fieldOf}
 use Rattle.digits.specs.Written.{joined, ended}
 use Rattle.contents.specs.declared.Limits.{Limits}
 use Rattle.sheet.specs.Lines.{rulesOf, fieldsFault, headerOf, channelOf, recordOf}
-use Rattle.contents.specs.Sheets.{held, noChannel}
+use Rattle.contents.specs.Sheets.{held, noSettings, noChannel}
 use Rattle.sheet.specs.Reading.{Outcome, Contents, contents, blank, lineTag, takenOf, lineFault, readText}
 use Rattle.sheet.specs.Calls.{Lengths, measuring, reading}
 use Rattle.sheet.specs.Reading.Outcome.{Gives, Refused}
@@ -97,6 +97,7 @@ whole-reads : readText (at 32) (text whole) ≡ contents
         data1 = weight.Whole 0;
         data2 = weight.Whole 0;
       };
+      settings = noSettings;
       first = record { width = 8; height = 8; across = 1; down = 1 };
       second = noChannel;
       third = noChannel;
@@ -166,6 +167,23 @@ bytes = refl
 bad-limit : (answer 0 (text whole) ≡ (2, 0)) × (answer 12 (text whole) ≡ (2, 0)) × (answer 520 (text whole) ≡ (2, 0))
 unfolding answer
 bad-limit = (refl, refl, refl)
+
+-- M-100: `F` only directly after `S`, once, with `t` or `n`
+rounding : answers 32 (
+    text (take 1 whole ++ (b "F" ∷ b "t" ∷ []) ∷ drop 1 whole)
+    ∷ text (take 1 whole ++ (b "F" ∷ b "n" ∷ []) ∷ drop 1 whole)
+    ∷ text (take 1 whole ++ (b "F" ∷ b "n" ∷ []) ∷ (b "F" ∷ b "n" ∷ []) ∷ drop 1 whole)
+    ∷ text ((b "F" ∷ b "n" ∷ []) ∷ whole)
+    ∷ text (take 2 whole ++ (b "F" ∷ b "n" ∷ []) ∷ drop 2 whole)
+    ∷ text (take 1 whole ++ (b "F" ∷ b "x" ∷ []) ∷ drop 1 whole)
+    ∷ text (take 1 whole ++ (b "F" ∷ []) ∷ drop 1 whole)
+    ∷ text (take 1 whole ++ (b "F" ∷ b "t" ∷ []) ∷ [])
+    ∷ text (take 1 whole ++ (b "F" ∷ b "t" ∷ []) ∷ drop 3 whole)
+    ∷ []
+    )
+    ≡ (0, 0) ∷ (0, 0) ∷ (1, 3) ∷ (1, 1) ∷ (1, 3) ∷ (1, 2) ∷ (1, 2) ∷ (7, 3) ∷ (1, 3) ∷ []
+unfolding answer
+rounding = refl
 
 -- measuring gives both lengths; reading refuses other lengths, last
 unfoldable measured : ℕ → List ℕ → Outcome Lengths

@@ -27,12 +27,12 @@ use Rattle.contents.specs.declared.Channel.{Channel}
 use Rattle.contents.specs.declared.Sheet.{Sheet}
 use Rattle.sheet.specs.declared.state.State.{State}
 use Rattle.sheet.specs.declared.state.Taken.the-variants as taken
-use Rattle.sheet.specs.Lines.{headerRules, channelRules, blockRules, endRules, rulesOf, firstFault, fieldsFault, lineLevels, lineTables, headerOf, channelOf, recordOf}
+use Rattle.sheet.specs.Lines.{headerRules, roundingRules, choiceOf, channelRules, blockRules, endRules, rulesOf, firstFault, fieldsFault, lineLevels, lineTables, headerOf, channelOf, recordOf}
 use Rattle.contents.specs.Sheets.{Held, held, noChannel, channelAt, levelsTo}
-use Rattle.sheet.specs.Reading.{Outcome, Contents, contents, headed, blank, lineTag, placed, opened, covers, takenOf, isLast, lineFault, nothingLeft, onFault, onTaken, readFrom, allowed, readText}
+use Rattle.sheet.specs.Reading.{Outcome, Contents, contents, headed, blank, lineTag, rounded, placed, opened, covers, takenOf, isLast, lineFault, nothingLeft, onFault, onTaken, readFrom, allowed, readText}
 use Rattle.sheet.specs.Reading.Outcome.{Gives, Refused}
-use Rattle.sheet.proofs.StateLaws.{Stands, stands, unbegun}
-use Rattle.sheet.proofs.StateLaws.Stands.{Header-line, Block-line, Channel-line, End-line}
+use Rattle.sheet.proofs.StateLaws.{Stands, stands, unbegun, first-tag}
+use Rattle.sheet.proofs.StateLaws.Stands.{Header-line, Rounding-line, Block-line, Channel-line, End-line}
 use Rattle.sheet.proofs.GoodLines.{fault-at, fault-drop, tables-without, levels-without, channel-tables, block-levels, all-quantisers, all-levels}
 
 -- Good lines
@@ -177,9 +177,9 @@ LegalContents limits c = LegalSheet limits (c .sheet) (c .held)
 module _ (limits : Limits) (most : LegalLimits limits) (p : List ℕ) (rest : List (List ℕ)) (C : Contents)
     (ih : (s : State) (H : Held) (k : ℕ) → Begun limits s H → readFrom limits s H k rest ≡ Gives C → LegalContents limits C) where
   first-line : (k : ℕ) → readFrom limits blank (held [] []) k (p ∷ rest) ≡ Gives C → LegalContents limits C
-  unfolding blank lineTag rulesOf takenOf recordOf
+  unfolding rulesOf takenOf recordOf
   first-line k e =
-      let l = line-is (headerRules limits (split 9 p)) k p rest _ C e in
+      let l = line-is (headerRules limits (split 9 p)) k p rest _ C (rw (first-tag (split 9 p)) at e) in
       let fs = split 9 p in
       ih (record { begun = true; sheet = headed (headerOf fs); read = 0; left = 0 }) (held [] []) (k + 1)
       (record {
@@ -222,6 +222,26 @@ module _ (limits : Limits) (most : LegalLimits limits) (p : List ℕ) (rest : Li
           tables = b .tables;
         })
         (rw (block-levels fs, tables-without blockRules fs refl, append-nil (H .tables)) at (l .more))
+
+    rounding-line : lineTag s (split 9 p) ≡ 70 → readFrom limits s H k (p ∷ rest) ≡ Gives C → LegalContents limits C
+    unfolding rulesOf takenOf recordOf
+    rounding-line g e =
+        let l = line-is roundingRules k p rest _ C (rw g at e) in
+        let fs = split 9 p in
+        let t : Sheet = rounded (s .sheet) (choiceOf 116 (getD fs 1 [])) in
+        ih (record { begun = s .begun; sheet = t; read = s .read; left = s .left }) H (k + 1)
+        (record {
+          begun = b .begun;
+          header = b .header;
+          upto = b .upto;
+          channel = b .channel;
+          spare = b .spare;
+          levels-count = b .levels-count ∙ sym (levels-same (s .sheet) t (s .read) (λ j h. refl));
+          tables-count = b .tables-count;
+          levels = b .levels;
+          tables = b .tables;
+        })
+        (rw (levels-without roundingRules fs refl, tables-without roundingRules fs refl, append-nil (H .levels), append-nil (H .tables)) at (l .more))
 
     channel-line : s .left ≤ 0 → s .read < s .sheet .header .channels → lineTag s (split 9 p) ≡ 67 → readFrom limits s H k (p ∷ rest) ≡ Gives C → LegalContents limits C
     unfolding rulesOf takenOf recordOf
@@ -308,6 +328,7 @@ module _ (limits : Limits) (most : LegalLimits limits) (p : List ℕ) (rest : Li
       where
         by : Stands s (lineTag s (split 9 p)) → LegalContents limits C
         by (Header-line q g) = unbegun s (b .begun) q
+        by (Rounding-line q g) = rounding-line g e
         by (Block-line q u g) = block-line u g e
         by (Channel-line q u v g) = channel-line u v g e
         by (End-line q u v g) = end-line u v g e

@@ -2,7 +2,7 @@
 use Prim.Native.Nat.{ℕ, zero, suc, _+_, _-_, _<_, _≤_}
 use mathlib.Core.Path.{_≡_, refl, sym, ap, _∙_}
 use mathlib.Core.List.{List, [], _∷_, _++_}
-use mathlib.Core.Bool.{Bool}
+use mathlib.Core.Bool.{Bool, true, false}
 use native.Mathlib.Omega.{arith}
 use lib.ListN.{length, getD, take, replicate, getD-replicate}
 use lib.Seq.{getD-append-add}
@@ -14,10 +14,12 @@ use Rattle.text.specs.Numbers.{numberAt}
 use Rattle.text.specs.Weights.{weightAt}
 use Rattle.text.specs.Fields.{letter}
 use Rattle.contents.specs.declared.Limits.{Limits}
+use Rattle.contents.specs.declared.Choice.{Choice}
+use Rattle.contents.specs.declared.Choice.the-variants as choice
 use Rattle.contents.specs.declared.Header.{Header}
 use Rattle.contents.specs.declared.Channel.{Channel}
 use Rattle.sheet.specs.declared.line.Record.the-variants as line
-use Rattle.sheet.specs.Lines.{count, mode, factor, ownSide, headerRules, channelRules, blockRules, rulesOf, fieldCount, headerOf, channelOf, recordOf}
+use Rattle.sheet.specs.Lines.{count, mode, factor, ownSide, headerRules, roundingRules, choiceOf, channelRules, blockRules, rulesOf, fieldCount, headerOf, channelOf, recordOf}
 
 -- What a header line holds
 
@@ -61,9 +63,13 @@ module _ (t : ℕ) where
   unfolding fieldCount
   count-S e = rw e
 
-  pub count-E : (t ≡ 83 → ⊥) → (t ≡ 67 → ⊥) → (t ≡ 66 → ⊥) → 1 ≡ fieldCount t
+  pub count-F : t ≡ 70 → 2 ≡ fieldCount t
   unfolding fieldCount
-  count-E s c b = rw (ne-eqb t 66 b, ne-eqb t 67 c, ne-eqb t 83 s)
+  count-F e = rw e
+
+  pub count-E : (t ≡ 83 → ⊥) → (t ≡ 67 → ⊥) → (t ≡ 66 → ⊥) → (t ≡ 70 → ⊥) → 1 ≡ fieldCount t
+  unfolding fieldCount
+  count-E s c b f = rw (ne-eqb t 66 b, ne-eqb t 67 c, ne-eqb t 83 s, ne-eqb t 70 f)
 
   pub record-S : (fs : List (List ℕ)) (h : Header) → t ≡ 83 → h ≡ headerOf fs → line.Header h ≡ recordOf t fs
   unfolding recordOf
@@ -73,11 +79,23 @@ module _ (t : ℕ) where
   unfolding recordOf
   record-C fs c s e q = rw (ne-eqb t 83 s, eq-eqb t 67 e) (ap line.Channel q)
 
-  pub record-B : (fs : List (List ℕ)) → (t ≡ 83 → ⊥) → (t ≡ 67 → ⊥) → line.Block ≡ recordOf t fs
+  pub record-F : (fs : List (List ℕ)) (r : Choice) → (t ≡ 83 → ⊥) → (t ≡ 67 → ⊥) → t ≡ 70 → r ≡ choiceOf 116 (getD fs 1 []) → line.Rounding r ≡ recordOf t fs
   unfolding recordOf
-  record-B fs s c = rw (ne-eqb t 83 s, ne-eqb t 67 c)
+  record-F fs r s c e q = rw (ne-eqb t 83 s, ne-eqb t 67 c, eq-eqb t 70 e) (ap line.Rounding q)
 
-pub ruleset tags = (count-S, count-C, count-B, count-E, record-S, record-C, record-B)
+  pub record-B : (fs : List (List ℕ)) → (t ≡ 83 → ⊥) → (t ≡ 67 → ⊥) → (t ≡ 70 → ⊥) → line.Block ≡ recordOf t fs
+  unfolding recordOf
+  record-B fs s c f = rw (ne-eqb t 83 s, ne-eqb t 67 c, ne-eqb t 70 f)
+
+-- a setting's letter
+module _ (a : ℕ) (f : List ℕ) (b : Bool) (e : b ≡ letter a f) where
+  pub choice-first : b ≡ true → choice.First ≡ choiceOf a f
+  choice-first p = rw (sym e ∙ p)
+
+  pub choice-second : b ≡ false → choice.Second ≡ choiceOf a f
+  choice-second p = rw (sym e ∙ p)
+
+pub ruleset tags = (count-S, count-C, count-B, count-F, count-E, record-S, record-C, record-F, record-B, choice-first, choice-second)
 
 -- Rules by place
 
@@ -166,7 +184,14 @@ module _ (i : ℕ) where
       sym (past (take 1 blockRules) (replicate 64 rule.Level) i (rule.Tag 0) (omega arith)
       ∙ getD-replicate 64 (i - 1) rule.Level (rule.Tag 0) (omega arith))
 
-pub ruleset rules = (header-tag, header-side, header-wide, header-high, header-channels, header-mode, header-count, header-weight, channel-tag, channel-side, channel-factor, channel-quantiser, block-tag, block-level)
+module _ (i : ℕ) where
+  pub rounding-tag : i ≡ 0 → rule.Tag 70 ≡ getD roundingRules i (rule.Tag 0)
+  rounding-tag e = rw e
+
+  pub rounding-letter : (i ≡ 0 → ⊥) → i < 2 → rule.Letters 116 110 ≡ getD roundingRules i (rule.Tag 0)
+  rounding-letter h k = let e : i ≡ 1 = omega arith in rw e
+
+pub ruleset rules = (rounding-tag, rounding-letter, header-tag, header-side, header-wide, header-high, header-channels, header-mode, header-count, header-weight, channel-tag, channel-side, channel-factor, channel-quantiser, block-tag, block-level)
 
 -- The rule of a tag's field
 
@@ -183,11 +208,15 @@ module _ (t : ℕ) (limits : Limits) (top : Header) (i : ℕ) (fs : List (List �
   unfolding rulesOf
   rule-S b c e q = rw (ne-eqb t 66 b, ne-eqb t 67 c, eq-eqb t 83 e) q
 
-pub rule-E : (t : ℕ) (limits : Limits) (top : Header) (i : ℕ) (fs : List (List ℕ)) → (t ≡ 66 → ⊥) → (t ≡ 67 → ⊥) → (t ≡ 83 → ⊥) → i < fieldCount t → rule.Tag 69 ≡ getD (rulesOf t limits top fs) i (rule.Tag 0)
+  pub rule-F : (t ≡ 66 → ⊥) → (t ≡ 67 → ⊥) → (t ≡ 83 → ⊥) → t ≡ 70 → r ≡ getD roundingRules i (rule.Tag 0) → r ≡ getD (rulesOf t limits top fs) i (rule.Tag 0)
+  unfolding rulesOf
+  rule-F b c s e q = rw (ne-eqb t 66 b, ne-eqb t 67 c, ne-eqb t 83 s, eq-eqb t 70 e) q
+
+pub rule-E : (t : ℕ) (limits : Limits) (top : Header) (i : ℕ) (fs : List (List ℕ)) → (t ≡ 66 → ⊥) → (t ≡ 67 → ⊥) → (t ≡ 83 → ⊥) → (t ≡ 70 → ⊥) → i < fieldCount t → rule.Tag 69 ≡ getD (rulesOf t limits top fs) i (rule.Tag 0)
 unfolding rulesOf fieldCount
-rule-E t limits top i fs b c s h =
-    let z : i ≡ 0 = omega (arith, simp (ne-eqb t 83 s, ne-eqb t 67 c, ne-eqb t 66 b) at h) in
-    rw (ne-eqb t 66 b, ne-eqb t 67 c, ne-eqb t 83 s, z)
+rule-E t limits top i fs b c s f h =
+    let z : i ≡ 0 = omega (arith, simp (ne-eqb t 83 s, ne-eqb t 67 c, ne-eqb t 66 b, ne-eqb t 70 f) at h) in
+    rw (ne-eqb t 66 b, ne-eqb t 67 c, ne-eqb t 83 s, ne-eqb t 70 f, z)
 
 module _ (t i : ℕ) (h : i < fieldCount t) where
   pub below-S : t ≡ 83 → i < 16
@@ -199,4 +228,7 @@ module _ (t i : ℕ) (h : i < fieldCount t) where
   pub below-B : t ≡ 66 → i < 65
   below-B e = omega (arith, count-B t e)
 
-pub ruleset places = (rule-S, rule-C, rule-B, rule-E, below-S, below-C, below-B)
+  pub below-F : t ≡ 70 → i < 2
+  below-F e = omega (arith, count-F t e)
+
+pub ruleset places = (rule-S, rule-C, rule-B, rule-F, rule-E, below-S, below-C, below-B, below-F)

@@ -2,7 +2,7 @@
 use Prim.Native.Nat.{ℕ, zero, suc, _+_, _-_, _*_, _<_, _≤_}
 use mathlib.Core.Path.{_≡_, refl, sym, ap, _∙_, subst, subst⁻¹}
 use mathlib.Core.List.{List, [], _∷_}
-use mathlib.Core.Bool.{Bool, true, false, cond}
+use mathlib.Core.Bool.{Bool, true, false, cond, _&&_}
 use mathlib.Core.Logic.{_⊎_, inl, inr}
 use mathlib.Core.Option.{Option, none, some}
 use native.Mathlib.Nat.{mul-le-mul, mul-le-mul-right, le-trans, suc-mul}
@@ -10,15 +10,16 @@ use native.Mathlib.Omega.{arith}
 use lib.ListN.{length, getD, take, drop, replicate, length-drop, length-take, drop-of-length-le}
 use lib.Seq.{drop-cons, take-all, take-nil, length-take-le}
 use lib.Dec.{eqb, ltb, leb}
-use borrow.Author.Tests.{ltb-true, ltb-false, eqb-true, eqb-false, leb-true, leb-false}
+use borrow.Author.Tests.{ne-eqb, ltb-true, ltb-false, eqb-true, eqb-false, leb-true, leb-false}
 use Rattle.text.specs.declared.field.Rule.{Rule}
 use Rattle.text.specs.declared.field.Rule.the-variants as rule
 use Rattle.text.specs.Pieces.{split, before}
 use Rattle.text.specs.Numbers.{numberAt}
-use Rattle.text.specs.Fields.{fieldOf, faultIn}
+use Rattle.text.specs.Fields.{letter, fieldOf, faultIn}
 use Rattle.digits.specs.Written.{decimal, rowBytes}
 use Rattle.text.proofs.PieceLaws.{split-cut, split-whole, split-some}
 use Rattle.text.proofs.GoodLaws.{side-is}
+use Rattle.digits.proofs.Both.{both-left, both-right}
 use Rattle.digits.proofs.Lengths.{decimal-length}
 use Rattle.text.proofs.JoinLaws.{joined-split, joined-length, Within}
 use Rattle.text.proofs.SizeLaws.{tag-short, range-short, side-short, channels-short, letters-short, weight-short, quantiser-short, level-short}
@@ -27,13 +28,13 @@ use Rattle.contents.specs.declared.Header.{Header}
 use Rattle.sheet.specs.declared.state.State.{State}
 use Rattle.sheet.specs.declared.state.Taken.{Taken}
 use Rattle.sheet.specs.declared.state.Taken.the-variants as taken
-use Rattle.sheet.specs.Lines.{headerRules, channelRules, blockRules, rulesOf, firstFault, fieldsFault, holding, headerOf, channelOf, recordOf}
+use Rattle.sheet.specs.Lines.{headerRules, roundingRules, choiceOf, channelRules, blockRules, rulesOf, firstFault, fieldsFault, holding, headerOf, channelOf, recordOf}
 use Rattle.contents.specs.Sheets.{Held, held}
-use Rattle.sheet.specs.Reading.{Outcome, Contents, contents, headed, blank, lineTag, opened, covers, takenOf, isLast, lineFault, nothingLeft, onFault, onTaken, readFrom, allowed, readText}
+use Rattle.sheet.specs.Reading.{Outcome, Contents, contents, headed, blank, unsaid, mayRound, lineTag, rounded, opened, covers, takenOf, isLast, lineFault, nothingLeft, onFault, onTaken, readFrom, allowed, readText}
 use Rattle.sheet.specs.Reading.Outcome.{Gives, Refused}
-use Rattle.sheet.specs.Longest.{headerSizes, channelSizes, blockSizes, channelBytes, longest, decisive}
-use Rattle.sheet.proofs.StateLaws.{Stands, stands, unbegun}
-use Rattle.sheet.proofs.StateLaws.Stands.{Header-line, Block-line, Channel-line, End-line}
+use Rattle.sheet.specs.Longest.{headerSizes, roundingSizes, channelSizes, blockSizes, channelBytes, longest, decisive}
+use Rattle.sheet.proofs.StateLaws.{Stands, stands, unbegun, first-tag, said}
+use Rattle.sheet.proofs.StateLaws.Stands.{Header-line, Rounding-line, Block-line, Channel-line, End-line}
 use Rattle.sheet.proofs.WalkLaws.{line-long, split-head, not-last, some-after}
 use Rattle.sheet.proofs.GoodLines.{or-left, or-right, fault-at, fault-drop}
 use Rattle.sheet.proofs.LegalLaws.{header-is-legal, channel-is-legal, few, fields-count, line-fields, line-is, refusal}
@@ -71,6 +72,11 @@ within-at fs i m ms h k w = rw (drop-cons fs i [] h) (k, w)
 
 within-end : (fs : List (List ℕ)) (i : ℕ) → length fs ≤ i → Within (drop i fs) []
 within-end fs i h = rw (drop-of-length-le fs {i = i} h) tt
+
+rounding-within : (fs : List (List ℕ)) → length fs ≡ 2 → firstFault roundingRules fs ≡ none → Within fs roundingSizes
+rounding-within fs n e =
+    within-at fs 0 1 _ (omega arith) (tag-short (getD fs 0 []) 70 (fault-at roundingRules fs 0 e (omega arith) (omega arith)))
+    (within-at fs 1 1 _ (omega arith) (letters-short (getD fs 1 []) 116 110 (fault-at roundingRules fs 1 e (omega arith) (omega arith))) (within-end fs 2 (omega arith)))
 
 module _ (limits : Limits) (most : limits .side ≤ 512) where
   d : ℕ
@@ -119,7 +125,7 @@ abbrev lineBytes : Limits → ℕ
 lineBytes limits = channelBytes (limits .side) (length (decimal (limits .side)))
 
 abbrev room : Limits → State → ℕ
-room limits s = cond (s .begun) (s .left * rowBytes blockSizes + (s .sheet .header .channels - s .read) * lineBytes limits + 2) (longest (limits .side))
+room limits s = cond (s .begun) (cond (mayRound s) 4 0 + s .left * rowBytes blockSizes + (s .sheet .header .channels - s .read) * lineBytes limits + 2) (longest (limits .side))
 
 record On (limits : Limits) (s : State) : Type 0 where
   begun : s .begun ≡ true
@@ -171,6 +177,19 @@ module _ (limits : Limits) (most : limits .side ≤ 512) (p : List ℕ) where
           bytes = rw (b .begun) (omega (arith, row-bytes p blockSizes (block-within (split 9 p) n e)));
         })
 
+    spent-rounding : (t : State) → mayRound s ≡ true → length (split 9 p) ≡ 2 → firstFault roundingRules (split 9 p) ≡ none
+        → taken.Good (record { begun = s .begun; sheet = rounded (s .sheet) (choiceOf 116 (getD (split 9 p) 1 [])); read = s .read; left = s .left }) ≡ taken.Good t → Spent limits s p t
+    spent-rounding t m n e o =
+        let u = unsaid (s .sheet .settings .rounding) in
+        let r = both-right (s .begun) (eqb (s .read) 0 && u) m in
+        subst (Spent limits s p) (good-inj _ t o)
+        (record {
+          stage = record { begun = b .begun; wide = b .wide; high = b .high; few = b .few };
+          bytes =
+              rw (b .begun, both-left (eqb (s .read) 0) u r, both-right (eqb (s .read) 0) u r, said (letter 116 (getD (split 9 p) 1 [])))
+              (omega (arith, row-bytes p roundingSizes (rounding-within (split 9 p) n e)));
+        })
+
     spent-channel : (t : State) → length (split 9 p) ≡ 69 → firstFault channelRules (split 9 p) ≡ none → s .left ≤ 0 → s .read < s .sheet .header .channels
         → covers (s .sheet .header) (channelOf (split 9 p)) ≡ true → taken.Good (opened s (channelOf (split 9 p))) ≡ taken.Good t → Spent limits s p t
     unfolding d
@@ -184,7 +203,7 @@ module _ (limits : Limits) (most : limits .side ≤ 512) (p : List ℕ) where
         (record {
           stage = record { begun = refl; wide = b .wide; high = b .high; few = b .few };
           bytes =
-              rw (b .begun)
+              rw (b .begun, ne-eqb (s .read + 1) 0 (λ q. omega arith))
               (omega (
                 arith,
                 row-bytes p (channelSizes (length (decimal (limits .side)))) (channel-within limits most fs n e w u),
@@ -198,6 +217,7 @@ module _ (limits : Limits) (most : limits .side ≤ 512) (p : List ℕ) where
         → firstFault (rulesOf g limits (s .sheet .header) (split 9 p)) (split 9 p) ≡ none → takenOf s (recordOf g (split 9 p)) ≡ taken.Good t → Spent limits s p t
     unfolding rulesOf recordOf takenOf
     spent-on t g (Header-line q r) x n e o = unbegun s (b .begun) q
+    spent-on t g (Rounding-line q r) x n e o = spent-rounding t q (rw r at n) (rw r at e) (rw r at o)
     spent-on t g (Block-line q l r) x n e o = spent-block t (rw r at n) (rw r at e) l (rw r at o)
     spent-on t g (Channel-line q l c r) x n e o = covering (covers (s .sheet .header) (channelOf (split 9 p))) refl (rw r at n) (rw r at e) l c (rw r at o)
       where
@@ -213,8 +233,8 @@ module _ (limits : Limits) (most : limits .side ≤ 512) (p : List ℕ) where
       → takenOf s (recordOf (lineTag s (split 9 p)) (split 9 p)) ≡ taken.Good t → Spent limits s p t
 
   spent-first : (t : State) → Spends blank t
-  unfolding blank lineTag rulesOf recordOf takenOf
-  spent-first t n e o = spent-header t n e o
+  unfolding rulesOf recordOf takenOf
+  spent-first t n e o = spent-header t (rw (first-tag (split 9 p)) at n) (rw (first-tag (split 9 p)) at e) (rw (first-tag (split 9 p)) at o)
 
   spent : (s : State) → Stage limits s → (t : State) → (lineTag s (split 9 p) ≡ 69 → ⊥) → Spends s t
   spent s (inr b) t x n e o = spent-on s b t (lineTag s (split 9 p)) (stands s (split 9 p) (lineTag s (split 9 p)) refl) x n e o

@@ -11,22 +11,24 @@ use lib.Seq.{length-take-le, take-add}
 use lib.IntN.{ℤ}
 use borrow.Author.Tests.{eq-eqb, lt-ltb, le-ltb, le-leb}
 use Rattle.text.specs.Pieces.{split}
-use Rattle.text.specs.Fields.{isSide}
+use Rattle.text.specs.Fields.{isSide, fieldOf}
 use Rattle.contents.specs.Legal.{LegalSide, LegalHeader, LegalChannel, LegalQuantisers, LegalLevels, LegalSheet}
 use Rattle.text.specs.Written.{levelText}
 use Rattle.digits.specs.Written.{decimal, joined}
 use Rattle.text.proofs.JoinLaws.{free, allFree, split-joined, joined-free, split-ended}
 use Rattle.contents.specs.declared.Limits.{Limits}
+use Rattle.contents.specs.declared.Choice.{Choice}
+use Rattle.contents.specs.declared.Choice.the-variants as choice
 use Rattle.contents.specs.declared.Header.{Header}
 use Rattle.contents.specs.declared.Channel.{Channel}
 use Rattle.contents.specs.declared.Sheet.{Sheet}
 use Rattle.sheet.specs.declared.state.State.{State}
 use Rattle.sheet.specs.declared.state.Taken.the-variants as taken
-use Rattle.sheet.specs.Lines.{headerRules, channelRules, blockRules, rulesOf, fieldCount, firstFault, holding, channelOf, recordOf}
+use Rattle.sheet.specs.Lines.{headerRules, roundingRules, channelRules, blockRules, rulesOf, fieldCount, firstFault, holding, channelOf, recordOf}
 use Rattle.contents.specs.Sheets.{Held, held, levelsTo, channelsOf}
-use Rattle.sheet.specs.Reading.{contents, headed, blank, lineTag, placed, covers, takenOf, isLast, readFrom, readText}
+use Rattle.sheet.specs.Reading.{contents, headed, blank, lineTag, rounded, placed, covers, takenOf, isLast, readFrom, readText}
 use Rattle.sheet.specs.Reading.Outcome.{Refused}
-use Rattle.sheet.specs.Written.{headerFields, channelFields, blockFields, endFields, blockLines, channelLines, written}
+use Rattle.sheet.specs.Written.{headerFields, channelFields, blockFields, endFields, choiceLines, settingLines, blockLines, channelLines, written}
 use Rattle.sheet.proofs.WalkLaws.{line-next, line-end}
 use Rattle.sheet.proofs.GoodLines.{tables-without, levels-without, channel-tables, block-levels}
 use Rattle.sheet.proofs.LegalLaws.{blocks}
@@ -186,7 +188,30 @@ read-header limits most h l rest e =
     refl (header-good limits most h l) (during (headed h) 0 0) (rw (header-back limits most h l))
     ∙ rw (levels-without (headerRules limits fs) fs refl, tables-without (headerRules limits fs) fs refl)
 
+-- the settings' lines
+read-settings : (limits : Limits) (h : Header) (c : Choice) (rest : List (List ℕ)) → isLast rest ≡ false
+    → (m : ℕ) × (readFrom limits (during (headed h) 0 0) (held [] []) 2 (choiceLines 70 116 110 c ++ rest) ≡ readFrom limits (during (rounded (headed h) c) 0 0) (held [] []) m rest)
+unfolding lineTag rulesOf fieldCount recordOf takenOf fieldOf
+read-settings limits h choice.Unsaid rest e = (2, refl)
+read-settings limits h choice.First rest e =
+    let fs : List (List ℕ) = (70 ∷ []) ∷ (116 ∷ []) ∷ [] in (
+      3,
+      read-row limits (during (headed h) 0 0) (held [] []) 2 fs rest 70 refl (λ q. omega arith) (omega arith) refl (omega arith) e refl refl (during (rounded (headed h) choice.First) 0 0) refl
+          ∙ rw (levels-without roundingRules fs refl, tables-without roundingRules fs refl),
+    )
+read-settings limits h choice.Second rest e =
+    let fs : List (List ℕ) = (70 ∷ []) ∷ (110 ∷ []) ∷ [] in (
+      3,
+      read-row limits (during (headed h) 0 0) (held [] []) 2 fs rest 70 refl (λ q. omega arith) (omega arith) refl (omega arith) e refl refl (during (rounded (headed h) choice.Second) 0 0) refl
+          ∙ rw (levels-without roundingRules fs refl, tables-without roundingRules fs refl),
+    )
+
 -- the lines have no line end in them
+free-choice : (c : Choice) → allFree 10 (choiceLines 70 116 110 c) ≡ true
+free-choice choice.Unsaid = refl
+free-choice choice.First = refl
+free-choice choice.Second = refl
+
 free-blocks : (n : ℕ) (zs : List ℤ) → allFree 10 (blockLines n zs) ≡ true
 free-blocks zero zs = refl
 free-blocks (suc n) zs = rw (joined-free (blockFields (take 64 zs)) (block-free 10 (omega arith) (take 64 zs))) (free-blocks n (drop 64 zs))
@@ -206,13 +231,19 @@ free-channels (c ∷ cs) H =
     (free-both (blockLines (c .width * c .height / 64) (H .levels)) (channelLines cs (held (drop (c .width * c .height) (H .levels)) (drop 64 (H .tables)))) (free-blocks (c .width * c .height / 64) (H .levels))
     (free-channels cs (held (drop (c .width * c .height) (H .levels)) (drop 64 (H .tables)))))
 
-written-lines : (s : Sheet) (H : Held) → split 10 (written s H) ≡ joined (headerFields (s .header)) ∷ (channelLines (channelsOf s) H ++ joined endFields ∷ [] ∷ [])
+written-lines : (s : Sheet) (H : Held) → split 10 (written s H) ≡ joined (headerFields (s .header)) ∷ (settingLines s ++ (channelLines (channelsOf s) H ++ joined endFields ∷ [] ∷ []))
 unfolding written
 written-lines s H =
     let cs = channelLines (channelsOf s) H in
-    split-ended (joined (headerFields (s .header)) ∷ (cs ++ joined endFields ∷ []))
-    (rw (joined-free (headerFields (s .header)) (header-free 10 (omega arith) (s .header))) (free-both cs (joined endFields ∷ []) (free-channels (channelsOf s) H) refl))
-    ∙ ap (λ (q : List (List ℕ)). joined (headerFields (s .header)) ∷ q) (append-assoc cs (joined endFields ∷ []) ([] ∷ []))
+    split-ended (joined (headerFields (s .header)) ∷ (settingLines s ++ (cs ++ joined endFields ∷ [])))
+    (rw (joined-free (headerFields (s .header)) (header-free 10 (omega arith) (s .header)))
+    (free-both (settingLines s) (cs ++ joined endFields ∷ []) (free-choice (s .settings .rounding)) (free-both cs (joined endFields ∷ []) (free-channels (channelsOf s) H) refl)))
+    ∙ ap (λ (q : List (List ℕ)). joined (headerFields (s .header)) ∷ q)
+    (append-assoc (settingLines s) (cs ++ joined endFields ∷ []) ([] ∷ []) ∙ ap (λ (q : List (List ℕ)). settingLines s ++ q) (append-assoc cs (joined endFields ∷ []) ([] ∷ [])))
+
+-- a sheet before its channels
+abbrev opening : Sheet → Sheet
+opening s = rounded (headed (s .header)) (s .settings .rounding)
 
 -- the first n channels are those that are placed
 abbrev channelsTo : Sheet → ℕ → List Channel
@@ -222,7 +253,7 @@ record Used (s : Sheet) (n : ℕ) : Type 0 where
   count : length (channelsTo s n) ≡ n
   levels : levelsTo s n ≡ levelsIn (channelsTo s n)
   legal : LegalChannels (s .header) (channelsTo s n)
-  placed : placedAll (headed (s .header)) 0 (channelsTo s n) ≡ s
+  placed : placedAll (opening s) 0 (channelsTo s n) ≡ s
 
 used : (limits : Limits) (s : Sheet) (H : Held) → LegalSheet limits s H → Used s (s .header .channels)
 used limits s H l = by (l .header .channels)
@@ -236,7 +267,7 @@ used limits s H l = by (l .header .channels)
           count = refl;
           levels = omega arith;
           legal = (l .channel 0 (omega arith), tt);
-          placed = λ i. record { header = s .header; first = s .first; second = sym p i; third = sym q i };
+          placed = λ i. record { header = s .header; settings = s .settings; first = s .first; second = sym p i; third = sym q i };
         })
     by (inr e) =
         subst⁻¹ (Used s) e
@@ -257,12 +288,14 @@ round-trip limits s H l =
     let u = used limits s H l in
     let cs = channelsOf s in
     let end : List (List ℕ) = joined endFields ∷ [] ∷ [] in
+    let f = read-settings limits (s .header) (s .settings .rounding) (channelLines cs H ++ end) (more-left (channelLines cs H) end refl) in
     let r =
-    read-channels limits end refl cs (headed (s .header)) 0 [] (H .levels) [] (H .tables) 2 (omega (arith, u .count)) (omega (arith, l .limits-legal .side .top, l .header .width .top), omega (arith, l .limits-legal .side .top, l .header .height .top)) (u .legal) (l .levels-count ∙ u .levels) (l .levels)
+    read-channels limits end refl cs (opening s) 0 [] (H .levels) [] (H .tables) (f .0) (omega (arith, u .count)) (omega (arith, l .limits-legal .side .top, l .header .width .top), omega (arith, l .limits-legal .side .top, l .header .height .top)) (u .legal) (l .levels-count ∙ u .levels) (l .levels)
     (l .tables-count ∙ ap (λ (n : ℕ). 64 * n) (sym (u .count))) (l .tables) in
     ap (λ (b : Bool). cond b (readFrom limits blank (held [] []) 1 (split 10 (written s H))) (Refused 2 0)) (side-test 512 (limits .side) (l .limits-legal .side))
     ∙ ap (λ (ps : List (List ℕ)). readFrom limits blank (held [] []) 1 ps) (written-lines s H)
-    ∙ read-header limits (l .limits-legal .side .top) (s .header) (l .header) (channelLines cs H ++ end) (more-left (channelLines cs H) end refl)
+    ∙ read-header limits (l .limits-legal .side .top) (s .header) (l .header) (settingLines s ++ (channelLines cs H ++ end)) (more-left (settingLines s) (channelLines cs H ++ end) (more-left (channelLines cs H) end refl))
+    ∙ f .1
     ∙ r .1
     ∙ ap (λ (v : Sheet). readFrom limits (during v (0 + length cs) 0) H (r .0) end) (u .placed)
     ∙ read-end limits s (0 + length cs) H (r .0) (omega (arith, u .count))

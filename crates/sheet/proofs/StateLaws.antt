@@ -1,14 +1,19 @@
 -- What is read so far, by the tests that the code makes.
 use Prim.Native.Nat.{ℕ, _+_, _-_, _*_, _/_, _<_, _≤_}
-use mathlib.Core.Path.{_≡_, refl, subst, subst⁻¹}
-use mathlib.Core.List.{List}
-use mathlib.Core.Bool.{Bool, true, false, cond}
+use mathlib.Core.Path.{_≡_, refl, sym, _∙_, subst, subst⁻¹}
+use mathlib.Core.List.{List, []}
+use mathlib.Core.Bool.{Bool, true, false, cond, _&&_}
 use native.Mathlib.Omega.{arith}
 use native.Mathlib.Nat.{lt-of-le-of-lt, le-of-lt, mul-le-mul-left, mul-lt-mul-of-pos-right}
+use lib.ListN.{getD}
 use mir.Syntax.{w32, w64}
 use mir.Val.{Fits}
 use lib.Dec.{eqb, ltb, lit<}
-use borrow.Author.Tests.{le-leb, lt-leb, lt-ltb, le-ltb, ltb-true, ltb-false}
+use borrow.Author.Tests.{eq-eqb, ne-eqb, le-leb, lt-leb, lt-ltb, le-ltb, ltb-true, ltb-false}
+use Rattle.text.specs.Fields.{letter}
+use Rattle.digits.proofs.Both.{both-right}
+use Rattle.contents.specs.declared.Choice.{Choice}
+use Rattle.contents.specs.declared.Choice.the-variants as choice
 use Rattle.contents.specs.declared.Header.{Header}
 use Rattle.contents.specs.declared.Channel.{Channel}
 use Rattle.contents.specs.declared.Sheet.{Sheet}
@@ -17,14 +22,14 @@ use Rattle.sheet.specs.declared.line.Record.the-variants as line
 use Rattle.sheet.specs.declared.state.State.{State}
 use Rattle.sheet.specs.declared.state.Taken.{Taken}
 use Rattle.sheet.specs.declared.state.Taken.the-variants as taken
-use Rattle.sheet.specs.Lines.{headerOf, channelOf, recordOf}
-use Rattle.contents.specs.Sheets.{noHeader, noChannel}
+use Rattle.sheet.specs.Lines.{choiceOf, headerOf, channelOf, recordOf}
+use Rattle.contents.specs.Sheets.{noHeader, noSettings, noChannel}
 use Rattle.sheet.specs.Walk.{Due}
-use Rattle.sheet.specs.Reading.{headed, blank, lineTag, placed, takenOf}
+use Rattle.sheet.specs.Reading.{headed, blank, dueTag, unsaid, mayRound, lineTag, rounded, placed, takenOf}
 
 -- Nothing, and a header
 
-pub headed-is : (h : Header) (n : Channel) → n ≡ noChannel → record { header = h; first = n; second = n; third = n } ≡ headed h
+pub headed-is : (h : Header) (n : Channel) → n ≡ noChannel → record { header = h; settings = noSettings; first = n; second = n; third = n } ≡ headed h
 headed-is h n e = rw e
 
 pub blank-is : (h : Header) (s : Sheet) → h ≡ noHeader → s ≡ headed h → record { begun = false; sheet = s; read = 0; left = 0 } ≡ blank
@@ -33,29 +38,71 @@ blank-is h s e q = rw (q, e)
 
 -- The next line's tag
 
-module _ (s : State) (fs : List (List ℕ)) where
-  pub tag-S : s .begun ≡ false → 83 ≡ lineTag s fs
-  unfolding lineTag
-  tag-S b = rw b
+module _ (s : State) where
+  pub due-S : s .begun ≡ false → 83 ≡ dueTag s
+  due-S b = rw b
 
   module _ (b : s .begun ≡ true) where
-    pub tag-B : 0 < s .left → 66 ≡ lineTag s fs
-    unfolding lineTag
-    tag-B h = rw (b, lt-ltb 0 (s .left) h)
+    pub due-B : 0 < s .left → 66 ≡ dueTag s
+    due-B h = rw (b, lt-ltb 0 (s .left) h)
 
-    pub tag-C : s .left ≤ 0 → s .read < s .sheet .header .channels → 67 ≡ lineTag s fs
-    unfolding lineTag
-    tag-C h k = rw (b, le-ltb 0 (s .left) h, lt-ltb (s .read) (s .sheet .header .channels) k)
+    pub due-C : s .left ≤ 0 → s .read < s .sheet .header .channels → 67 ≡ dueTag s
+    due-C h k = rw (b, le-ltb 0 (s .left) h, lt-ltb (s .read) (s .sheet .header .channels) k)
 
-    pub tag-E : s .left ≤ 0 → s .sheet .header .channels ≤ s .read → 69 ≡ lineTag s fs
-    unfolding lineTag
-    tag-E h k = rw (b, le-ltb 0 (s .left) h, le-ltb (s .read) (s .sheet .header .channels) k)
+    pub due-E : s .left ≤ 0 → s .sheet .header .channels ≤ s .read → 69 ≡ dueTag s
+    due-E h k = rw (b, le-ltb 0 (s .left) h, le-ltb (s .read) (s .sheet .header .channels) k)
 
-pub ruleset nexts = (headed-is, blank-is, tag-S, tag-B, tag-C, tag-E)
+  -- whether a line F may stand
+  pub round-unbegun : s .begun ≡ false → false ≡ mayRound s
+  round-unbegun b = rw b
+
+  pub round-late : (s .read ≡ 0 → ⊥) → s .begun ≡ true → false ≡ mayRound s
+  round-late r b = rw (b, ne-eqb (s .read) 0 r)
+
+  pub round-if : s .begun ≡ true → s .read ≡ 0 → (u : Bool) → u ≡ unsaid (s .sheet .settings .rounding) → u ≡ mayRound s
+  round-if b r u q = rw (b, eq-eqb (s .read) 0 r, q)
+
+  module _ (fs : List (List ℕ)) (t : ℕ) (d : t ≡ dueTag s) (l : Bool) (e : l ≡ letter 70 (getD fs 0 [])) where
+    pub tag-other : l ≡ false → t ≡ lineTag s fs
+    unfolding lineTag
+    tag-other p = rw (sym e ∙ p) d
+
+    pub tag-closed : l ≡ true → (m : Bool) → m ≡ mayRound s → m ≡ false → t ≡ lineTag s fs
+    unfolding lineTag
+    tag-closed p m q o = rw (sym e ∙ p, sym q ∙ o) d
+
+    pub tag-F : l ≡ true → (m : Bool) → m ≡ mayRound s → m ≡ true → 70 ≡ lineTag s fs
+    unfolding lineTag
+    tag-F p m q o = rw (sym e ∙ p, sym q ∙ o)
+
+pub first-tag : (fs : List (List ℕ)) → lineTag blank fs ≡ 83
+unfolding blank lineTag
+first-tag fs = two (letter 70 (getD fs 0 []))
+  where
+    two : (x : Bool) → _≡_ {A = ℕ} (cond (x && false) 70 83) 83
+    two true = refl
+    two false = refl
+
+-- a setting that was read is not unsaid
+pub said : (x : Bool) → unsaid (cond x choice.First choice.Second) ≡ false
+said true = refl
+said false = refl
+
+pub unsaid-none : (c : Choice) → c ≡ choice.Unsaid → true ≡ unsaid c
+unsaid-none c e = rw e
+
+pub unsaid-first : (c : Choice) → c ≡ choice.First → false ≡ unsaid c
+unsaid-first c e = rw e
+
+pub unsaid-second : (c : Choice) → c ≡ choice.Second → false ≡ unsaid c
+unsaid-second c e = rw e
+
+pub ruleset nexts = (headed-is, blank-is, due-S, due-B, due-C, due-E, round-unbegun, round-late, round-if, tag-other, tag-closed, tag-F, unsaid-none, unsaid-first, unsaid-second)
 
 -- Which line may stand after what was read
 pub data Stands (s : State) (tag : ℕ) : Type 0 where
   Header-line : s .begun ≡ false → tag ≡ 83 → Stands s tag
+  Rounding-line : mayRound s ≡ true → tag ≡ 70 → Stands s tag
   Block-line : s .begun ≡ true → 0 < s .left → tag ≡ 66 → Stands s tag
   Channel-line : s .begun ≡ true → s .left ≤ 0 → s .read < s .sheet .header .channels → tag ≡ 67 → Stands s tag
   End-line : s .begun ≡ true → s .left ≤ 0 → s .sheet .header .channels ≤ s .read → tag ≡ 69 → Stands s tag
@@ -65,7 +112,7 @@ unbegun s p q = let z : _≡_ {A = ℕ} 0 1 = cc in let y : ⊥ = omega arith in
 
 pub stands : (s : State) (fs : List (List ℕ)) (tag : ℕ) → tag ≡ lineTag s fs → Stands s tag
 unfolding lineTag
-stands s fs tag e = three (s .begun) (ltb 0 (s .left)) (ltb (s .read) (s .sheet .header .channels)) refl refl refl e
+stands s fs tag e = own (letter 70 (getD fs 0 []) && mayRound s) refl e
   where
     three : (a b c : Bool) → s .begun ≡ a → ltb 0 (s .left) ≡ b → ltb (s .read) (s .sheet .header .channels) ≡ c → tag ≡ cond a (cond b 66 (cond c 67 69)) 83 → Stands s tag
     three false b c p q r o = Header-line p o
@@ -73,12 +120,20 @@ stands s fs tag e = three (s .begun) (ltb 0 (s .left)) (ltb (s .read) (s .sheet 
     three true false true p q r o = Channel-line p (ltb-false 0 (s .left) q) (ltb-true (s .read) (s .sheet .header .channels) r) o
     three true false false p q r o = End-line p (ltb-false 0 (s .left) q) (ltb-false (s .read) (s .sheet .header .channels) r) o
 
+    own : (x : Bool) → (letter 70 (getD fs 0 []) && mayRound s) ≡ x → tag ≡ cond x 70 (dueTag s) → Stands s tag
+    own true p o = Rounding-line (both-right (letter 70 (getD fs 0 [])) (mayRound s) p) o
+    own false p o = three (s .begun) (ltb 0 (s .left)) (ltb (s .read) (s .sheet .header .channels)) refl refl refl o
+
 -- What a line adds
 
 pub placed-is : (s : Sheet) (j : ℕ) (c f g h : Channel)
     → f ≡ cond (eqb j 0) c (s .first) → g ≡ cond (eqb j 1) c (s .second) → h ≡ cond (eqb j 2) c (s .third)
-    → record { header = s .header; first = f; second = g; third = h } ≡ placed s j c
+    → record { header = s .header; settings = s .settings; first = f; second = g; third = h } ≡ placed s j c
 placed-is s j c f g h e i k = rw (e, i, k)
+
+pub rounded-is : (s : Sheet) (r : Choice)
+    → record { header = s .header; settings = record { rounding = r }; first = s .first; second = s .second; third = s .third } ≡ rounded s r
+rounded-is s r = refl
 
 pub product-fits : (a b : ℕ) → Fits w32 a → Fits w32 b → Fits w64 (a * b)
 product-fits a b h k = record { fits = lt-of-le-of-lt (mul-le-mul-left a (le-of-lt (k .fits))) (mul-lt-mul-of-pos-right (h .fits) (lit< tt)) }
@@ -106,6 +161,11 @@ module _ (s : State) (rec : Record) where
   pub record-channel : (c : Channel) (r : Taken) → rec ≡ line.Channel c → r ≡ takenOf s (line.Channel c) → r ≡ takenOf s rec
   record-channel c r e q = rw e q
 
+  pub record-rounding : (r : Choice) (t : Sheet) → rec ≡ line.Rounding r → t ≡ rounded (s .sheet) r
+      → taken.Good (record { begun = s .begun; sheet = t; read = s .read; left = s .left }) ≡ takenOf s rec
+  unfolding takenOf
+  record-rounding r t e q = rw (e, q)
+
   pub record-block : rec ≡ line.Block → taken.Good (record { begun = s .begun; sheet = s .sheet; read = s .read; left = s .left - 1 }) ≡ takenOf s rec
   unfolding takenOf
   record-block e = rw e
@@ -122,10 +182,12 @@ pub due : (s : State) (fs : List (List ℕ)) (tag : ℕ) → tag ≡ lineTag s f
 unfolding recordOf
 due s fs tag e h rec q = subst⁻¹ (Due s) q (by (stands s fs tag e))
   where
-    by : Stands s tag → Due s (cond (eqb tag 83) (line.Header (headerOf fs)) (cond (eqb tag 67) (line.Channel (channelOf fs)) line.Block))
+    by : Stands s tag
+        → Due s (cond (eqb tag 83) (line.Header (headerOf fs)) (cond (eqb tag 67) (line.Channel (channelOf fs)) (cond (eqb tag 70) (line.Rounding (choiceOf 116 (getD fs 1 []))) line.Block)))
     by (Header-line p o) = rw o tt
+    by (Rounding-line p o) = rw o tt
     by (Block-line p l o) = rw o l
     by (Channel-line p l r o) = rw o r
     by (End-line p l r o) = absurd (h o)
 
-pub ruleset takes = (placed-is, channel-wide, channel-high, channel-opened, product-fits, record-header, record-channel, record-block, due-channel, due-block)
+pub ruleset takes = (placed-is, channel-wide, channel-high, channel-opened, product-fits, record-header, record-channel, record-rounding, record-block, rounded-is, due-channel, due-block)

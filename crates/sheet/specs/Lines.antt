@@ -1,5 +1,5 @@
 -- The lines of a sheet: the rule of each field, left to right, and what a good line says.
--- Tags are S (83), C (67), B (66) and E (69).
+-- Tags are S (83), F (70), C (67), B (66) and E (69).
 use Prim.Native.Nat.{ℕ}
 use mathlib.Core.List.{List, [], _∷_, _++_}
 use mathlib.Core.Bool.{cond}
@@ -13,6 +13,8 @@ use Rattle.text.specs.Numbers.{numberAt}
 use Rattle.text.specs.Weights.{weightAt}
 use Rattle.text.specs.Fields.{letter, fieldOf, faultIn, levelsIn, tablesIn}
 use Rattle.contents.specs.declared.Limits.{Limits}
+use Rattle.contents.specs.declared.Choice.{Choice}
+use Rattle.contents.specs.declared.Choice.the-variants as choice
 use Rattle.contents.specs.declared.Header.{Header}
 use Rattle.contents.specs.declared.Channel.{Channel}
 use Rattle.sheet.specs.declared.line.Record.{Record}
@@ -47,6 +49,10 @@ headerRules limits fs =
     ∷ count ∷ count ∷ count
     ∷ replicate 6 rule.Weight
 
+-- "A line `F` with `t` or `n`" (M-100)
+abbrev pub roundingRules : List Rule
+roundingRules = rule.Tag 70 ∷ rule.Letters 116 110 ∷ []
+
 -- "`C`, own width w and height h, across and down factors, 64 quantisers"
 abbrev pub channelRules : List Rule
 channelRules = rule.Tag 67 ∷ ownSide ∷ ownSide ∷ factor ∷ factor ∷ replicate 64 rule.Quantiser
@@ -61,11 +67,11 @@ endRules = rule.Tag 69 ∷ []
 
 -- the rules of a line of this tag with the fields fs, after the header h
 unfoldable pub rulesOf : ℕ → Limits → Header → List (List ℕ) → List Rule
-rulesOf tag limits h fs = cond (eqb tag 66) blockRules (cond (eqb tag 67) channelRules (cond (eqb tag 83) (headerRules limits fs) endRules))
+rulesOf tag limits h fs = cond (eqb tag 66) blockRules (cond (eqb tag 67) channelRules (cond (eqb tag 83) (headerRules limits fs) (cond (eqb tag 70) roundingRules endRules)))
 
 -- how many fields that line must have
 unfoldable pub fieldCount : ℕ → ℕ
-fieldCount tag = cond (eqb tag 66) 65 (cond (eqb tag 67) 69 (cond (eqb tag 83) 16 1))
+fieldCount tag = cond (eqb tag 66) 65 (cond (eqb tag 67) 69 (cond (eqb tag 83) 16 (cond (eqb tag 70) 2 1)))
 
 -- "fields left to right": the fault of the first bad field, if there is one
 abbrev pub orElse : Option ℕ → Option ℕ → Option ℕ
@@ -120,5 +126,10 @@ headerOf fs =
 unfoldable pub channelOf : List (List ℕ) → Channel
 channelOf fs = record { width = numberAt fs 1; height = numberAt fs 2; across = numberAt fs 3; down = numberAt fs 4 }
 
+-- a setting's letter: a, or the other
+abbrev pub choiceOf : ℕ → List ℕ → Choice
+choiceOf a f = cond (letter a f) choice.First choice.Second
+
 unfoldable pub recordOf : ℕ → List (List ℕ) → Record
-recordOf tag fs = cond (eqb tag 83) (line.Header (headerOf fs)) (cond (eqb tag 67) (line.Channel (channelOf fs)) line.Block)
+recordOf tag fs =
+    cond (eqb tag 83) (line.Header (headerOf fs)) (cond (eqb tag 67) (line.Channel (channelOf fs)) (cond (eqb tag 70) (line.Rounding (choiceOf 116 (getD fs 1 []))) line.Block))

@@ -3,12 +3,14 @@ use Prim.Native.Nat.{ℕ, _+_, _-_, _*_, _/_}
 use mathlib.Core.List.{List, [], _∷_}
 use mathlib.Core.Bool.{Bool, true, false, cond, _&&_}
 use mathlib.Core.Option.{Option, none, some}
-use lib.ListN.{length}
+use lib.ListN.{length, getD}
 use lib.Dec.{eqb, leb, ltb}
 use Rattle.text.specs.declared.field.Rule.{Rule}
 use Rattle.text.specs.Pieces.{split}
-use Rattle.text.specs.Fields.{isSide}
+use Rattle.text.specs.Fields.{letter, isSide}
 use Rattle.contents.specs.declared.Limits.{Limits}
+use Rattle.contents.specs.declared.Choice.{Choice}
+use Rattle.contents.specs.declared.Choice.the-variants as choice
 use Rattle.contents.specs.declared.Header.{Header}
 use Rattle.contents.specs.declared.Channel.{Channel}
 use Rattle.contents.specs.declared.Sheet.{Sheet}
@@ -18,7 +20,7 @@ use Rattle.sheet.specs.declared.state.State.{State}
 use Rattle.sheet.specs.declared.state.Taken.{Taken}
 use Rattle.sheet.specs.declared.state.Taken.the-variants as taken
 use Rattle.sheet.specs.Lines.{rulesOf, fieldsFault, holding, recordOf}
-use Rattle.contents.specs.Sheets.{Held, held, noHeader, noChannel}
+use Rattle.contents.specs.Sheets.{Held, held, noHeader, noSettings, noChannel}
 
 -- What a call or a text gives: its values, or a number of the paper's table and the line, counted from 1
 pub data Outcome (A : Type 0) : Type 0 where
@@ -33,9 +35,9 @@ pub record Contents : Type 0 where
 abbrev pub contents : Sheet → Held → Outcome Contents
 contents s h = Gives (record { sheet = s; held = h })
 
--- a header, no channel yet
+-- a header, no setting or channel yet
 abbrev pub headed : Header → Sheet
-headed h = record { header = h; first = noChannel; second = noChannel; third = noChannel }
+headed h = record { header = h; settings = noSettings; first = noChannel; second = noChannel; third = noChannel }
 
 -- Nothing read yet
 unfoldable pub blank : State
@@ -46,16 +48,29 @@ blank = record { begun = false; sheet = headed noHeader; read = 0; left = 0 }
 abbrev pub dueTag : State → ℕ
 dueTag s = cond (s .begun) (cond (ltb 0 (s .left)) 66 (cond (ltb (s .read) (s .sheet .header .channels)) 67 69)) 83
 
--- The tag that a line with the fields fs is read by: its own where it may stand here, else the due one, whose rule then gives 1.
--- No line may stand but the due one.
+-- "`F` .. may follow the `S` line": no other setting and no channel was read
+abbrev pub unsaid : Choice → Bool
+unsaid choice.Unsaid = true
+unsaid choice.First = false
+unsaid choice.Second = false
+
+abbrev pub mayRound : State → Bool
+mayRound s = s .begun && (eqb (s .read) 0 && unsaid (s .sheet .settings .rounding))
+
+-- The tag that a line with the fields fs is read by: its own where it may stand here, else the due one, whose rule then gives 1
 unfoldable pub lineTag : State → List (List ℕ) → ℕ
-lineTag s fs = dueTag s
+lineTag s fs = cond (letter 70 (getD fs 0 []) && mayRound s) 70 (dueTag s)
+
+-- a sheet with this rounding
+abbrev pub rounded : Sheet → Choice → Sheet
+rounded s r = record { header = s .header; settings = record { rounding = r }; first = s .first; second = s .second; third = s .third }
 
 -- channel j
 abbrev pub placed : Sheet → ℕ → Channel → Sheet
 placed s j c =
     record {
       header = s .header;
+      settings = s .settings;
       first = cond (eqb j 0) c (s .first);
       second = cond (eqb j 1) c (s .second);
       third = cond (eqb j 2) c (s .third);
@@ -73,6 +88,7 @@ covers h c = leb (c .width * c .across) (h .width) && leb (c .height * c .down) 
 unfoldable pub takenOf : State → Record → Taken
 takenOf s (line.Header h) = taken.Good (record { begun = true; sheet = headed h; read = 0; left = 0 })
 takenOf s (line.Channel c) = cond (covers (s .sheet .header) c) (taken.Good (opened s c)) (taken.Bad 2)
+takenOf s (line.Rounding r) = taken.Good (record { begun = s .begun; sheet = rounded (s .sheet) r; read = s .read; left = s .left })
 takenOf s line.Block = taken.Good (record { begun = s .begun; sheet = s .sheet; read = s .read; left = s .left - 1 })
 
 -- The line p is the last piece: unended, or nothing at all

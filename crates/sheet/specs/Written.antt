@@ -6,6 +6,8 @@ use lib.ListN.{take, drop}
 use lib.IntN.{ℤ}
 use Rattle.text.specs.Written.{weightText, levelText}
 use Rattle.digits.specs.Written.{decimal, joined, ended}
+use Rattle.contents.specs.declared.Choice.{Choice}
+use Rattle.contents.specs.declared.Choice.the-variants as choice
 use Rattle.contents.specs.declared.Header.{Header}
 use Rattle.contents.specs.declared.Channel.{Channel}
 use Rattle.contents.specs.declared.Sheet.{Sheet}
@@ -32,6 +34,15 @@ blockFields zs = (66 ∷ []) ∷ map levelText zs
 abbrev pub endFields : List (List ℕ)
 endFields = (69 ∷ []) ∷ []
 
+-- the line of a setting with the letters a and b, if there is one
+abbrev pub choiceLines : ℕ → ℕ → ℕ → Choice → List (List ℕ)
+choiceLines tag a b choice.Unsaid = []
+choiceLines tag a b choice.First = joined ((tag ∷ []) ∷ (a ∷ []) ∷ []) ∷ []
+choiceLines tag a b choice.Second = joined ((tag ∷ []) ∷ (b ∷ []) ∷ []) ∷ []
+
+abbrev pub settingLines : Sheet → List (List ℕ)
+settingLines s = choiceLines 70 116 110 (s .settings .rounding)
+
 -- n blocks, one after the other
 abbrev pub blockLines : ℕ → List ℤ → List (List ℕ)
 blockLines zero zs = []
@@ -46,4 +57,4 @@ channelLines (c ∷ cs) h =
 
 unfoldable pub written : Sheet → Held → List ℕ
 unfolding decimal weightText levelText
-written s h = ended (joined (headerFields (s .header)) ∷ (channelLines (channelsOf s) h ++ joined endFields ∷ []))
+written s h = ended (joined (headerFields (s .header)) ∷ (settingLines s ++ (channelLines (channelsOf s) h ++ joined endFields ∷ [])))

@@ -1,5 +1,6 @@
 // The lines: the rule of each field, and what a good line holds.
 use contents::Channel;
+use contents::Choice;
 use contents::Header;
 use contents::Limits;
 use text::field;
@@ -8,16 +9,18 @@ use text::field::Rule;
 use text::number;
 use text::weight;
 ghost use mathlib.Core.Path.{_≡_};
+ghost use mathlib.Core.List.{[]};
 ghost use Prim.Native.Nat.{_<_};
 ghost use lib.ListN.{getD};
 ghost use Rattle.text.specs.Pieces.{split};
-ghost use Rattle.sheet.specs.Lines.{headerRules, channelRules, blockRules, rulesOf, fieldCount, headerOf, channelOf, recordOf};
+ghost use Rattle.sheet.specs.Lines.{headerRules, roundingRules, choiceOf, channelRules, blockRules, rulesOf, fieldCount, headerOf, channelOf, recordOf};
 ghost use Rattle.sheet.specs.Walk.{saidBefore};
 
 // A line as read. Quantisers and levels go to the buffers.
 pub enum Record {
     Header(Header),
     Channel(Channel),
+    Rounding(Choice),
     Block,
 }
 
@@ -33,6 +36,9 @@ pub fn field_count(tag: u8) -> usize
     }
     if tag == b'B' {
         return 65;
+    }
+    if tag == b'F' {
+        return 2;
     }
     1
 }
@@ -104,6 +110,16 @@ fn block_rule(i: usize) -> Rule
     if i == 0 { Rule::Tag(b'B') } else { Rule::Level }
 }
 
+fn rounding_rule(i: usize) -> Rule
+    requires { ⌜ i < 2 ⌝ }
+    ensures { λ r. ⌜ r ≡ getD roundingRules i (Rule.Tag 0) ⌝ }
+{
+    if i == 0 {
+        return Rule::Tag(b'F');
+    }
+    Rule::Letters(b't', b'n')
+}
+
 // The rule of field i of a line after this header. The field before it said `last`, so that a rule can depend on it and nothing is read twice.
 pub fn rule_at(tag: u8, i: usize, limits: Limits, header: Header, last: Field, row: &[u8]) -> Rule
     requires { ⌜ (i < fieldCount tag) × (last ≡ saidBefore (rulesOf tag limits header (split 9 (now row))) (split 9 (now row)) i) ⌝ }
@@ -117,6 +133,9 @@ pub fn rule_at(tag: u8, i: usize, limits: Limits, header: Header, last: Field, r
     }
     if tag == b'S' {
         return header_rule(i, limits, row);
+    }
+    if tag == b'F' {
+        return rounding_rule(i);
     }
     Rule::Tag(b'E')
 }
@@ -160,6 +179,16 @@ fn channel_of(row: &[u8]) -> Channel
     }
 }
 
+// Is field i the letter a, or the other?
+fn choice_at(row: &[u8], i: usize, a: u8) -> Choice
+    ensures { λ r. ⌜ r ≡ choiceOf a (getD (split 9 (now (row .entry))) i []) ⌝ }
+{
+    if field::letter_at(row, i, a) {
+        return Choice::First;
+    }
+    Choice::Second
+}
+
 // What a good line holds.
 pub fn record_of(tag: u8, row: &[u8]) -> Record
     ensures { λ r. ⌜ r ≡ recordOf tag (split 9 (now (row .entry))) ⌝ }
@@ -169,6 +198,9 @@ pub fn record_of(tag: u8, row: &[u8]) -> Record
     }
     if tag == b'C' {
         return Record::Channel(channel_of(row));
+    }
+    if tag == b'F' {
+        return Record::Rounding(choice_at(row, 1, b't'));
     }
     Record::Block
 }

@@ -1,16 +1,19 @@
 // What was read so far, and what the next line adds to it.
 use crate::line::Record;
 use contents::Channel;
+use contents::Choice;
 use contents::Header;
+use contents::Settings;
 use contents::Sheet;
 use contents::Weight;
+use text::field;
 ghost use mathlib.Core.Path.{_≡_};
 ghost use mathlib.Core.Bool.{cond};
 ghost use Rattle.contents.specs.Sheets.{noHeader, noChannel};
 ghost use Prim.Native.Nat.{_<_};
 ghost use Rattle.sheet.specs.Walk.{Due};
 ghost use Rattle.text.specs.Pieces.{split};
-ghost use Rattle.sheet.specs.Reading.{blank, headed, placed, lineTag, takenOf};
+ghost use Rattle.sheet.specs.Reading.{blank, headed, placed, dueTag, unsaid, mayRound, lineTag, rounded, takenOf};
 
 // The sheet so far: whether the header was read, how many channels were, and how many blocks of the last are still to come.
 pub struct State {
@@ -65,8 +68,12 @@ fn no_channels(header: Header) -> Sheet
     ensures { λ r. ⌜ r ≡ headed header ⌝ }
 {
     let none = no_channel();
+    let settings = Settings {
+        rounding: Choice::Unsaid,
+    };
     Sheet {
         header,
+        settings,
         first: none,
         second: none,
         third: none,
@@ -86,9 +93,9 @@ pub fn nothing() -> State
     }
 }
 
-// The tag that the next line is read by: its own where it may stand here, else the due one.
-pub fn expected(s: State, row: &[u8]) -> u8
-    ensures { λ r. ⌜ r ≡ lineTag s (split 9 (now (row .entry))) ⌝ }
+// The tag that is due.
+fn due(s: State) -> u8
+    ensures { λ r. ⌜ r ≡ dueTag s ⌝ }
 {
     let sheet = s.sheet;
     let h = sheet.header;
@@ -104,6 +111,64 @@ pub fn expected(s: State, row: &[u8]) -> u8
     b'S'
 }
 
+fn is_unsaid(c: Choice) -> bool
+    ensures { λ r. ⌜ r ≡ unsaid c ⌝ }
+{
+    match c {
+        Choice::Unsaid => true,
+        Choice::First => false,
+        Choice::Second => false,
+    }
+}
+
+// May a line F stand here?
+fn may_round(s: State) -> bool
+    ensures { λ r. ⌜ r ≡ mayRound s ⌝ }
+{
+    let sheet = s.sheet;
+    let settings = sheet.settings;
+    let rounding = settings.rounding;
+    if s.begun {
+        if s.read != 0 {
+            return false;
+        }
+        return is_unsaid(rounding);
+    }
+    false
+}
+
+// The tag that the next line is read by: its own where it may stand here, else the due one.
+pub fn expected(s: State, row: &[u8]) -> u8
+    ensures { λ r. ⌜ r ≡ lineTag s (split 9 (now (row .entry))) ⌝ }
+{
+    let tag = due(s);
+    if field::letter_at(row, 0, b'F') {
+        if may_round(s) {
+            return b'F';
+        }
+        return tag;
+    }
+    tag
+}
+
+// A sheet with this rounding.
+fn set_rounding(sheet: Sheet, rounding: Choice) -> Sheet
+    ensures { λ r. ⌜ r ≡ rounded sheet rounding ⌝ }
+{
+    let header = sheet.header;
+    let first = sheet.first;
+    let second = sheet.second;
+    let third = sheet.third;
+    let settings = Settings { rounding };
+    Sheet {
+        header,
+        settings,
+        first,
+        second,
+        third,
+    }
+}
+
 fn channel_if(new: bool, c: Channel, old: Channel) -> Channel
     ensures { λ r. ⌜ r ≡ cond new c old ⌝ }
 {
@@ -115,6 +180,7 @@ fn place(sheet: Sheet, j: u32, c: Channel) -> Sheet
     ensures { λ r. ⌜ r ≡ placed sheet j c ⌝ }
 {
     let header = sheet.header;
+    let settings = sheet.settings;
     let first = sheet.first;
     let second = sheet.second;
     let third = sheet.third;
@@ -123,6 +189,7 @@ fn place(sheet: Sheet, j: u32, c: Channel) -> Sheet
     let third = channel_if(j == 2, c, third);
     Sheet {
         header,
+        settings,
         first,
         second,
         third,
@@ -171,6 +238,16 @@ pub fn take_record(s: State, rec: Record) -> Taken
             })
         }
         Record::Channel(c) => take_channel(s, c),
+        Record::Rounding(rounding) => {
+            let sheet = s.sheet;
+            let sheet = set_rounding(sheet, rounding);
+            Taken::Good(State {
+                begun: s.begun,
+                sheet,
+                read: s.read,
+                left: s.left,
+            })
+        }
         Record::Block => {
             let mut t = s;
             t.left = s.left - 1;

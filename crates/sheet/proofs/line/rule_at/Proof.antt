@@ -7,4 +7,4 @@ pub rule-at-spec : {M : Type 1} → statement M
 rule-at-spec =
     tie.close
     (tie.spec (λ c κs. search places) (λ c. search places) (λ c κs. search places) (λ c. search places)
-    (λ c κs. search places) (λ c. search places) (λ c. search places))
+    (λ c κs. search places) (λ c. search places) (λ c κs. search places) (λ c. search places) (λ c. search places))

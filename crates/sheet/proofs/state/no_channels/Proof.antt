@@ -5,5 +5,6 @@ use Rattle.sheet.proofs.state.no_channels.Statement.{statement}
 use Rattle.sheet.proofs.state.no_channels.Tie as tie
 
 pub no-channels-spec : {M : Type 1} → statement M
-no-channels-spec = tie.close
+no-channels-spec =
+    tie.close
     (tie.spec (λ c κs. search needs) (λ c. search nexts))
