@@ -38,4 +38,5 @@ table = record {
   second-order = gradients.second-example;
   red-pixel = picture.red;
   grey-pixel = picture.grey-cut;
+  red-pixel-nearest = picture.red-nearest;
 }

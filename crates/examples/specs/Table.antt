@@ -1,4 +1,4 @@
--- The rows marked ● in document 01, "Fixed examples", about the definitions that the contracts cite. A value ±m × 2 ^ e is `fin s m e`.
+-- The rows marked ● in document 01, "Fixed examples", and those that document 02 adds, about the definitions that the contracts cite. A value ±m × 2 ^ e is `fin s m e`.
 use mathlib.Core.Path.{_≡_}
 use Prim.Native.Nat.{ℕ, _*_}
 use mathlib.Core.Bool.{true, false}
@@ -13,7 +13,8 @@ use Rattle.utils.specs.Dct.{idct8x8}
 use Rattle.steps.specs.Solve.{pushed}
 use Rattle.gradients.specs.Tv.{Terms, tvGradient}
 use Rattle.gradients.specs.Tgv.{tgvGradient}
-use Rattle.picture.specs.Finish.{pixel}
+use Rattle.picture.specs.declared.Rounding.the-variants as rounding
+use Rattle.picture.specs.Finish.{toByte, pixel}
 
 -- 1 + 2⁻²³, 1 − 2⁻²³, the largest f32
 abbrev pub above-one : Float
@@ -76,5 +77,7 @@ pub record Table : Type 0 where
   pub second-order : tgvGradient 8 8 1 f1 (slope .across) (slope .down) (slope .gradient)
       ≡ replicate 8 (neg f1) ++ (replicate 40 f0 ++ (replicate 8 (neg f1) ++ replicate 8 (float 3)))
   -- "planes 0, 0, 100: 255, 56, 128. One channel 0.875: 128"
-  pub red-pixel : pixel 3 1 (f0 ∷ f0 ∷ ofBits binary32 0x42c80000 ∷ []) 0 ≡ 255 ∷ 56 ∷ 128 ∷ []
-  pub grey-pixel : pixel 1 1 (ofBits binary32 0x3f600000 ∷ []) 0 ≡ 128 ∷ 128 ∷ 128 ∷ []
+  pub red-pixel : pixel (toByte rounding.Truncate) 3 1 (f0 ∷ f0 ∷ ofBits binary32 0x42c80000 ∷ []) 0 ≡ 255 ∷ 56 ∷ 128 ∷ []
+  pub grey-pixel : pixel (toByte rounding.Truncate) 1 1 (ofBits binary32 0x3f600000 ∷ []) 0 ≡ 128 ∷ 128 ∷ 128 ∷ []
+  -- document 02, M-100: "In the example of planes 0, 0, 100 green becomes 57"
+  pub red-pixel-nearest : pixel (toByte rounding.Nearest) 3 1 (f0 ∷ f0 ∷ ofBits binary32 0x42c80000 ∷ []) 0 ≡ 255 ∷ 57 ∷ 128 ∷ []

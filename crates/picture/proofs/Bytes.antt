@@ -13,7 +13,6 @@ use lib.Ieee.{Float, nan, inf, fin, up, down, lt, ofBits, toUnsigned}
 use lib.Ieee.Fits.{down-pos}
 use Rattle.float.specs.Ops.{clamp, atLeast}
 use Rattle.float.specs.Names.{f0, f255}
-use Rattle.picture.specs.Finish.{toByte}
 
 -- ---- a clamped value is at most 255, or NaN
 cut : (y : Float) (b : Bool) → lt f255 y ≡ b → lt f255 (cond b f255 y) ≡ false
@@ -26,7 +25,7 @@ unfolding clamp
 clamped x = cut (atLeast x f0) (lt f255 (atLeast x f0)) refl
 
 -- ---- the byte of a value above 0: what `std::num::truncating_f32_to_u64` asks, -1 < v < 2 ^ 64, and that its result is a byte
-below-256 : (a d : ℕ) → 0 < d → a ≤ 255 * d → a / d < 256
+pub below-256 : (a d : ℕ) → 0 < d → a ≤ 255 * d → a / d < 256
 below-256 a d p h = div-lt-iff-lt-mul p .1 (omega arith)
 
 pub in-range : (v : Float) → lt f255 v ≡ false → lt f0 v ≡ true → T (lt (fin true 1 (pos 0)) v) × T (lt v (fin false 1 (pos 64)))
@@ -39,7 +38,7 @@ in-range (fin false m e) h g =
     let p = down-pos e in
     (lt→ltb 0 (1 * down e + m * up e * 1) (omega arith), lt→ltb (m * up e * 1) (18446744073709551616 * down e) (omega (arith, ltb-false)))
 
-pub whole-part : (v : Float) → lt f255 v ≡ false → toUnsigned 64 v ≡ toByte v
+pub whole-part : (v : Float) → lt f255 v ≡ false → toUnsigned 64 v ≡ toUnsigned 8 v
 unfolding ofBits lt toUnsigned
 whole-part nan h = refl
 whole-part (inf true) h = refl
@@ -53,7 +52,7 @@ whole-part (fin false m e) h =
 nothing : (d : ℕ) → 0 < d → 0 / d ≡ 0
 nothing d p = let l : 0 / d < 1 = div-lt-iff-lt-mul p .1 (omega arith) in omega arith
 
-pub no-part : (v : Float) → lt f0 v ≡ false → 0 ≡ toByte v
+pub no-part : (v : Float) → lt f0 v ≡ false → 0 ≡ toUnsigned 8 v
 unfolding ofBits lt toUnsigned
 no-part nan g = refl
 no-part (inf true) g = refl

@@ -1,28 +1,32 @@
 -- The picture of the solved planes: the function `finish` of lib.rs, as document 01's "Whole run and picture" has it.
-use Prim.Native.Nat.{ℕ, _+_, _*_, _%_}
+use Prim.Native.Nat.{ℕ, _+_, _*_, _/_, _%_, min}
 use mathlib.Core.Bool.{Bool, cond, not, _&&_, _||_}
 use mathlib.Core.List.{List, [], _∷_, _++_}
 use lib.Dec.{leb, eqb}
 use lib.ListN.{length}
-use lib.Ieee.{Float, binary32, add, neg, ofBits, toUnsigned}
+use lib.Ieee.{Float, nan, inf, fin, binary32, up, down, add, neg, ofBits, toUnsigned}
 use Rattle.fold.specs.Fold.{upto}
 use Rattle.fold.specs.Join.{joinUpto}
 use Rattle.float.specs.Ops.{mulAdd, clamp}
 use Rattle.float.specs.Names.{_⊕_, f0, f255, val}
+use Rattle.picture.specs.declared.Rounding.{Rounding}
+use Rattle.picture.specs.declared.Rounding.the-variants as rounding
 use Rattle.picture.specs.declared.Answer.{Answer}
 use Rattle.picture.specs.declared.Answer.the-variants as answer
 
 -- ---- a value
 
--- How a clamped value becomes a byte: Rust's `as u8`, which truncates and gives 0 for NaN. This definition alone decides it.
-abbrev pub toByte : Float → ℕ
-toByte v = toUnsigned 8 v
+-- The nearest whole number, halves upward: the whole part of x + 1/2, where x is m * up e / down e. As `toUnsigned` it stays within a byte and gives 0 for NaN.
+unfoldable pub nearest : Float → ℕ
+nearest nan = 0
+nearest (inf s) = cond s 0 255
+nearest (fin s m e) = cond s 0 (min ((2 * (m * up e) + down e) / (2 * down e)) 255)
 
--- `.clamp(0.0, 255.0) as u8`
-abbrev pub shade : Float → ℕ
-shade x = toByte (clamp x f0 f255)
-
--- ---- a pixel: its red, green and blue byte
+-- How a clamped value becomes a byte: Rust's `as u8`, which truncates and gives 0 for NaN, or the nearest whole number, as T.871 has it.
+-- This definition alone decides it.
+abbrev pub toByte : Rounding → Float → ℕ
+toByte rounding.Truncate v = toUnsigned 8 v
+toByte rounding.Nearest v = nearest v
 
 -- 128.0, 1.402, 0.34414, 0.71414, 1.772
 abbrev pub f128 : Float
@@ -40,36 +44,44 @@ cr-green = ofBits binary32 0x3f36d1e1
 abbrev pub cb-blue : Float
 cb-blue = ofBits binary32 0x3fe2d0e5
 
--- of three channels; y has its 128 already
-unfoldable pub colour : Float → Float → Float → List ℕ
-unfolding mulAdd clamp neg toUnsigned ofBits
-colour y cb cr =
-    shade (mulAdd cr-red cr y)
-    ∷ shade (mulAdd cr-green (neg cr) (mulAdd cb-green (neg cb) y))
-    ∷ shade (mulAdd cb-blue cb y)
-    ∷ []
+-- given how a clamped value becomes a byte
+module _ (byte : Float → ℕ) where
+  -- `.clamp(0.0, 255.0) as u8`
+  abbrev pub shade : Float → ℕ
+  shade x = byte (clamp x f0 f255)
 
--- of one channel
-unfoldable pub grey : Float → List ℕ
-unfolding clamp toUnsigned ofBits
-grey y = shade y ∷ shade y ∷ shade y ∷ []
+  -- ---- a pixel: its red, green and blue byte
 
--- The pixel at a place of the planes. These have n values each and stand one after the other. "adds 128 to channel 0"
-unfoldable pub pixel : ℕ → ℕ → List Float → ℕ → List ℕ
-unfolding colour grey add ofBits
-pixel channels n planes at =
-    let y = val planes at ⊕ f128 in
-    cond (eqb channels 3) (colour y (val planes (n + at)) (val planes (2 * n + at))) (grey y)
+  -- of three channels; y has its 128 already
+  unfoldable pub colour : Float → Float → Float → List ℕ
+  unfolding mulAdd clamp neg ofBits
+  colour y cb cr =
+      shade (mulAdd cr-red cr y)
+      ∷ shade (mulAdd cr-green (neg cr) (mulAdd cb-green (neg cb) y))
+      ∷ shade (mulAdd cb-blue cb y)
+      ∷ []
 
--- ---- the picture
+  -- of one channel
+  unfoldable pub grey : Float → List ℕ
+  unfolding clamp ofBits
+  grey y = shade y ∷ shade y ∷ shade y ∷ []
 
--- the pixels of a row whose first is that of place `from`
-abbrev pub row : ℕ → ℕ → List Float → ℕ → ℕ → List ℕ
-row channels n planes from width = joinUpto (λ x. pixel channels n planes (from + x)) width
+  -- The pixel at a place of the planes. These have n values each and stand one after the other. "adds 128 to channel 0"
+  unfoldable pub pixel : ℕ → ℕ → List Float → ℕ → List ℕ
+  unfolding colour grey add ofBits
+  pixel channels n planes at =
+      let y = val planes at ⊕ f128 in
+      cond (eqb channels 3) (colour y (val planes (n + at)) (val planes (2 * n + at))) (grey y)
 
--- `RgbImage::from_fn`, row by row: the pixel (x, y) is that of place y * w + x of planes w wide and h high
-abbrev pub picture : ℕ → ℕ → ℕ → ℕ → ℕ → List Float → List ℕ
-picture w h width height channels planes = joinUpto (λ y. row channels (w * h) planes (y * w) width) height
+  -- ---- the picture
+
+  -- the pixels of a row whose first is that of place `from`
+  abbrev pub row : ℕ → ℕ → List Float → ℕ → ℕ → List ℕ
+  row channels n planes from width = joinUpto (λ x. pixel channels n planes (from + x)) width
+
+  -- `RgbImage::from_fn`, row by row: the pixel (x, y) is that of place y * w + x of planes w wide and h high
+  abbrev pub picture : ℕ → ℕ → ℕ → ℕ → ℕ → List Float → List ℕ
+  picture w h width height channels planes = joinUpto (λ y. row channels (w * h) planes (y * w) width) height
 
 -- ---- the call
 
@@ -105,9 +117,9 @@ pub record Finished : Type 0 where
   pub bytes : List ℕ
 
 -- the call: 13, then 8; a refusal leaves the lent bytes, rgb, unchanged
-unfoldable pub finishing : ℕ → ℕ → ℕ → ℕ → ℕ → List Float → List ℕ → Finished
-unfolding pixel upto
-finishing w h width height channels planes rgb =
+unfoldable pub finishing : Rounding → ℕ → ℕ → ℕ → ℕ → ℕ → List Float → List ℕ → Finished
+unfolding pixel upto nearest toUnsigned
+finishing rounds w h width height channels planes rgb =
     cond (not (legal w h width height channels)) (record { answer = refused 13; bytes = rgb })
     (cond (not (fitting w h width height channels (length planes) (length rgb))) (record { answer = refused 8; bytes = rgb })
-    (record { answer = done; bytes = picture w h width height channels planes }))
+    (record { answer = done; bytes = picture (toByte rounds) w h width height channels planes }))

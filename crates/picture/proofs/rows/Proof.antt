@@ -6,7 +6,7 @@ use native.Mathlib.Omega.{arith}
 use borrow.Author.Needs.{needs}
 use lib.ListN.{length, drop}
 use Rattle.fold.proofs.Grid.{row-end}
-use Rattle.picture.specs.Finish.{picture}
+use Rattle.picture.specs.Finish.{toByte, picture}
 use Rattle.fold.proofs.Joins.{fill-none, fill-more, fill-all}
 use Rattle.picture.proofs.Pixels.{row-length}
 use Rattle.picture.proofs.Sizes.{product-fits, row-in}
@@ -14,17 +14,17 @@ use Rattle.picture.proofs.rows.Statement.{statement}
 use Rattle.picture.proofs.rows.Tie as tie
 
 abbrev Inv-loop : tie.InvT-loop
-Inv-loop w h width height channels planes rgb₀ n line y₀ rgb y =
-    (y ≤ height) × (length rgb ≡ height * (width * 3)) × (rgb ≡ picture w h width y channels planes ++ drop (y * (width * 3)) rgb₀)
+Inv-loop rounding w h width height channels planes rgb₀ n line y₀ rgb y =
+    (y ≤ height) × (length rgb ≡ height * (width * 3)) × (rgb ≡ picture (toByte rounding) w h width y channels planes ++ drop (y * (width * 3)) rgb₀)
 
 abbrev μ-loop : tie.MeasureT-loop
-μ-loop w h width height channels planes rgb₀ n line y₀ rgb y = height - y
+μ-loop rounding w h width height channels planes rgb₀ n line y₀ rgb y = height - y
 
 mul-n : tie.Need-mul-n Inv-loop μ-loop
 mul-n c = record { fits = product-fits (omega arith) (omega arith) }
 
 loop-holds : tie.Need-loop-holds Inv-loop μ-loop
-loop-holds c = (search needs, search needs, fill-none _ _ (λ y. row-length _ _ _ _ _) _)
+loop-holds c = (search needs, search needs, fill-none _ _ (λ y. row-length _ _ _ _ _ _) _)
 
 -- the bytes of row y
 bytes : (c : tie.In-loop Inv-loop μ-loop) → let l = c .before in let a = l .before .before .before .args in
@@ -41,10 +41,10 @@ row-requires c κs =
 loop-again : tie.Need-loop-again Inv-loop μ-loop
 loop-again c =
     let l = c .before .before .before .before .before in
-    (search needs, let b = bytes (c .before .before .before .before) in search needs, fill-more _ _ (λ y. row-length _ _ _ _ _) _ _ (l .loop .inv .2) (rw (← c .before .before .row .ensures)))
+    (search needs, let b = bytes (c .before .before .before .before) in search needs, fill-more _ _ (λ y. row-length _ _ _ _ _ _) _ _ (l .loop .inv .2) (rw (← c .before .before .row .ensures)))
 
 returns : tie.Need-returns Inv-loop μ-loop
-returns c = fill-all _ _ (λ y. row-length _ _ _ _ _) _ _ _ (c .before .loop .inv .2) (omega arith) (omega arith)
+returns c = fill-all _ _ (λ y. row-length _ _ _ _ _ _) _ _ _ (c .before .loop .inv .2) (omega arith) (omega arith)
 
 pub rows-spec : {M : Type 1} → statement M
 rows-spec =

@@ -12,7 +12,7 @@ to-byte-requires : tie.Need-to-byte-requires
 to-byte-requires c κs = ap (λ (v : Float). lt f255 v) (c .clamp .ensures) ∙ clamped (c .before .args .x)
 
 returns : tie.Need-returns
-returns c = c .to-byte .ensures ∙ ap toByte (c .before .clamp .ensures)
+returns c = c .to-byte .ensures ∙ ap (toByte (c .before .before .args .rounding)) (c .before .clamp .ensures)
 
 pub shade-spec : {M : Type 1} → statement M
 shade-spec = tie.close (tie.spec (search needs) to-byte-requires returns)
