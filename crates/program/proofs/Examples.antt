@@ -8,7 +8,7 @@ use mathlib.Core.Bool.{Bool, false, cond}
 use lib.ListN.{replicate}
 use lib.IntN.{ℤ, pos}
 use lib.Count.{trailingZeros}
-use lib.Ieee.{binary32, add, sub, mul, div, sum, round, units, odd, size, span, climb, ofBits, ofFields, neg, ne, eq, lt, ofInt}
+use lib.Ieee.{binary32, add, sub, mul, div, sum, round, units, odd, size, span, climb, ofBits, ofFields, neg, ne, eq, lt, ofInt, toUnsigned}
 use Rattle.fold.specs.Fold.{upto}
 use Rattle.float.specs.Ops.{mulAdd, product, clamp}
 use Rattle.utils.specs.Blocks.{fromBlocks}
@@ -27,11 +27,12 @@ use Rattle.text.specs.Fields.{fieldOf}
 use Rattle.digits.specs.Written.{decimal}
 use Rattle.contents.specs.declared.Sheet.{Sheet}
 use Rattle.sheet.specs.Lines.{rulesOf, fieldsFault, headerOf, channelOf, recordOf}
-use Rattle.contents.specs.Sheets.{held, noChannel}
+use Rattle.contents.specs.Sheets.{held, noChannel, noSettings}
 use Rattle.sheet.specs.Reading.{contents, blank, lineTag, takenOf, lineFault, readText}
 use Rattle.rounds.specs.Whole.{runBlows, last, runOf}
 use Rattle.solve.specs.Solve.{joint, alone, separately, wholeOf, planes, blows}
 use Rattle.calls.specs.Buffers.{joined}
+use Rattle.picture.specs.declared.Rounding.the-variants as rounding
 use Rattle.picture.specs.Finish as Finish
 use Rattle.output.specs.Output as Output
 use Rattle.output.specs.Output.{pictureText, refusalText}
@@ -74,6 +75,7 @@ sheet =
         data1 = weight.Whole 0;
         data2 = weight.Whole 0;
       };
+      settings = noSettings;
       first = record { width = 8; height = 8; across = 1; down = 1 };
       second = noChannel;
       third = noChannel;
@@ -98,16 +100,16 @@ kept : blows sheet levels tables ≡ false
 unfolding wholeOf runOf separately runBlows alone
 kept = refl
 
-grey : painted (sheet .header) (replicate 64 (ofBits binary32 0x3f7fffff)) ≡ b "I\t2\t1\nR\t818181\t818181\n"
-unfolding painted pictureText Output.each Finish.pixel upto
+grey : painted rounding.Truncate (sheet .header) (replicate 64 (ofBits binary32 0x3f7fffff)) ≡ b "I\t2\t1\nR\t818181\t818181\n"
+unfolding painted pictureText Output.each Finish.pixel upto toUnsigned
 grey = refl
 
 -- "`smooth` prints two lines, `I` tab `2` tab `1`, then `R` tab `818181` tab `818181`"
 pub whole-example : printed example ≡ b "I\t2\t1\nR\t818181\t818181\n"
 unfolding printed says sheetText
 whole-example =
-    ap says reads ∙ ap (λ (x : Bool). cond x (refusalText 10 0) (painted (sheet .header) (planes sheet levels tables))) kept
-    ∙ ap (painted (sheet .header)) start ∙ grey
+    ap says reads ∙ ap (λ (x : Bool). cond x (refusalText 10 0) (painted rounding.Truncate (sheet .header) (planes sheet levels tables))) kept
+    ∙ ap (painted rounding.Truncate (sheet .header)) start ∙ grey
 
 -- "For 7 it is the unended line, the one after the last when `E` is missing": no line at all
 pub empty-text : printed [] ≡ b "X\t7\t1\n"

@@ -40,27 +40,28 @@ use Rattle.calls.proofs.Tests.{sized-names}
 use Rattle.rounds.specs.Whole.{Ended, Ends}
 use Rattle.solve.specs.Solve.{wholeOf, planes, blows, SolveIs}
 use Rattle.rounds.proofs.Ends.{is-done, not-done}
+use Rattle.picture.specs.declared.Rounding.{Rounding}
 use Rattle.picture.specs.Finish as Finish
 use Rattle.picture.proofs.Pixels.{picture-length}
 use Rattle.output.specs.Output.{Wrote, pictureInto, refusalText, refusalInto}
 use Rattle.output.proofs.Fronts.{wrote-as}
-use Rattle.program.specs.Printed.{limits, painted, sheetText, says, printed, mostPrinted, printedInto, SixLong}
+use Rattle.program.specs.Printed.{limits, roundingOf, painted, sheetText, says, printed, mostPrinted, printedInto, SixLong}
 use Rattle.program.proofs.Accepts.{at-most, accepts}
 use Rattle.sheet.proofs.BoundLaws.{LineTo, line-bound}
 use Rattle.program.proofs.Sizes.{values-small, finished, written, refused}
 
 -- ---- paint_with: what finish leaves, written out
 
-pub paints : (h : Header) → LegalHeader limits h → (ps : List Float) → length ps ≡ h .channels * (h .width * h .height)
+pub paints : (f : Rounding) (h : Header) → LegalHeader limits h → (ps : List Float) → length ps ≡ h .channels * (h .width * h .height)
     → (rgb rgb′ : List ℕ) → length rgb ≡ 3 * (h .«picture_width» * h .«picture_height») → (t : Finish.Verdict)
-    → record { answer = t; bytes = rgb′ } ≡ Finish.finishing (h .width) (h .height) (h .«picture_width») (h .«picture_height») (h .channels) ps rgb
+    → record { answer = t; bytes = rgb′ } ≡ Finish.finishing f (h .width) (h .height) (h .«picture_width») (h .«picture_height») (h .channels) ps rgb
     → (out : List ℕ) (r : ℕ) (out′ : List ℕ) → mostPrinted ≤ length out
-    → Wrote 0 (pictureInto (h .«picture_width») (h .«picture_height») rgb′ (length out - 0)) out r out′ → Wrote 0 (painted h ps) out r out′
-paints h l ps long rgb rgb′ room t e out r out′ m w =
-    let is : rgb′ ≡ Finish.picture (h .width) (h .height) (h .«picture_width») (h .«picture_height») (h .channels) ps =
-    ap (λ (o : Finish.Finished). o .bytes) (e ∙ finished h l ps long rgb room) in
+    → Wrote 0 (pictureInto (h .«picture_width») (h .«picture_height») rgb′ (length out - 0)) out r out′ → Wrote 0 (painted f h ps) out r out′
+paints f h l ps long rgb rgb′ room t e out r out′ m w =
+    let is : rgb′ ≡ Finish.picture (Finish.toByte f) (h .width) (h .height) (h .«picture_width») (h .«picture_height») (h .channels) ps =
+    ap (λ (o : Finish.Finished). o .bytes) (e ∙ finished h l f ps long rgb room) in
     wrote-as
-    (written h l ps rgb′ (length out - 0) is (ap length is ∙ picture-length (h .width) (h .height) (h .«picture_width») (h .«picture_height») (h .channels) ps) (omega arith))
+    (written h l f ps rgb′ (length out - 0) is (ap length is ∙ picture-length (Finish.toByte f) (h .width) (h .height) (h .«picture_width») (h .«picture_height») (h .channels) ps) (omega arith))
     w
 
 -- ---- solved_with: how solving a legal sheet ends
@@ -90,11 +91,12 @@ module _ (S : Sheet) (ls : List ℤ) (ts : List ℕ) (l : LegalSheet limits S (h
     pub done-long : length (B′ .plane) ≡ size
     done-long = not-blown (blows S ls ts) ended .2
 
-    pub done-text : (out : List ℕ) (r : ℕ) (out′ : List ℕ) → Wrote 0 (painted (S .header) (B′ .plane)) out r out′ → Wrote 0 (sheetText S ls ts) out r out′
+    pub done-text : (f : Rounding) → f ≡ roundingOf (S .settings .rounding) → (out : List ℕ) (r : ℕ) (out′ : List ℕ) → Wrote 0 (painted f (S .header) (B′ .plane)) out r out′
+        → Wrote 0 (sheetText S ls ts) out r out′
     unfolding sheetText
-    done-text out r out′ w =
+    done-text f q out r out′ w =
         let d = not-blown (blows S ls ts) ended in
-        rw (d .0) (wrote-as (ap (painted (S .header)) (d .1)) w)
+        rw (d .0) (wrote-as (λ i. painted (q i) (S .header) (d .1 i)) w)
 
   -- any other answer: it blew
   module _ (other : OneOf (0 ∷ 2 ∷ []) (tagOf the-type a)) where
@@ -187,7 +189,7 @@ same-room o n m n′ m′ e p q = e ∙ (λ i. Gives (record { levels = sym p i;
 
 -- the code's constant
 abbrev decided : ℕ
-decided = 20453
+decided = 20457
 
 pub decisive-32 : decisive 32 ≡ decided
 unfolding decisive longest decimal

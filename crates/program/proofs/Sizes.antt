@@ -11,6 +11,7 @@ use lib.Ieee.Fits.{and-i, eq→eqb}
 use lib.ListN.{length}
 use Rattle.contents.specs.Legal.{Between, LegalSide, LegalHeader}
 use Rattle.contents.specs.declared.Header.{Header}
+use Rattle.picture.specs.declared.Rounding.{Rounding}
 use Rattle.picture.specs.Finish as Finish
 use Rattle.output.specs.Output.{pictureText, pictureInto, refusalText, refusalInto}
 use Rattle.output.proofs.Sizes.{room-more, picture-into, refusal-into}
@@ -46,24 +47,24 @@ module _ (h : Header) (l : LegalHeader limits h) where
       (and-i c (d && e) (within-test (h .width) (h .«picture_width») (l .shown-width))
       (and-i d e (within-test (h .height) (h .«picture_height») (l .shown-height)) (counted (h .channels) (l .channels)))))
 
-  module _ (planes : List Float) (long : length planes ≡ h .channels * (h .width * h .height)) (rgb : List ℕ) (room : length rgb ≡ 3 * (h .«picture_width» * h .«picture_height»)) where
+  module _ (f : Rounding) (planes : List Float) (long : length planes ≡ h .channels * (h .width * h .height)) (rgb : List ℕ) (room : length rgb ≡ 3 * (h .«picture_width» * h .«picture_height»)) where
     fitting-test : T (Finish.fitting (h .width) (h .height) (h .«picture_width») (h .«picture_height») (h .channels) (length planes) (length rgb))
     fitting-test = and-i (eqb (length planes) (h .channels * (h .width * h .height))) (eqb (length rgb) (3 * (h .«picture_width» * h .«picture_height»))) (eq→eqb long) (eq→eqb room)
 
-    pub finished : Finish.finishing (h .width) (h .height) (h .«picture_width») (h .«picture_height») (h .channels) planes rgb
-        ≡ record { answer = Finish.done; bytes = Finish.picture (h .width) (h .height) (h .«picture_width») (h .«picture_height») (h .channels) planes }
+    pub finished : Finish.finishing f (h .width) (h .height) (h .«picture_width») (h .«picture_height») (h .channels) planes rgb
+        ≡ record { answer = Finish.done; bytes = Finish.picture (Finish.toByte f) (h .width) (h .height) (h .«picture_width») (h .«picture_height») (h .channels) planes }
     unfolding Finish.finishing
     finished =
         rw (is-true (Finish.legal (h .width) (h .height) (h .«picture_width») (h .«picture_height») (h .channels)) legal-test)
         (rw (is-true (Finish.fitting (h .width) (h .height) (h .«picture_width») (h .«picture_height») (h .channels) (length planes) (length rgb)) fitting-test) refl)
 
   -- the picture's text fits
-  pub written : (planes : List Float) (bytes : List ℕ) (room : ℕ)
-      → bytes ≡ Finish.picture (h .width) (h .height) (h .«picture_width») (h .«picture_height») (h .channels) planes
+  pub written : (f : Rounding) (planes : List Float) (bytes : List ℕ) (room : ℕ)
+      → bytes ≡ Finish.picture (Finish.toByte f) (h .width) (h .height) (h .«picture_width») (h .«picture_height») (h .channels) planes
       → length bytes ≡ 3 * (h .«picture_width» * h .«picture_height») → mostPrinted ≤ room
-      → pictureInto (h .«picture_width») (h .«picture_height») bytes room ≡ painted h planes
+      → pictureInto (h .«picture_width») (h .«picture_height») bytes room ≡ painted f h planes
   unfolding painted
-  written planes bytes room e n r =
+  written f planes bytes room e n r =
       let wide : h .«picture_width» ≤ 32 = omega (arith, l .shown-width .top, l .width .top) in
       let high : h .«picture_height» ≤ 32 = omega (arith, l .shown-height .top, l .height .top) in
       picture-into (h .«picture_width») (h .«picture_height») bytes room (omega arith) (omega arith) n

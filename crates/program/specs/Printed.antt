@@ -8,24 +8,34 @@ use lib.ListN.{length}
 use lib.IntN.{ℤ}
 use lib.Ieee.{Float}
 use Rattle.contents.specs.declared.Limits.{Limits}
+use Rattle.contents.specs.declared.Choice.{Choice}
+use Rattle.contents.specs.declared.Choice.the-variants as choice
 use Rattle.contents.specs.declared.Header.{Header}
 use Rattle.contents.specs.declared.Sheet.{Sheet}
 use Rattle.sheet.specs.Reading.{Outcome, Contents, readText}
 use Rattle.sheet.specs.Reading.Outcome.{Gives, Refused}
 use Rattle.solve.specs.Solve.{planes, blows}
-use Rattle.picture.specs.Finish.{picture}
+use Rattle.picture.specs.declared.Rounding.{Rounding}
+use Rattle.picture.specs.declared.Rounding.the-variants as rounding
+use Rattle.picture.specs.Finish.{toByte, picture}
 use Rattle.output.specs.Output.{pictureText, pictureRoom, refusalText}
 
--- the text of a header's picture of these planes
-unfoldable pub painted : Header → List Float → List ℕ
-painted h ps =
+-- "A line `F` with `t` or `n` may follow the `S` line; without it `t` holds" (M-100)
+abbrev pub roundingOf : Choice → Rounding
+roundingOf choice.Unsaid = rounding.Truncate
+roundingOf choice.First = rounding.Truncate
+roundingOf choice.Second = rounding.Nearest
+
+-- the text of a header's picture of these planes, by a rounding
+unfoldable pub painted : Rounding → Header → List Float → List ℕ
+painted r h ps =
     let width = h .«picture_width» in
     let height = h .«picture_height» in
-    pictureText width height (picture (h .width) (h .height) width height (h .channels) ps)
+    pictureText width height (picture (toByte r) (h .width) (h .height) width height (h .channels) ps)
 
 -- "A blown channel ends the program with 10"; "The line is 0 for 10"
 unfoldable pub sheetText : Sheet → List ℤ → List ℕ → List ℕ
-sheetText s levels tables = cond (blows s levels tables) (refusalText 10 0) (painted (s .header) (planes s levels tables))
+sheetText s levels tables = cond (blows s levels tables) (refusalText 10 0) (painted (roundingOf (s .settings .rounding)) (s .header) (planes s levels tables))
 
 -- "A refusal prints only `X`, number and line"
 unfoldable pub says : Outcome Contents → List ℕ

@@ -1,7 +1,9 @@
 // The whole program as a function: the bytes that `smooth` prints for a text.
+use contents::Choice;
 use contents::Header;
 use contents::Limits;
 use contents::Sheet;
+use picture::Rounding;
 use record::Answer;
 use sheet::Measured;
 use solve::solve;
@@ -14,32 +16,58 @@ ghost use Rattle.sheet.specs.Longest.{decisive};
 ghost use Rattle.sheet.specs.Reading.Outcome.{Gives};
 ghost use Rattle.contents.specs.Legal.{LegalHeader, LegalSheet};
 ghost use Rattle.output.specs.Output.{Wrote};
-ghost use Rattle.program.specs.Printed.{limits, painted, sheetText, printed, mostPrinted, printedInto, SixLong};
+ghost use Rattle.program.specs.Printed.{limits, roundingOf, painted, sheetText, printed, mostPrinted, printedInto, SixLong};
 
 // So many bytes of a text decide what is printed for it: `decisive 32`.
-const DECISIVE: usize = 20453;
+const DECISIVE: usize = 20457;
 // No text that is printed takes more bytes: `mostPrinted`.
 const MOST_PRINTED: usize = 7242;
 
+// How the letter of line F rounds; without it t holds.
+fn rounding_of(c: Choice) -> Rounding
+    ensures { λ r. ⌜ r ≡ roundingOf c ⌝ }
+{
+    match c {
+        Choice::Unsaid => Rounding::Truncate,
+        Choice::First => Rounding::Truncate,
+        Choice::Second => Rounding::Nearest,
+    }
+}
+
 // The text of the picture of solved planes; rgb is room for its bytes.
-fn paint_with(h: Header, planes: &[f32], rgb: &mut [u8], out: &mut [u8]) -> usize
+fn paint_with(
+    rounding: Rounding,
+    h: Header,
+    planes: &[f32],
+    rgb: &mut [u8],
+    out: &mut [u8],
+) -> usize
     requires { ⌜ LegalHeader limits h × (length (now planes) ≡ h .channels * (h .width * h .height)) × (length (now rgb) ≡ 3 * (h .«picture_width» * h .«picture_height»)) × (mostPrinted ≤ length (now out)) ⌝ }
-    ensures { λ r. ⌜ Wrote 0 (painted h (now (planes .entry))) (now (out .entry)) r (now (out .exit)) ⌝ }
+    ensures { λ r. ⌜ Wrote 0 (painted rounding h (now (planes .entry))) (now (out .entry)) r (now (out .exit)) ⌝ }
 {
     let width = h.picture_width;
     let height = h.picture_height;
-    let _done = picture::finish(h.width, h.height, width, height, h.channels, planes, rgb);
+    let _done = picture::finish(
+        rounding,
+        h.width,
+        h.height,
+        width,
+        height,
+        h.channels,
+        planes,
+        rgb,
+    );
     output::write_picture(width, height, &rgb[..], out, 0)
 }
 
 // The same, with room of its own.
-fn paint(h: Header, planes: &[f32], out: &mut [u8]) -> usize
+fn paint(rounding: Rounding, h: Header, planes: &[f32], out: &mut [u8]) -> usize
     requires { ⌜ LegalHeader limits h × (length (now planes) ≡ h .channels * (h .width * h .height)) × (mostPrinted ≤ length (now out)) ⌝ }
-    ensures { λ r. ⌜ Wrote 0 (painted h (now (planes .entry))) (now (out .entry)) r (now (out .exit)) ⌝ }
+    ensures { λ r. ⌜ Wrote 0 (painted rounding h (now (planes .entry))) (now (out .entry)) r (now (out .exit)) ⌝ }
 {
     let mut rgb = [0u8; 3072];
     let n = 3 * ((h.picture_width as usize) * (h.picture_height as usize));
-    paint_with(h, planes, &mut rgb[0..n], out)
+    paint_with(rounding, h, planes, &mut rgb[0..n], out)
 }
 
 // The text of a sheet that was read: its picture, or 10. The six are room for its runs.
@@ -59,6 +87,9 @@ fn solved_with(
     ensures { λ r. ⌜ Wrote 0 (sheetText s (now (levels .entry)) (now (tables .entry))) (now (out .entry)) r (now (out .exit)) ⌝ }
 {
     let h = s.header;
+    let settings = s.settings;
+    let choice = settings.rounding;
+    let rounding = rounding_of(choice);
     let answer = solve(
         s,
         levels,
@@ -73,7 +104,7 @@ fn solved_with(
     let Answer::Done = answer else {
         return output::write_refusal(10, 0, out);
     };
-    paint(h, &plane[..], out)
+    paint(rounding, h, &plane[..], out)
 }
 
 // The same, with room of its own.

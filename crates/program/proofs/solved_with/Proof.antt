@@ -8,16 +8,16 @@ use Rattle.program.proofs.solved_with.Tie as tie
 
 returns : tie.Need-returns
 returns c =
-    let a = c .before .before .before .before .before .before .before .before .before .before .before .before .before .before .before .before .before .before .before .before .before .before .before .before .before .before .before .before .before .before .before .before .before .args in
-    let p = c .before .before .before .before .before .before .before .before .before .before .before .before .before .before .before .before .before .before .before .before .before .before .before .before .before .before .before .before .before .before .before .before .before .pre in
+    let a = c .before .before .before .before .before .before .before .before .before .before .before .before .before .before .before .before .before .before .before .before .before .before .before .before .before .before .before .before .before .before .before .before .before .before .before .args in
+    let p = c .before .before .before .before .before .before .before .before .before .before .before .before .before .before .before .before .before .before .before .before .before .before .before .before .before .before .before .before .before .before .before .before .before .before .before .pre in
     let o = c .before .before .before .before .before .before .before .before .before .before .before .before .before .before .before .before .before .solve in
     blown-text (a .s) (a .levels .now) (a .tables .now) (p .0) (six (a .plane .now) (a .prior .now) (a .gradient .now) (a .across .now) (a .down .now) (a .saved .now)) (p .1)
     (o .result) _ (o .ensures) (c .before .before .before .before .match .keys2) (a .out .now) _ _ _ _ (p .2) (c .before .before .write-refusal .ensures) refl refl
 
 paint-requires : tie.Need-paint-requires
 paint-requires c κs =
-    let a = c .before .before .before .before .before .before .before .before .before .before .before .before .before .before .before .before .before .before .before .before .before .before .before .before .before .before .before .before .before .before .before .before .args in
-    let p = c .before .before .before .before .before .before .before .before .before .before .before .before .before .before .before .before .before .before .before .before .before .before .before .before .before .before .before .before .before .before .before .before .pre in
+    let a = c .before .before .before .before .before .before .before .before .before .before .before .before .before .before .before .before .before .before .before .before .before .before .before .before .before .before .before .before .before .before .before .before .before .before .args in
+    let p = c .before .before .before .before .before .before .before .before .before .before .before .before .before .before .before .before .before .before .before .before .before .before .before .before .before .before .before .before .before .before .before .before .before .before .pre in
     let o = c .before .before .before .before .before .before .before .before .before .before .before .before .before .before .before .before .solve in (
       p .0 .header,
       done-long (a .s) (a .levels .now) (a .tables .now) (p .0) (six (a .plane .now) (a .prior .now) (a .gradient .now) (a .across .now) (a .down .now) (a .saved .now)) (p .1)
@@ -27,16 +27,17 @@ paint-requires c κs =
 
 returns-2 : tie.Need-returns-2
 returns-2 c =
-    let a = c .before .before .before .before .before .before .before .before .before .before .before .before .before .before .before .before .before .before .before .before .before .before .before .before .before .before .before .before .before .before .before .before .before .before .before .args in
-    let p = c .before .before .before .before .before .before .before .before .before .before .before .before .before .before .before .before .before .before .before .before .before .before .before .before .before .before .before .before .before .before .before .before .before .before .before .pre in
+    let a = c .before .before .before .before .before .before .before .before .before .before .before .before .before .before .before .before .before .before .before .before .before .before .before .before .before .before .before .before .before .before .before .before .before .before .before .before .before .args in
+    let p = c .before .before .before .before .before .before .before .before .before .before .before .before .before .before .before .before .before .before .before .before .before .before .before .before .before .before .before .before .before .before .before .before .before .before .before .before .before .pre in
     let o = c .before .before .before .before .before .before .before .before .before .before .before .before .before .before .before .before .before .before .before .solve in
+    let f = c .before .before .before .before .before .before .before .before .before .before .before .before .before .before .before .before .before .before .before .before .before .before .before .before .before .before .rounding-of in
     done-text (a .s) (a .levels .now) (a .tables .now) (p .0) (six (a .plane .now) (a .prior .now) (a .gradient .now) (a .across .now) (a .down .now) (a .saved .now)) (p .1)
-    (o .result) _ (o .ensures) (c .before .before .before .before .before .before .match .keys1) (a .out .now) _ _ (c .before .before .paint .ensures)
+    (o .result) _ (o .ensures) (c .before .before .before .before .before .before .match .keys1) (f .result) (f .ensures) (a .out .now) _ _ (c .before .before .paint .ensures)
 
 pub solved-with-spec : {M : Type 1} → statement M
 solved-with-spec =
     tie.close
-    (tie.spec (λ c κs. search needs) (λ c. search needs) (λ c κs. search needs) (λ c. search needs)
+    (tie.spec (λ c κs. search needs) (λ c κs. search needs) (λ c. search needs) (λ c κs. search needs) (λ c. search needs)
     (λ c. search needs) (λ c. search needs) (λ c. search needs) (λ c. search needs) (λ c. search needs)
     (λ c. search needs) returns paint-requires (λ c. search needs) (λ c. search needs)
     (λ c. search needs) (λ c. search needs) (λ c. search needs) (λ c. search needs) (λ c. search needs)
