@@ -56,7 +56,8 @@ enum smoother_answer {
  * 1 to 7: *line is the line at fault, counted from 1; *levels and *tables are unchanged. */
 uint32_t smoother_measure(const uint8_t *text, size_t text_len, uint32_t limit, size_t *levels, size_t *tables, size_t *line);
 
-/* Where the numbers of a sheet's record stand in `header`: the fields of line S, then own sides and factors of three channels. */
+/* Where the numbers of a sheet's record stand in `header`: the fields of line S, own sides and factors of three channels, then the
+ * settings by their meaning, also where no line says them. */
 enum smoother_header {
     SMOOTHER_AT_W = 0,
     SMOOTHER_AT_H = 1,
@@ -68,7 +69,8 @@ enum smoother_header {
     SMOOTHER_AT_SMOOTHING = 9,  /* three weights, as the bits of their f32 */
     SMOOTHER_AT_DATA = 12,      /* three weights, as the bits of their f32 */
     SMOOTHER_AT_OWN = 15,       /* per channel own width, own height, across factor, down factor; 0 where there is no such channel */
-    SMOOTHER_NUMBERS = 27
+    SMOOTHER_AT_ROUNDING = 27,  /* 0 truncated, 1 nearest (line F) */
+    SMOOTHER_NUMBERS = 28
 };
 
 /* Reads a text. `levels` and `tables` have the measured lengths, `header` has SMOOTHER_NUMBERS places.
@@ -162,8 +164,9 @@ uint32_t smoother_solve(const uint32_t *header, size_t header_len, const int16_t
                         size_t saved_len);
 
 /* The picture of solved planes: channels x W x H values, only read. rgb has 3 x picture width x picture height bytes: red, green and blue
- * of each pixel, row by row. Adds 128 to channel 0, converts, clamps and truncates; NaN gives 0. 0, 13, 8. */
-uint32_t smoother_finish(uint32_t w, uint32_t h, uint32_t picture_width, uint32_t picture_height, uint32_t channels,
+ * of each pixel, row by row. Adds 128 to channel 0, converts, clamps and rounds; NaN gives 0. rounding is 0 (truncated, as the published Rust) or
+ * 1 (the nearest whole number, halves upward, as T.871), else 13. 0, 13, 8. */
+uint32_t smoother_finish(uint32_t rounding, uint32_t w, uint32_t h, uint32_t picture_width, uint32_t picture_height, uint32_t channels,
                          const float *planes, size_t planes_len, uint8_t *rgb, size_t rgb_len);
 
 #ifdef __cplusplus

@@ -18,9 +18,10 @@ use Rattle.contents.specs.declared.Sheet.{Sheet}
 use Rattle.rounds.specs.Whole.{Ends}
 use Rattle.solve.specs.Solve.{solveRefusal, wholeOf, SolveIs}
 use Rattle.picture.specs.declared.Answer as drawn
+use Rattle.picture.specs.declared.Rounding.{Rounding}
 use Rattle.picture.specs.Finish.{Finished, verdict, finishing}
 use Rattle.smoother.specs.Sheets.{recordCount}
-use Rattle.smoother.specs.Whole.{sheetOfNumbers, numbersRefusal, SolveNumbers, verdictNumber, FinishNumbers}
+use Rattle.smoother.specs.Whole.{sheetOfNumbers, numbersRefusal, SolveNumbers, verdictNumber, roundingFrom, finishingBy, FinishNumbers}
 
 module _ (ns : List ℕ) (levels : List ℤ) (tables : List ℕ) (B : Buffers) where
   abbrev S : Sheet
@@ -53,7 +54,18 @@ module _ (ns : List ℕ) (levels : List ℤ) (tables : List ℕ) (B : Buffers) w
 
 -- ---- the picture
 
-module _ (w h width height channels : ℕ) (planes : List Float) (rgb rgb′ : List ℕ) (r : drawn.Answer) (k : ℕ) where
-  pub finished : _≡_ {A = Finished} (record { answer = verdict r; bytes = rgb′ }) (finishing w h width height channels planes rgb) → k ≡ verdictNumber (verdict r)
-      → FinishNumbers w h width height channels planes rgb k rgb′
-  finished e p = record { number = p ∙ ap (λ (o : Finished). verdictNumber (o .answer)) e; bytes = ap (λ (o : Finished). o .bytes) e }
+module _ (n w h width height channels : ℕ) (planes : List Float) (rgb : List ℕ) where
+  pub no-rounding : 1 < n → FinishNumbers n w h width height channels planes rgb 13 rgb
+  unfolding finishingBy
+  no-rounding l = record { number = rw (lt-leb n 1 l); bytes = rw (lt-leb n 1 l) }
+
+  by-letter : n ≤ 1 → finishing (roundingFrom n) w h width height channels planes rgb ≡ finishingBy n w h width height channels planes rgb
+  unfolding finishingBy
+  by-letter l = rw (le-leb n 1 l)
+
+  pub finished : n ≤ 1 → (x : Rounding) → x ≡ roundingFrom n → (rgb′ : List ℕ) (r : drawn.Answer) (k : ℕ)
+      → _≡_ {A = Finished} (record { answer = verdict r; bytes = rgb′ }) (finishing x w h width height channels planes rgb) → k ≡ verdictNumber (verdict r)
+      → FinishNumbers n w h width height channels planes rgb k rgb′
+  finished l x q rgb′ r k e p =
+      let f = e ∙ ap (λ (x : Rounding). finishing x w h width height channels planes rgb) q ∙ by-letter l in
+      record { number = p ∙ ap (λ (o : Finished). verdictNumber (o .answer)) f; bytes = ap (λ (o : Finished). o .bytes) f }

@@ -10,6 +10,9 @@ use lib.Ieee.{binary32, toBits}
 use Rattle.contents.specs.declared.Weight.{Weight}
 use Rattle.contents.specs.Weights.{valueOf}
 use Rattle.contents.specs.declared.Sheet.{Sheet}
+use Rattle.contents.specs.declared.Choice.{Choice}
+use Rattle.contents.specs.declared.Choice.the-variants as choice
+use Rattle.contents.specs.declared.Settings.{Settings}
 use Rattle.contents.specs.declared.Header.{Header}
 use Rattle.contents.specs.declared.Channel.{Channel}
 use Rattle.contents.specs.Sheets.{held}
@@ -42,7 +45,8 @@ pub record Measures (o : Outcome Lengths) (n₀ n m₀ m l r : ℕ) : Type 0 whe
   pub tables : m ≡ tableCount o m₀
 
 -- A sheet's record as numbers: the header's fields in the order of the S line, 1 for joint mode and 0 for separate, weights as
--- the bits of their f32; then own sides and factors of three channels, zeros where there is none.
+-- the bits of their f32; then own sides and factors of three channels, zeros where there is none;
+-- then the settings by their meaning: the rounding, 0 for `t` and 1 for `n`.
 abbrev pub weightBits : Weight → ℕ
 weightBits w = toBits binary32 (valueOf w)
 
@@ -57,12 +61,21 @@ headerNumbers h =
     ∷ weightBits (h .data0) ∷ weightBits (h .data1) ∷ weightBits (h .data2)
     ∷ []
 
+abbrev pub roundingNumber : Choice → ℕ
+roundingNumber choice.Unsaid = 0
+roundingNumber choice.First = 0
+roundingNumber choice.Second = 1
+
+abbrev pub settingNumbers : Settings → List ℕ
+settingNumbers x = roundingNumber (x .rounding) ∷ []
+
 unfoldable pub numbersOf : Sheet → List ℕ
-numbersOf s = headerNumbers (s .header) ++ (channelNumbers (s .first) ++ (channelNumbers (s .second) ++ channelNumbers (s .third)))
+numbersOf s =
+    headerNumbers (s .header) ++ (channelNumbers (s .first) ++ (channelNumbers (s .second) ++ (channelNumbers (s .third) ++ settingNumbers (s .settings))))
 
 -- how many these are, of every sheet
 abbrev pub recordCount : ℕ
-recordCount = 27
+recordCount = 28
 
 -- "a lent buffer's length differs" (8), last: the record's numbers have a buffer too
 abbrev pub withRecord : ℕ → Outcome Contents → Outcome Contents

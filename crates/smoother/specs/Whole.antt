@@ -10,6 +10,9 @@ use lib.IntN.{ℤ}
 use lib.Ieee.{Float}
 use Rattle.contents.specs.declared.Weight.the-variants as weight
 use Rattle.contents.specs.declared.Sheet.{Sheet}
+use Rattle.contents.specs.declared.Choice.{Choice}
+use Rattle.contents.specs.declared.Choice.the-variants as choice
+use Rattle.contents.specs.declared.Settings.{Settings}
 use Rattle.contents.specs.declared.Header.{Header}
 use Rattle.contents.specs.declared.Channel.{Channel}
 use Rattle.start.specs.Buffers.{Buffers}
@@ -18,11 +21,13 @@ use Rattle.serve.specs.Serve.{byteOf}
 use Rattle.rounds.specs.Whole.{Ends}
 use Rattle.solve.specs.Solve.{solveRefusal, wholeOf}
 use Rattle.smoother.specs.Sheets.{recordCount}
-use Rattle.picture.specs.Finish.{Verdict, done, refused, finishing}
+use Rattle.picture.specs.declared.Rounding.{Rounding}
+use Rattle.picture.specs.declared.Rounding.the-variants as rounding
+use Rattle.picture.specs.Finish.{Verdict, done, refused, Finished, finishing}
 
 -- ---- the record
 
--- The sheet of a record's numbers, in the order of `numbersOf`: 1 is joint mode, a weight is its f32's bits.
+-- The sheet of a record's numbers, in the order of `numbersOf`: 1 is joint mode, a weight is its f32's bits, 1 is the rounding `n`.
 abbrev pub headerFrom : List ℕ → Header
 headerFrom ns =
     record {
@@ -48,8 +53,15 @@ abbrev pub channelFrom : List ℕ → ℕ → Channel
 channelFrom ns i =
     record { width = getD ns i 0; height = getD ns (i + 1) 0; across = getD ns (i + 2) 0; down = getD ns (i + 3) 0 }
 
+abbrev pub choiceFrom : ℕ → Choice
+choiceFrom n = cond (eqb n 1) choice.Second choice.First
+
+abbrev pub settingsFrom : List ℕ → Settings
+settingsFrom ns = record { rounding = choiceFrom (getD ns 27 0) }
+
 unfoldable pub sheetOfNumbers : List ℕ → Sheet
-sheetOfNumbers ns = record { header = headerFrom ns; first = channelFrom ns 15; second = channelFrom ns 19; third = channelFrom ns 23 }
+sheetOfNumbers ns =
+    record { header = headerFrom ns; settings = settingsFrom ns; first = channelFrom ns 15; second = channelFrom ns 19; third = channelFrom ns 23 }
 
 -- ---- solve
 
@@ -69,7 +81,17 @@ abbrev pub verdictNumber : Verdict → ℕ
 verdictNumber done = 0
 verdictNumber (refused n) = n
 
+-- 0 is `t`, 1 is `n`
+abbrev pub roundingFrom : ℕ → Rounding
+roundingFrom n = cond (eqb n 1) rounding.Nearest rounding.Truncate
+
+-- the call by a rounding's number: 13 where it is neither 0 nor 1, before anything else
+unfoldable pub finishingBy : ℕ → ℕ → ℕ → ℕ → ℕ → ℕ → List Float → List ℕ → Finished
+unfolding finishing
+finishingBy n w h width height channels planes rgb =
+    cond (leb n 1) (finishing (roundingFrom n) w h width height channels planes rgb) (record { answer = refused 13; bytes = rgb })
+
 -- what `finish` answers and the bytes that it leaves
-pub record FinishNumbers (w h width height channels : ℕ) (planes : List Float) (rgb : List ℕ) (k : ℕ) (rgb′ : List ℕ) : Type 0 where
-  pub number : k ≡ verdictNumber (finishing w h width height channels planes rgb .answer)
-  pub bytes : rgb′ ≡ finishing w h width height channels planes rgb .bytes
+pub record FinishNumbers (n w h width height channels : ℕ) (planes : List Float) (rgb : List ℕ) (k : ℕ) (rgb′ : List ℕ) : Type 0 where
+  pub number : k ≡ verdictNumber (finishingBy n w h width height channels planes rgb .answer)
+  pub bytes : rgb′ ≡ finishingBy n w h width height channels planes rgb .bytes

@@ -3,6 +3,7 @@ pub mod runs;
 pub mod sheets;
 pub mod sizes;
 
+use contents::Choice;
 use contents::Limits;
 use contents::Sheet;
 use contents::Weight;
@@ -14,10 +15,10 @@ ghost use mathlib.Core.Bool.{cond};
 ghost use lib.ListN.{length};
 ghost use Rattle.contents.specs.Sheets.{held};
 ghost use Rattle.sheet.specs.Calls.{measuring, reading};
-ghost use Rattle.smoother.specs.Sheets.{Measures, ReadsNumbers, numbersOf, recordCount, weightBits, withRecord};
+ghost use Rattle.smoother.specs.Sheets.{Measures, ReadsNumbers, numbersOf, recordCount, roundingNumber, weightBits, withRecord};
 
 // How many numbers a sheet's record has.
-pub const NUMBERS: usize = 27;
+pub const NUMBERS: usize = 28;
 
 // A call's answer as a number, with the record as it is afterwards.
 pub struct Numbered {
@@ -71,6 +72,17 @@ fn mode_number(joint: bool) -> u32
     0
 }
 
+// 1 for the rounding n, 0 for t.
+fn rounding_number(c: Choice) -> u32
+    ensures { λ r. ⌜ r ≡ roundingNumber c ⌝ }
+{
+    match c {
+        Choice::Unsaid => 0,
+        Choice::First => 0,
+        Choice::Second => 1,
+    }
+}
+
 // A sheet's record as numbers.
 pub fn numbers(s: Sheet) -> [u32; NUMBERS]
     ensures { λ r. ⌜ r ≡ numbersOf s ⌝ }
@@ -85,6 +97,8 @@ pub fn numbers(s: Sheet) -> [u32; NUMBERS]
     let d0 = h.data0;
     let d1 = h.data1;
     let d2 = h.data2;
+    let settings = s.settings;
+    let rounding = settings.rounding;
     [
         h.width,
         h.height,
@@ -113,6 +127,7 @@ pub fn numbers(s: Sheet) -> [u32; NUMBERS]
         c.height,
         c.across,
         c.down,
+        rounding_number(rounding),
     ]
 }
 

@@ -2,15 +2,18 @@
 use crate::NUMBERS;
 use crate::runs;
 use contents::Channel;
+use contents::Choice;
 use contents::Header;
+use contents::Settings;
 use contents::Sheet;
 use contents::Weight;
+use picture::Rounding;
 ghost use mathlib.Core.Path.{_≡_};
 ghost use Prim.Native.Nat.{_+_, _<_};
 ghost use lib.ListN.{length};
 ghost use Rattle.rounds.specs.Whole.{six};
 ghost use Rattle.smoother.specs.Sheets.{recordCount};
-ghost use Rattle.smoother.specs.Whole.{headerFrom, channelFrom, sheetOfNumbers, SolveNumbers, FinishNumbers};
+ghost use Rattle.smoother.specs.Whole.{headerFrom, channelFrom, choiceFrom, settingsFrom, sheetOfNumbers, SolveNumbers, roundingFrom, FinishNumbers};
 
 fn header_from(numbers: &[u32]) -> Header
     requires { ⌜ length (now numbers) ≡ recordCount ⌝ }
@@ -47,13 +50,32 @@ fn channel_from(numbers: &[u32], at: usize) -> Channel
     }
 }
 
+fn choice_from(n: u32) -> Choice
+    ensures { λ r. ⌜ r ≡ choiceFrom n ⌝ }
+{
+    if n == 1 {
+        return Choice::Second;
+    }
+    Choice::First
+}
+
+fn settings_from(numbers: &[u32]) -> Settings
+    requires { ⌜ length (now numbers) ≡ recordCount ⌝ }
+    ensures { λ r. ⌜ r ≡ settingsFrom (now (numbers .entry)) ⌝ }
+{
+    let rounding = choice_from(numbers[27]);
+    Settings { rounding }
+}
+
 // The sheet that a record's numbers say.
 fn sheet_of(numbers: &[u32]) -> Sheet
     requires { ⌜ length (now numbers) ≡ recordCount ⌝ }
     ensures { λ r. ⌜ r ≡ sheetOfNumbers (now (numbers .entry)) ⌝ }
 {
+    let settings = settings_from(numbers);
     Sheet {
         header: header_from(numbers),
+        settings,
         first: channel_from(numbers, 15),
         second: channel_from(numbers, 19),
         third: channel_from(numbers, 23),
@@ -99,10 +121,20 @@ pub extern "C" fn smoother_solve(
     runs::number_of(a)
 }
 
-// The picture's bytes of solved planes, which are only read. Ruled out: the second row of a picture narrower than the planes taken from the end of the
-// first row's part; bytes changed where 8 or 13 is answered.
+fn rounding_from(n: u32) -> Rounding
+    ensures { λ r. ⌜ r ≡ roundingFrom n ⌝ }
+{
+    if n == 1 {
+        return Rounding::Nearest;
+    }
+    Rounding::Truncate
+}
+
+// The picture's bytes of solved planes, which are only read; rounding is 0 for t and 1 for n, else 13. Ruled out: the second row of a picture narrower than the planes taken from the end of the
+// first row's part; bytes changed where 8 or 13 is answered; the bytes of t for the rounding 2.
 #[no_mangle]
 pub extern "C" fn smoother_finish(
+    rounding: u32,
     w: u32,
     h: u32,
     width: u32,
@@ -111,9 +143,21 @@ pub extern "C" fn smoother_finish(
     planes: &[f32],
     rgb: &mut [u8],
 ) -> u32
-    ensures { λ r. ⌜ FinishNumbers w h width height channels (now (planes .entry)) (now (rgb .entry)) r (now (rgb .exit)) ⌝ }
+    ensures { λ r. ⌜ FinishNumbers rounding w h width height channels (now (planes .entry)) (now (rgb .entry)) r (now (rgb .exit)) ⌝ }
 {
-    match picture::finish(w, h, width, height, channels, planes, rgb) {
+    if 1 < rounding {
+        return 13;
+    }
+    match picture::finish(
+        rounding_from(rounding),
+        w,
+        h,
+        width,
+        height,
+        channels,
+        planes,
+        rgb,
+    ) {
         picture::Answer::Done => 0,
         picture::Answer::Refused(n) => n as u32,
     }

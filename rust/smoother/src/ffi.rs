@@ -143,6 +143,7 @@ exports! {
         saved_len: usize,
     ) -> u32;
     pub fn smoother_finish(
+        rounding: u32,
         w: u32,
         h: u32,
         width: u32,

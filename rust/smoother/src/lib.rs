@@ -26,4 +26,4 @@ pub use run::{
     Answers, Buffers, Channel, Job, Outcome, Run, blend, call, data, move_plane, project, push, serve, serve_numbers,
     start,
 };
-pub use sheet::{Lengths, NUMBERS, Own, Sheet, finish_into, measure, read, read_into, solve_into};
+pub use sheet::{Lengths, NUMBERS, Own, Rounding, Sheet, finish_into, measure, read, read_into, solve_into};

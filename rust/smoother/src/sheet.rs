@@ -35,14 +35,26 @@ pub struct Sheet {
     pub iterations: [u32; 3],
     pub smoothing: [f32; 3],
     pub data: [f32; 3],
+    /// Line `F`: truncated where there is none.
+    pub rounding: Rounding,
     /// Zeros past `count`.
     pub own: [Own; 3],
     pub levels: Vec<i16>,
     pub tables: Vec<u16>,
 }
 
+/// How a clamped value becomes a byte of the picture.
+#[derive(Clone, Copy, Debug, Default, PartialEq, Eq)]
+pub enum Rounding {
+    /// Truncated, as in the published Rust: `t`.
+    #[default]
+    Truncate,
+    /// The nearest whole number, halves upward, as in T.871: `n`.
+    Nearest,
+}
+
 /// Numbers of a sheet's record.
-pub const NUMBERS: usize = 27;
+pub const NUMBERS: usize = 28;
 
 fn at(line: usize) -> impl FnOnce(Error) -> Fault {
     move |error| Fault { error, line }
@@ -56,8 +68,8 @@ pub fn measure(text: &[u8], limit: u32) -> Result<Lengths, Fault> {
     done(number).map(|()| Lengths { levels, tables }).map_err(at(line))
 }
 
-/// Reads a text into lent buffers: `levels` and `tables` of the measured lengths, and `header` of 27 places, for the fields of line `S` (mode 1
-/// joint, 0 separate; weights as f32 bits), then own sides and factors of three channels.
+/// Reads a text into lent buffers: `levels` and `tables` of the measured lengths, and `header` of `NUMBERS` places, for the fields of line `S` (mode 1
+/// joint, 0 separate; weights as f32 bits), own sides and factors of three channels, then the rounding (0 truncated, 1 nearest).
 pub fn read_into(
     text: &[u8],
     limit: u32,
@@ -88,6 +100,7 @@ pub fn read(text: &[u8], limit: u32) -> Result<Sheet, Fault> {
         iterations: three(6),
         smoothing: three(9).map(f32::from_bits),
         data: three(12).map(f32::from_bits),
+        rounding: if n[27] == 1 { Rounding::Nearest } else { Rounding::Truncate },
         own: [own(15), own(19), own(23)],
         levels,
         tables,
@@ -142,7 +155,7 @@ impl Sheet {
         &self.tables[64 * c..][..64]
     }
 
-    /// The record's 27 numbers, as `read_into` lends them out.
+    /// The record's numbers, as `read_into` lends them out.
     pub fn numbers(&self) -> [u32; NUMBERS] {
         let mut n = [0; NUMBERS];
         n[..6].copy_from_slice(&[
@@ -159,6 +172,7 @@ impl Sheet {
         for (own, at) in self.own.iter().zip([15, 19, 23]) {
             n[at..at + 4].copy_from_slice(&[own.width, own.height, own.across, own.down]);
         }
+        n[27] = self.rounding as u32;
         n
     }
 
@@ -175,7 +189,7 @@ impl Sheet {
         let bytes = 3 * within(self.picture_width, self.width) * within(self.picture_height, self.height);
         let mut rgb = vec![0; bytes];
         let sides = [self.width, self.height, self.picture_width, self.picture_height];
-        finish_into(sides, self.count, planes, &mut rgb).map(|()| rgb)
+        finish_into(self.rounding, sides, self.count, planes, &mut rgb).map(|()| rgb)
     }
 }
 
@@ -187,8 +201,14 @@ pub fn solve_into(header: &[u32], levels: &[i16], tables: &[u16], b: &mut Buffer
 }
 
 /// The picture of planes, in lent bytes; `sides` are W, H and the picture's.
-pub fn finish_into(sides: [u32; 4], channels: u32, planes: &[f32], rgb: &mut [u8]) -> Result<(), Error> {
+pub fn finish_into(
+    rounding: Rounding,
+    sides: [u32; 4],
+    channels: u32,
+    planes: &[f32],
+    rgb: &mut [u8],
+) -> Result<(), Error> {
     let [w, h, width, height] = sides;
     // SAFETY: each pointer and length are of one slice, and the slices do not overlap.
-    done(unsafe { lend!(smoother_finish(w, h, width, height, channels, read planes, write rgb)) })
+    done(unsafe { lend!(smoother_finish(rounding as u32, w, h, width, height, channels, read planes, write rgb)) })
 }

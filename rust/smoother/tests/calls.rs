@@ -143,7 +143,7 @@ fn texts_refused() {
 
 #[test]
 fn reading_into_wrong_lengths() {
-    for (n, m, k) in [(63, 64, 27), (64, 65, 27), (64, 64, 26), (0, 0, 0)] {
+    for (n, m, k) in [(63, 64, 28), (64, 65, 28), (64, 64, 27), (0, 0, 0)] {
         let (mut levels, mut tables, mut header) = (vec![7; n], vec![7; m], vec![7; k]);
         let due = Err(Fault { error: Refusal::Length.into(), line: 0 });
         assert_eq!(read_into(whole().as_bytes(), 512, &mut levels, &mut tables, &mut header), due);
@@ -349,6 +349,6 @@ fn solve_refuses() {
         assert_eq!(solve_into(numbers, levels, &sheet.tables, &mut b), Err(why.into()));
     }
     assert_eq!(bits(&b), before);
-    assert_eq!(finish_into([16, 16, 17, 9], 3, &b.plane, &mut [0; 459]), Err(Refusal::Record.into()));
-    assert_eq!(finish_into([16, 16, 13, 9], 3, &b.plane, &mut [0; 352]), Err(Refusal::Length.into()));
+    assert_eq!(finish_into(Rounding::Truncate, [16, 16, 17, 9], 3, &b.plane, &mut [0; 459]), Err(Refusal::Record.into()));
+    assert_eq!(finish_into(Rounding::Nearest, [16, 16, 13, 9], 3, &b.plane, &mut [0; 352]), Err(Refusal::Length.into()));
 }

@@ -6,7 +6,7 @@ use Rattle.smoother.proofs.sheets.sheet_of.Tie as tie
 
 returns : tie.Need-returns
 unfolding sheetOfNumbers
-returns c = rw (c .before .before .before .header-from .ensures, c .before .before .channel-from .ensures, c .before .channel-from2 .ensures, c .channel-from3 .ensures)
+returns c = rw (c .before .before .before .before .settings-from .ensures, c .before .before .before .header-from .ensures, c .before .before .channel-from .ensures, c .before .channel-from2 .ensures, c .channel-from3 .ensures)
 
 pub sheet-of-spec : {M : Type 1} → statement M
-sheet-of-spec = tie.close (tie.spec (λ c κs. search needs) (λ c κs. search needs) (λ c κs. search needs) (λ c κs. search needs) returns)
+sheet-of-spec = tie.close (tie.spec (λ c κs. search needs) (λ c κs. search needs) (λ c κs. search needs) (λ c κs. search needs) (λ c κs. search needs) returns)

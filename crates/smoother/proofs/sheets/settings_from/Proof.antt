@@ -1,0 +1,10 @@
+-- `settings_from` meets its contract.
+use borrow.Author.Needs.{needs}
+use Rattle.smoother.proofs.sheets.settings_from.Statement.{statement}
+use Rattle.smoother.proofs.sheets.settings_from.Tie as tie
+
+returns : tie.Need-returns
+returns c = rw (c .choice-from .ensures)
+
+pub settings-from-spec : {M : Type 1} → statement M
+settings-from-spec = tie.close (tie.spec (λ c. search needs) (λ c κs. search needs) returns)
