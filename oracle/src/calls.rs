@@ -334,6 +334,7 @@ impl Lent {
             counts: [r.n; 3],
             smoothing: [sheet::Weight::Bits(r.smoothing.to_bits()); 3],
             data: std::array::from_fn(|c| sheet::Weight::Bits(r.channels[c].weight.to_bits())),
+            rounding: None,
             channels: self.coefficients(),
         };
         let run = crate::run::runs(&sheet).remove(0);

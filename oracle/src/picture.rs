@@ -1,12 +1,13 @@
-//! The whole program: a sheet text to the lines of a picture, by the published `solve_cpu` and `finish` of lib.rs. The jobs of `run` find blown channels.
+//! The whole program: a sheet text to the lines of a picture, by the published `solve_cpu` and `finish` of lib.rs. The jobs of `run` find blown channels. The rounding of line
+//! `F n` (M-100) is written here, beside the published `finish`.
 use crate::{
     floats::same,
     run::{coefficient, runs},
-    sheet::{Sheet, Weight, joined, read},
+    sheet::{Rounding, Sheet, Weight, joined, read},
 };
 use artefact::{
     AlignedF32, Artefact, ValueCollection,
-    image::RgbImage,
+    image::{Rgb, RgbImage},
     pipeline::open::{Jpeg, finish, solve_cpu},
 };
 
@@ -53,9 +54,35 @@ pub fn solved(sheet: &Sheet) -> Vec<AlignedF32> {
     solve_cpu(&settings(sheet), &jpeg(sheet), sheet.w, sheet.h)
 }
 
-/// The published `finish`.
+/// The published `finish`, or with `F n` its statements with another rounding. These are held against the published ones on every picture.
 pub fn drawn(sheet: &Sheet, planes: Vec<AlignedF32>) -> RgbImage {
-    finish(&settings(sheet), &jpeg(sheet), planes, sheet.w, sheet.h)
+    let own = |byte: fn(f32) -> u8| rounded(sheet, &planes, byte);
+    let (truncated, nearest) = (own(|v| v as u8), own(nearest));
+    let published = finish(&settings(sheet), &jpeg(sheet), planes, sheet.w, sheet.h);
+    assert!(truncated.bytes == published.bytes, "the own statements differ from `finish`");
+    match sheet.rounds() {
+        Rounding::Truncate => published,
+        Rounding::Nearest => nearest,
+    }
+}
+
+/// "the nearest whole number of the clamped f32, halves upward, and 0 for NaN": in f64 the sum is exact where it matters.
+pub fn nearest(v: f32) -> u8 {
+    (f64::from(v) + 0.5).floor() as u8
+}
+
+/// The statements of `finish`, with `byte` for the last `as u8`.
+fn rounded(sheet: &Sheet, planes: &[AlignedF32], byte: fn(f32) -> u8) -> RgbImage {
+    let shade = |v: f32| byte(v.clamp(0.0, 255.0));
+    RgbImage::from_fn(sheet.picture_w, sheet.picture_h, |x, y| {
+        let at = (y * sheet.w + x) as usize;
+        let luma = planes[0][at] + 128.0;
+        if sheet.channels.len() == 1 {
+            return Rgb([shade(luma); 3]);
+        }
+        let (cb, cr) = (planes[1][at], planes[2][at]);
+        Rgb([shade(1.402 * cr + luma), shade(0.71414 * -cr + (0.34414 * -cb + luma)), shade(1.772 * cb + luma)])
+    })
 }
 
 fn settings(sheet: &Sheet) -> Artefact {
@@ -87,6 +114,27 @@ mod tests {
     fn whole_example() {
         assert_eq!(smooth(&example()), "I\t2\t1\nR\t818181\t818181\n");
         assert_eq!(smooth(&[example(), b"\n".into()].concat()), "X\t7\t5\n");
+    }
+
+    #[test]
+    fn nearest_halves_upward() {
+        let bits = f32::from_bits;
+        for k in 0..255 {
+            let tie = k as f32 + 0.5;
+            let [below, above] = [bits(tie.to_bits() - 1), bits(tie.to_bits() + 1)];
+            assert_eq!([below, tie, above].map(nearest), [k as u8, k as u8 + 1, k as u8 + 1]);
+        }
+        assert_eq!([0.0, -0.0, 255.0, f32::NAN, bits(1)].map(nearest), [0, 0, 255, 0, 0]);
+    }
+
+    #[test]
+    fn rounding_by_line_f() {
+        let f = |letter: &str| String::from_utf8_lossy(&example()).replacen("\nC", &format!("\nF\t{letter}\nC"), 1);
+        let with = |old: &str, new: &str, letter: &str| smooth(f(letter).replacen(old, new, 1).as_bytes());
+        assert_eq!(with("", "", "t"), "I\t2\t1\nR\t818181\t818181\n");
+        // y = 128.5 and 127.5
+        assert_eq!(with("1\t1\t8", "1\t1\t4", "n"), "I\t2\t1\nR\t818181\t818181\n");
+        assert_eq!(with("1\t1\t8", "1\t1\t4", "t"), "I\t2\t1\nR\t808080\t808080\n");
     }
 
     #[test]

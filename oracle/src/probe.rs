@@ -185,8 +185,8 @@ pub fn solve(header: &[u32], levels: &[i16], tables: &[u16], six: &mut Buffers) 
 }
 
 /// `sizes` are W, H, the picture's and the count of channels.
-pub fn finish([w, h, width, height, channels]: [u32; 5], planes: &[f32], rgb: &mut [u8]) -> u32 {
-    unsafe { lend!(smoother_finish(w, h, width, height, channels, read planes, write rgb)) }
+pub fn finish(rounding: u32, [w, h, width, height, channels]: [u32; 5], planes: &[f32], rgb: &mut [u8]) -> u32 {
+    unsafe { lend!(smoother_finish(rounding, w, h, width, height, channels, read planes, write rgb)) }
 }
 
 #[allow(dead_code)]

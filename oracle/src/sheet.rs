@@ -1,4 +1,4 @@
-//! The sheet text, read and written as document 01, "Sheet records", says. Nothing here is taken from the proved reader.
+//! The sheet text, read and written as document 01, "Sheet records", and document 02 say. Nothing here is taken from the proved reader.
 
 /// The number of a refusal in document 01's table, and the line.
 pub type Refusal = (u32, usize);
@@ -27,6 +27,13 @@ impl Weight {
     }
 }
 
+/// How a clamped value becomes a byte: the letters of line `F` (M-100).
+#[derive(Clone, Copy, Debug, PartialEq)]
+pub enum Rounding {
+    Truncate,
+    Nearest,
+}
+
 #[derive(Clone, Debug, PartialEq)]
 pub struct Channel {
     pub w: u32,
@@ -47,6 +54,8 @@ pub struct Sheet {
     pub counts: [u32; 3],
     pub smoothing: [Weight; 3],
     pub data: [Weight; 3],
+    /// None where there is no line `F`.
+    pub rounding: Option<Rounding>,
     pub channels: Vec<Channel>,
 }
 
@@ -93,6 +102,23 @@ impl<'a> Lines<'a> {
         Ok(fields)
     }
 
+    /// Whether this is the next line's tag.
+    fn is_next(&self, tag: &[u8]) -> bool {
+        let end = self.rest.iter().position(|b| matches!(b, b'\t' | b'\n'));
+        &self.rest[..end.unwrap_or(self.rest.len())] == tag
+    }
+
+    fn rounding(&mut self) -> Result<Option<Rounding>, Fault> {
+        if !self.is_next(b"F") {
+            return Ok(None);
+        }
+        match self.next(b"F", 2)?.next().expect("counted") {
+            b"t" => Ok(Some(Rounding::Truncate)),
+            b"n" => Ok(Some(Rounding::Nearest)),
+            _ => Err(FORM),
+        }
+    }
+
     fn sheet(&mut self, limit: u32) -> Result<Sheet, Fault> {
         let mut fields = self.next(b"S", 16)?;
         let mut field = || fields.next().expect("counted");
@@ -111,13 +137,14 @@ impl<'a> Lines<'a> {
         let counts = [count()?, count()?, count()?];
         let smoothing = [weight(field())?, weight(field())?, weight(field())?];
         let data = [weight(field())?, weight(field())?, weight(field())?];
+        let rounding = self.rounding()?;
         let channels = (0..channels).map(|_| self.channel(w, h)).collect::<Result<_, _>>()?;
         self.next(b"E", 1)?;
         if !self.rest.is_empty() {
             self.line += 1;
             return Err(CUT);
         }
-        Ok(Sheet { w, h, picture_w, picture_h, joint, counts, smoothing, data, channels })
+        Ok(Sheet { w, h, picture_w, picture_h, joint, counts, smoothing, data, rounding, channels })
     }
 
     fn channel(&mut self, full_w: u32, full_h: u32) -> Result<Channel, Fault> {
@@ -202,6 +229,11 @@ impl Sheet {
         if self.joint { "j" } else { "s" }
     }
 
+    /// "without it `t` holds"
+    pub fn rounds(&self) -> Rounding {
+        self.rounding.unwrap_or(Rounding::Truncate)
+    }
+
     pub fn text(&self) -> Vec<u8> {
         let spelled = self.weights().map(|weight| match weight {
             Weight::Bits(bits) => format!("h{bits:08x}"),
@@ -210,6 +242,11 @@ impl Sheet {
         let sizes = [self.w, self.h, self.picture_w, self.picture_h, self.channels.len() as u32];
         let (sizes, counts) = (joined(sizes, "\t"), joined(self.counts, "\t"));
         let mut text = format!("S\t{sizes}\t{}\t{counts}\t{}\n", self.mode(), joined(spelled, "\t"));
+        text += match self.rounding {
+            None => "",
+            Some(Rounding::Truncate) => "F\tt\n",
+            Some(Rounding::Nearest) => "F\tn\n",
+        };
         for c in &self.channels {
             text += &format!("C\t{}\t{}\n", joined([c.w, c.h, c.across, c.down], "\t"), joined(&c.table, "\t"));
             for block in c.levels.chunks(64) {

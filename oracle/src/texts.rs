@@ -1,7 +1,7 @@
 //! Sheet texts at random: legal ones, and ones damaged at each of document 01's rules; and fixed ones with their answers.
 use crate::{
     random::Random,
-    sheet::{Channel, Refusal, Sheet, Weight, read},
+    sheet::{Channel, Refusal, Rounding, Sheet, Weight, read},
 };
 use std::{fs, path::Path};
 
@@ -9,7 +9,7 @@ use std::{fs, path::Path};
 pub fn legal(r: &mut Random, limit: u32, steps: u32) -> Sheet {
     let (w, h) = (full_side(r, limit), full_side(r, limit));
     let channels = r.pick(&[1, 1, 3]);
-    Sheet {
+    let sheet = Sheet {
         w,
         h,
         picture_w: picture_side(r, w),
@@ -18,8 +18,13 @@ pub fn legal(r: &mut Random, limit: u32, steps: u32) -> Sheet {
         counts: [0; 3].map(|_| r.between(0, steps.into()) as u32),
         smoothing: [0; 3].map(|_| weight(r)),
         data: [0; 3].map(|_| weight(r)),
+        rounding: None,
         channels: (0..channels).map(|_| channel(r, w, h)).collect(),
-    }
+    };
+    // of two sheets in five none, of two in five `n`
+    let letters = [None, None, Some(Rounding::Truncate), Some(Rounding::Nearest), Some(Rounding::Nearest)];
+    let rounding = letters[(sheet.picture_w + 3 * sheet.picture_h + sheet.counts[0]) as usize % 5];
+    Sheet { rounding, ..sheet }
 }
 
 fn full_side(r: &mut Random, limit: u32) -> u32 {
@@ -115,7 +120,7 @@ fn join(lines: &Lines) -> Vec<u8> {
 }
 
 fn tagged(r: &mut Random, lines: &Lines) -> usize {
-    let tag = r.pick(&["S", "S", "S", "S", "C", "C", "C", "B", "B", "E"]).as_bytes();
+    let tag = r.pick(&["S", "S", "S", "S", "F", "C", "C", "C", "B", "B", "E"]).as_bytes();
     let found: Vec<usize> = (0..lines.len()).filter(|i| lines[*i][0] == tag).collect();
     if found.is_empty() { r.below(lines.len()) } else { r.pick(&found) }
 }
@@ -146,6 +151,7 @@ fn edge(r: &mut Random, line: &[Vec<u8>], at: usize, [w, h]: [u32; 2]) -> Vec<u8
         (b"S", 6) => r.pick(&["j", "s", "k", "J", "S", "js", "", "w", "1"]).into(),
         (b"S", 7..=9) => n(r, &[0, 1, 999, 1_000, 1_001, 65_536, 999_999]),
         (b"S", 10..) => odd_weight(r),
+        (b"F", 1) => r.pick(&["t", "n", "T", "N", "tn", "", "x", "0", "1"]).into(),
         (b"C", 1 | 2) => n(r, &[0, 4, 8, 12, full, full + 8, 512, 520, 65_544, 999_992, 999_999]),
         (b"C", 3 | 4) => n(r, &[0, 1, 2, 3, 4, 5, 257, 999_999]),
         (b"C", 5..) => n(r, &[0, 1, 254, 255, 256, 257, 511, 65_537, 999_999]),
@@ -435,6 +441,28 @@ pub fn fixed() -> Vec<(&'static str, Vec<u8>, Option<Refusal>)> {
         (&[(S, 15, "h7f800000")], Some((6, 1))),
         (&[(S, 15, "h00000001")], None),
     ];
+    // line `F`: only directly after `S`, once, with `t` or `n`
+    let before = |i: usize, more: &[u8]| [&lines[..i].concat(), more, &lines[i..].concat()].concat();
+    all.extend([
+        ("F t", before(1, b"F\tt\n"), None),
+        ("F n", before(1, b"F\tn\n"), None),
+        ("F twice", before(1, b"F\tn\nF\tn\n"), Some((1, 3))),
+        ("F first", before(0, b"F\tn\n"), Some((1, 1))),
+        ("F after C", before(2, b"F\tn\n"), Some((1, 3))),
+        ("F after B", before(3, b"F\tn\n"), Some((1, 4))),
+        ("F after E", before(4, b"F\tn\n"), Some((7, 5))),
+        ("F x", before(1, b"F\tx\n"), Some((1, 2))),
+        ("F N", before(1, b"F\tN\n"), Some((1, 2))),
+        ("F tn", before(1, b"F\ttn\n"), Some((1, 2))),
+        ("F, no letter", before(1, b"F\t\n"), Some((1, 2))),
+        ("F, one field", before(1, b"F\n"), Some((1, 2))),
+        ("F, three fields", before(1, b"F\tn\tn\n"), Some((1, 2))),
+        ("F, then A", before(1, b"F\tn\nA\tm\n"), Some((1, 3))),
+        ("S, F and no more", [lines[0], b"F\tn\n"].concat(), Some((7, 3))),
+        ("F unended", [lines[0], b"F\tn"].concat(), Some((7, 2))),
+        ("F, then E", [lines[0], b"F\tn\n", lines[3]].concat(), Some((1, 3))),
+        ("F, long", before(1, &[b"F\t".as_slice(), &[b'n'; 1023], b"\n"].concat()), Some((1, 2))),
+    ]);
     all.extend(edits.iter().map(|(edits, answer)| ("an edited field", edited(edits), *answer)));
     all
 }
@@ -452,20 +480,21 @@ pub fn long() -> Vec<(Vec<u8>, Option<Refusal>)> {
         counts: [0, 1, 2],
         smoothing: weights,
         data: weights,
+        rounding: Some(Rounding::Nearest),
         channels: vec![channel; 3],
     };
     let whole = sheet.text();
     let no_end = &whole[..whole.len() - 2];
     let then = |start: &[u8], bytes: usize, end: &str| [start, &vec![b'a'; bytes], end.as_bytes()].concat();
     vec![
-        (then(&whole, 1, ""), Some((7, 54))),
-        (then(&whole, 30_000, "\n"), Some((7, 54))),
-        (then(no_end, 0, ""), Some((7, 53))),
-        (then(no_end, 1024, ""), Some((7, 53))),
-        (then(no_end, 1025, ""), Some((1, 53))),
-        (then(no_end, 1024, "\n"), Some((1, 53))),
-        (then(no_end, 1025, "\n"), Some((1, 53))),
-        (then(no_end, 30_000, "\n"), Some((1, 53))),
+        (then(&whole, 1, ""), Some((7, 55))),
+        (then(&whole, 30_000, "\n"), Some((7, 55))),
+        (then(no_end, 0, ""), Some((7, 54))),
+        (then(no_end, 1024, ""), Some((7, 54))),
+        (then(no_end, 1025, ""), Some((1, 54))),
+        (then(no_end, 1024, "\n"), Some((1, 54))),
+        (then(no_end, 1025, "\n"), Some((1, 54))),
+        (then(no_end, 30_000, "\n"), Some((1, 54))),
         (then(b"", 30_000, ""), Some((1, 1))),
         (vec![b'\n'; 30_000], Some((1, 1))),
         (whole, None),

@@ -109,6 +109,7 @@ fn main() {
         counts: [20; 3],
         smoothing: [Weight::Bits(0.3_f32.to_bits()); 3],
         data: [Weight::Bits(0.001_f32.to_bits()); 3],
+        rounding: None,
         channels: vec![channel(luma, 1, &LUMA), channel(blue, 2, &CHROMA), channel(red, 2, &CHROMA)],
     };
     stdout().write_all(&sheet.text()).expect("standard output");

@@ -29,12 +29,14 @@ const KINDS: [Kind; 5] = [
 fn bytes(r: &mut Random) -> Vec<u8> {
     let most = r.pick(&[4, 40, 400, 4_000]);
     let length = r.below(most + 1);
-    let alphabet: &[u8] = r.pick(&[b"".as_slice(), b"\t\n", b"0123456789\t\n-", b"SCBEjswh0123456789abcdef\t\n- \r"]);
+    let alphabet: &[u8] =
+        r.pick(&[b"".as_slice(), b"\t\n", b"0123456789\t\n-", b"SFCBEtnjswh0123456789abcdef\t\n- \r"]);
     (0..length).map(|_| if alphabet.is_empty() { r.word() as u8 } else { r.pick(alphabet) }).collect()
 }
 
-const TOKENS: [&str; 40] = [
+const TOKENS: [&str; 44] = [
     "S",
+    "F",
     "C",
     "B",
     "E",
@@ -45,10 +47,13 @@ const TOKENS: [&str; 40] = [
     "\n",
     "E\n",
     "S\t",
+    "F\t",
     "C\t",
     "B\t",
     "j",
     "s",
+    "t",
+    "n",
     "w0",
     "w1",
     "w255",
@@ -84,7 +89,7 @@ fn tokens(r: &mut Random) -> Vec<u8> {
 /// Lines with the right tags and field counts, and fields that are mostly right, in an order that is mostly right.
 fn lines(r: &mut Random) -> Vec<u8> {
     let odd = r.pick(&[20, 100, 1_000]);
-    let mut field = |words: &[&'static str]| if r.one_in(odd) { r.pick(&TOKENS[13..]) } else { r.pick(words) };
+    let mut field = |words: &[&'static str]| if r.one_in(odd) { r.pick(&TOKENS[15..]) } else { r.pick(words) };
     let (full, sides) = (["16", "16", "32"], ["8", "8", "16"]);
     let factors = ["1", "1", "2"];
     let channels = field(&["1", "3"]);
@@ -92,6 +97,7 @@ fn lines(r: &mut Random) -> Vec<u8> {
         vec!["S", field(&full), field(&full), field(&["1", "8"]), field(&["1", "8"]), channels, field(&["j", "s"])];
     text.extend([0; 3].map(|_| field(&["0", "1", "3"])));
     text.extend([0; 6].map(|_| field(&["w0", "w1", "w255", "h3f800000", "h00000001", "h7f7fffff"])));
+    text.extend(field(&["", "\nF\tt", "\nF\tn", "\nF\tn", "\nF"]).split('\t').filter(|word| !word.is_empty()));
     for _ in 0..channels.parse().unwrap_or(1).min(3) {
         let (w, h) = (field(&sides), field(&["8"]));
         text.extend(["\n", "C", w, h, field(&factors), field(&factors)]);

@@ -267,6 +267,7 @@ fn large(r: &mut Random, (owns, joint, count, weight): (&[(u32, u32)], bool, u32
         counts: [count; 3],
         smoothing: weights,
         data: weights,
+        rounding: None,
         channels,
     }
 }

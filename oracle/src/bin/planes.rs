@@ -10,10 +10,10 @@ use artefact::AlignedF32;
 use oracle::{
     bench::best,
     floats::{any, same},
-    picture::{drawn, planes, solved},
+    picture::{drawn, nearest, planes, solved},
     probe,
     random::Random,
-    sheet::{Channel, Sheet, Weight},
+    sheet::{Channel, Rounding, Sheet, Weight},
     tally::Tally,
     texts::{fixed_runs, legal},
 };
@@ -48,7 +48,7 @@ impl Lent {
     fn read(r: &mut Random, text: &[u8]) -> Self {
         let (mut n, mut m, mut line) = (0, 0, 0);
         let measured = probe::measure(text, 512, &mut n, &mut m, &mut line);
-        let (mut levels, mut tables, mut numbers) = (vec![0; n], vec![0; m], vec![0; 27]);
+        let (mut levels, mut tables, mut numbers) = (vec![0; n], vec![0; m], vec![0; 28]);
         let read = probe::read(text, 512, &mut levels, &mut tables, &mut numbers, &mut line);
         assert_eq!((measured, read), (0, 0), "a legal text");
         let all = (numbers[4] * numbers[0] * numbers[1]) as usize;
@@ -64,7 +64,7 @@ impl Lent {
     /// By document 01 and docs/DECISIONS.md, in order: no record (8), no legal record (13), lengths (8), quantisers (4), levels (5).
     fn refusal(&self) -> u32 {
         let n = &self.numbers;
-        if n.len() != 27 {
+        if n.len() != 28 {
             return 8;
         }
         if !(n[5] <= 1 && self.is_legal()) {
@@ -122,6 +122,7 @@ impl Lent {
             counts: [n[6], n[7], n[8]],
             smoothing: weights(9),
             data: weights(12),
+            rounding: Some(if n[27] == 1 { Rounding::Nearest } else { Rounding::Truncate }),
             channels: (0..n[4] as usize).map(channel).collect(),
         }
     }
@@ -154,7 +155,7 @@ fn damage(r: &mut Random, x: &mut Lent) {
         u32::MAX,
     ];
     match r.below(10) {
-        0 => x.numbers.resize(r.pick(&[0, 1, 26, 28, 54]), 1),
+        0 => x.numbers.resize(r.pick(&[0, 1, 27, 29, 56]), 1),
         1 => x.levels.resize(longer(r, x.levels.len()), 0),
         2 => x.tables.resize(longer(r, x.tables.len()), 1),
         3 => {
@@ -217,11 +218,12 @@ fn full(r: &mut Random, side: u32, joint: bool, steps: u32) -> Sheet {
         counts: [steps; 3],
         smoothing: [300, 700, 1100].map(weight),
         data: [5, 1, 2].map(weight),
+        rounding: Some(Rounding::Nearest),
         channels,
     }
 }
 
-const FAULTS: [&str; 9] = [
+const FAULTS: [&str; 10] = [
     "the other mode",
     "the second data weight for the first",
     "one step less",
@@ -231,6 +233,7 @@ const FAULTS: [&str; 9] = [
     "another number of a refusal",
     "a byte of the picture",
     "width and height of the picture exchanged",
+    "the other rounding",
 ];
 
 /// Compares, with a fault planted in what the proved library is lent or gives; none where its name is empty.
@@ -262,7 +265,40 @@ fn compare(count: u64, seed: u64, fault: &str) -> (Tally, BTreeMap<u32, u64>) {
         let plane = solved_as(&mut tally, &mut answers, kind, &sheet, whole, fault);
         finished(&mut tally, &mut r, &sheet, plane, fault);
     }
+    if fault.is_empty() {
+        ties(&mut tally);
+    }
     (tally, answers)
+}
+
+/// Every k + 0.5 and both neighbours, as the clamped red, green or blue of a pixel: by luma alone, or luma is -128 and one product is the value.
+fn ties(tally: &mut Tally) {
+    let near = |x: f32| (0..17).map(move |i| f32::from_bits(x.to_bits() - 8 + i));
+    let product = |factor: f32, value: f32| near(value / factor).find(|x| factor * x == value);
+    for value in (0..255).flat_map(|k| {
+        let tie = (k as f32 + 0.5).to_bits();
+        [tie - 1, tie, tie + 1].map(f32::from_bits)
+    }) {
+        // the byte, and luma, cb and cr
+        let luma = Some(value - 128.0).filter(|y| y + 128.0 == value);
+        let ways = [
+            luma.map(|y| (0, [y, 0.0, 0.0])),
+            product(1.402, value).map(|cr| (0, [-128.0, 0.0, cr])),
+            product(0.34414, value).map(|cb| (1, [-128.0, -cb, 0.0])),
+            product(0.71414, value).map(|cr| (1, [-128.0, 0.0, -cr])),
+            product(1.772, value).map(|cb| (2, [-128.0, cb, 0.0])),
+        ];
+        tally.count_in("ties that a pixel can have", ways.iter().any(Option::is_some), || format!("{value}"));
+        for (byte, planes) in ways.into_iter().flatten() {
+            let planes: Vec<f32> = planes.iter().flat_map(|v| [*v; 64]).collect();
+            for rounding in [0, 1] {
+                let due = if rounding == 1 { nearest(value) } else { value as u8 };
+                let (answer, rgb) = finish(rounding, [8, 8, 1, 1, 3], &planes, 3);
+                let right = answer == 0 && rgb[byte] == due;
+                tally.count_in("ties and both neighbours", right, || format!("{value}, {rounding}: {rgb:?}"));
+            }
+        }
+    }
 }
 
 /// Solves, and holds the planes against the published ones; gives the proved planes.
@@ -311,7 +347,8 @@ fn finished(tally: &mut Tally, r: &mut Random, sheet: &Sheet, plane: Option<Vec<
         lent.swap(2, 3);
     }
     let bytes = (3 * sheet.picture_w * sheet.picture_h) as usize;
-    let (answer, mut rgb) = finish(lent, &plane, bytes);
+    let rounding = u32::from(sheet.rounds() == Rounding::Nearest) ^ u32::from(fault == "the other rounding");
+    let (answer, mut rgb) = finish(rounding, lent, &plane, bytes);
     if fault == "a byte of the picture" {
         rgb[0] ^= 1;
     }
@@ -319,8 +356,9 @@ fn finished(tally: &mut Tally, r: &mut Random, sheet: &Sheet, plane: Option<Vec<
     let due = drawn(sheet, parts.collect()).bytes;
     tally.count_in(kind, answer == 0 && rgb == due, || format!("answer {answer}, sizes {sizes:?}"));
 
-    let (mut lent, mut values, mut length) = (sizes, all, bytes);
-    match r.below(8) {
+    let (mut rounding, mut lent, mut values, mut length) = (r.below(2) as u32, sizes, all, bytes);
+    match r.below(9) {
+        2 => rounding = r.pick(&[2, 3, 116, u32::MAX]),
         0 => values = longer(r, values),
         1 => length = longer(r, length),
         _ => lent[r.below(5)] = r.pick(&[0, 1, 2, 3, 4, 8, 12, 16, 64, 512, 513, 520, u32::MAX]),
@@ -331,7 +369,7 @@ fn finished(tally: &mut Tally, r: &mut Random, sheet: &Sheet, plane: Option<Vec<
         && (1..=h).contains(&height)
         && (channels == 1 || channels == 3);
     let fits = || values == (channels * w * h) as usize && length == (3 * width * height) as usize;
-    let due = if !legal {
+    let due = if rounding > 1 || !legal {
         13
     } else if !fits() {
         8
@@ -341,16 +379,17 @@ fn finished(tally: &mut Tally, r: &mut Random, sheet: &Sheet, plane: Option<Vec<
     if due != 0 {
         let mut values = vec![0.5; values];
         values.iter_mut().zip(&plane).for_each(|(x, y)| *x = *y);
-        let (answer, rgb) = finish(lent, &values, length);
+        let (answer, rgb) = finish(rounding, lent, &values, length);
         let kept = rgb.iter().all(|byte| *byte == 7);
-        tally.count_in("pictures refused", answer == due && kept, || format!("{answer} for {due}, {lent:?}"));
+        tally
+            .count_in("pictures refused", answer == due && kept, || format!("{answer} for {due}, {rounding} {lent:?}"));
     }
 }
 
 /// The proved `finish` on bytes that are 7.
-fn finish(sizes: [u32; 5], planes: &[f32], bytes: usize) -> (u32, Vec<u8>) {
+fn finish(rounding: u32, sizes: [u32; 5], planes: &[f32], bytes: usize) -> (u32, Vec<u8>) {
     let mut rgb = vec![7; bytes];
-    let answer = probe::finish(sizes, planes, &mut rgb);
+    let answer = probe::finish(rounding, sizes, planes, &mut rgb);
     (answer, rgb)
 }
 

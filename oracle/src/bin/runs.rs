@@ -88,6 +88,7 @@ fn sheet(r: &mut Random, ([w, h], steps, joint, smoothing, data, owns): &Form) -
         counts: [*steps; 3],
         smoothing: weights(smoothing),
         data: weights(data),
+        rounding: None,
         channels: owns.iter().map(channel).collect(),
     }
 }
@@ -225,6 +226,7 @@ fn block(r: &mut Random, i: usize) -> Sheet {
         counts: [r.between(1, 20) as u32; 3],
         smoothing: [r.pick(&WEIGHTS); 3],
         data: [r.pick(&WEIGHTS); 3],
+        rounding: None,
         channels: vec![Channel { w: 8, h: 8, across: 1, down: 1, table, levels }],
     }
 }
