@@ -89,6 +89,7 @@ fn whole_example_read_and_started() {
         iterations: [0; 3],
         smoothing: [0.0; 3],
         data: [0.0; 3],
+        rounding: Rounding::Truncate,
         own: [own, Own::default(), Own::default()],
         levels,
         tables: vec![8; 64],
@@ -310,6 +311,25 @@ fn whole_example() {
     let sheet = sheet_of(&whole());
     let planes = sheet.solve().expect("legal").expect("planes");
     assert_eq!(sheet.finish(&planes), Ok(vec![0x81; 6]));
+}
+
+#[test]
+fn rounding() {
+    // line F: planes of 0.5 are 128.5 with 128 added
+    for (line, rounding, byte) in
+        [("", Rounding::Truncate, 128), ("F\tt\n", Rounding::Truncate, 128), ("F\tn\n", Rounding::Nearest, 129)]
+    {
+        let sheet = sheet_of(&whole().replacen("\nC", &format!("\n{line}C"), 1));
+        assert_eq!((sheet.rounding, sheet.numbers()[27]), (rounding, rounding as u32));
+        assert_eq!(sheet.finish(&[0.5; 64]), Ok(vec![byte; 6]));
+    }
+    // document 02: "In the example of planes 0, 0, 100 green becomes 57"
+    let planes = [[0.0; 64], [0.0; 64], [100.0; 64]].concat();
+    for (rounding, due) in [(Rounding::Truncate, [255, 56, 128]), (Rounding::Nearest, [255, 57, 128])] {
+        let mut rgb = [7; 3];
+        assert_eq!(finish_into(rounding, [8, 8, 1, 1], 3, &planes, &mut rgb), Ok(()));
+        assert_eq!(rgb, due);
+    }
 }
 
 #[test]
