@@ -1,0 +1,4 @@
+-- Laws of the definitions.
+pub mod Lists
+pub mod Tests
+pub mod Fill
