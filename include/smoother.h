@@ -169,6 +169,14 @@ uint32_t smoother_solve(const uint32_t *header, size_t header_len, const int16_t
 uint32_t smoother_finish(uint32_t rounding, uint32_t w, uint32_t h, uint32_t picture_width, uint32_t picture_height, uint32_t channels,
                          const float *planes, size_t planes_len, uint8_t *rgb, size_t rgb_len);
 
+/* ---- The archive tapes ---- */
+
+/* The levels of one channel as the tapes store them, and back. Each block of 64 stands in T.81's zigzag order, and its first value is the difference
+ * from the first level of the block before, 0 before the first block. Nothing but `out` is written.
+ * 8 unless both lengths are equal and a multiple of 64 (0 is one); 5 for a level beyond +-2,047, for smoother_restore one that it would give. */
+uint32_t smoother_rearrange(const int16_t *levels, size_t levels_len, int16_t *out, size_t out_len);
+uint32_t smoother_restore(const int16_t *stored, size_t stored_len, int16_t *out, size_t out_len);
+
 #ifdef __cplusplus
 }
 #endif

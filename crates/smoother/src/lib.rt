@@ -2,6 +2,7 @@
 pub mod runs;
 pub mod sheets;
 pub mod sizes;
+pub mod tapes;
 
 use contents::Choice;
 use contents::Limits;

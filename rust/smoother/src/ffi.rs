@@ -156,6 +156,8 @@ exports! {
     ) -> u32;
     pub fn smoother_run_bytes() -> u32;
     pub fn smoother_sheet_numbers() -> u32;
+    pub fn smoother_rearrange(levels: *const i16, levels_len: usize, out: *mut i16, out_len: usize) -> u32;
+    pub fn smoother_restore(stored: *const i16, stored_len: usize, out: *mut i16, out_len: usize) -> u32;
 }
 
 /// A call of one of them: `read x` and `write x` lend a slice, as its pointer and its length; `six b` lends the fields of `b` to be written; anything

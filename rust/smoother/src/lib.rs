@@ -20,6 +20,7 @@ mod ffi;
 mod refusal;
 mod run;
 mod sheet;
+mod tapes;
 
 pub use refusal::{Error, Fault, Refusal};
 pub use run::{
@@ -27,3 +28,4 @@ pub use run::{
     start,
 };
 pub use sheet::{Lengths, NUMBERS, Own, Rounding, Sheet, finish_into, measure, read, read_into, solve_into};
+pub use tapes::{rearrange, rearrange_into, restore, restore_into};
