@@ -1,5 +1,5 @@
 #!/bin/sh
-# Makes anew the lists of the Rust's answers that the crates `replay`, `replay_calls` and `replay_pictures` replay inside the gate, and what they must write.
+# Makes anew the lists of the Rust's answers that the crates `replay`, `replay_calls`, `replay_leaves` and `replay_pictures` replay inside the gate, and what they must write.
 set -eu
 cd "$(dirname "$0")"
 out=../crates/replay
@@ -14,6 +14,9 @@ out=../crates/replay_calls
     cargo run -q --release --bin calls -- --list 600 1
     cargo run -q --release --bin runs
 } > $out/stdin
+echo "$(wc -l < $out/stdin) same, 0 other" > $out/stdout
+out=../crates/replay_leaves
+cargo run -q --release --bin tapes -- --list 300 1 > $out/stdin
 echo "$(wc -l < $out/stdin) same, 0 other" > $out/stdout
 # texts, each after its length, and what the published Rust makes of them
 out=../crates/replay_pictures

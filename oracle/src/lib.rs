@@ -12,6 +12,7 @@ pub mod replay;
 pub mod run;
 pub mod sheet;
 pub mod tally;
+pub mod tapes;
 pub mod texts;
 
 #[path = "../stand-ins/utils/macros.rs"]
