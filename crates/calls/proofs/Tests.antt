@@ -19,6 +19,7 @@ use Rattle.start.specs.Buffers.{Buffers}
 use Rattle.calls.specs.Buffers.{Name, Plane, Prior, Gradient, Across, Down, Saved, get, Sized}
 use Rattle.calls.specs.Jobs.{Call}
 use Rattle.calls.specs.Calls.{Tests, first, test, all, allSix, lengths, levelOk, levelFault, levelsFault, tableOk, buffersLong, valuesLong, turnTests, lendTests, lentLevels, refusal}
+pub use Rattle.answers.proofs.Tests.{Passed, passed-of, first-one}
 
 pub never : {X : Type 0} (b : Bool) → b ≡ false → b ≡ true → X
 never b p q = let z : _≡_ {A = ℕ} 0 1 = cc in absurd (omega arith)
@@ -135,15 +136,6 @@ holds n b e = not-is b (silent n (not b) e)
 pub test-of : (n : ℕ) (b : Bool) → T b → test n (not b) ≡ 0
 test-of n b t = ap (test n) (not-of b t)
 
-abbrev pub Passed : Tests → Type 0
-Passed [] = Unit {0}
-Passed (t ∷ ts) = (t ≡ 0) × Passed ts
-
-pub passed-of : (ts : Tests) → first ts ≡ 0 → Passed ts
-passed-of [] e = tt
-passed-of (zero ∷ ts) e = (refl, passed-of ts e)
-passed-of (suc n ∷ ts) e = absurd (omega arith)
-
 -- tests that are passed may be left out
 pub skip : (ts us : Tests) → Passed ts → first (ts ++ us) ≡ first us
 skip [] us h = refl
@@ -154,10 +146,6 @@ pub stops : (ts us : Tests) → first ts ≢ 0 → first (ts ++ us) ≡ first ts
 stops [] us n = absurd (n refl)
 stops (zero ∷ ts) us n = stops ts us n
 stops (suc t ∷ ts) us n = refl
-
-pub first-one : (t : ℕ) → first (t ∷ []) ≡ t
-first-one zero = refl
-first-one (suc t) = refl
 
 -- ---- a list looked at value by value, from place k on: one that has a fault, and one that has none
 

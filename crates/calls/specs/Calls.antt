@@ -3,12 +3,13 @@ use Prim.Native.Nat.{ℕ, zero, suc, _*_, _/_, _%_}
 use mathlib.Core.Bool.{Bool, true, false, not, _&&_, _||_, cond}
 use mathlib.Core.List.{List, [], _∷_, _++_, map}
 use lib.ListN.{length, set, replicate}
-use lib.Dec.{leb, ltb, eqb}
-use lib.IntN.{ℤ, natAbs}
+use lib.Dec.{ltb, eqb}
+use lib.IntN.{ℤ}
 use Rattle.calls.specs.Run.{Sheet, Place, Given, fresh, place, count, area, levelsBefore, every, among, legal}
 use Rattle.start.specs.Buffers.{Buffers}
 use Rattle.calls.specs.Buffers.{Name, Plane, Prior, Gradient, Across, Down, Saved, get, channel, putChannel, joined}
 use Rattle.calls.specs.Jobs.{Job, push, fidelity, move, project, Call, on, blend, turn, blendTurn, Jobs, Seen, seen, seenAt}
+pub use Rattle.answers.specs.Tests.{Tests, first, test, all, tableOk, levelOk}
 
 -- a call's answer: the refusal's number in the table; accepted; accepted, and the channel is now marked blown
 pub data Answer : Type 0 where
@@ -27,19 +28,6 @@ pub record Called : Type 0 where
   pub after : State
 
 -- ---- refusals: what each test gives, a number of the table or 0 for none, in the order of the tests
-
-abbrev pub Tests : Type 0
-Tests = List ℕ
-
--- the first that isn't 0 counts; 0 if all are
-abbrev pub first : Tests → ℕ
-first [] = 0
-first (zero ∷ ts) = first ts
-first (suc n ∷ ts) = suc n
-
--- a number's test
-abbrev pub test : ℕ → Bool → ℕ
-test n b = cond b n 0
 
 -- 12, 10, 11, 9: by positions and marks alone; "blend names no channel"
 abbrev pub turnTests : Sheet → List Place → Call → Tests
@@ -76,18 +64,6 @@ lentLevels blend = false
 -- lengths of the buffers of these names
 abbrev pub lengths : List Name → Buffers → List ℕ
 lengths names B = map (λ b. length (get b B)) names
-
-module _ {A : Type 0} where
-  abbrev pub all : (A → Bool) → List A → Bool
-  all f [] = true
-  all f (x ∷ xs) = f x && all f xs
-
--- "quantiser not 1 to 255" is 4, "level beyond ±2,047" is 5
-abbrev pub tableOk : ℕ → Bool
-tableOk q = leb 1 q && leb q 255
-
-abbrev pub levelOk : ℤ → Bool
-levelOk d = leb (natAbs d) 2047
 
 abbrev pub levelFault : ℤ → ℕ
 levelFault d = test 5 (not (levelOk d))
