@@ -12,6 +12,7 @@ use lib.ListN.{length, getD, take}
 use lib.Seq.{take-all}
 use lib.Signed.{leZ}
 use Rattle.answers.specs.Tests.{Tests, first, test, all, levelOk}
+use Rattle.answers.specs.Lists.{listed}
 
 and-assoc : (a b c : Bool) → (a && (b && c)) ≡ (a && b && c)
 and-assoc true b c = refl
@@ -78,6 +79,50 @@ pub passed-of : (ts : Tests) → first ts ≡ 0 → Passed ts
 passed-of [] e = tt
 passed-of (zero ∷ ts) e = (refl, passed-of ts e)
 passed-of (suc n ∷ ts) e = absurd (omega arith)
+
+-- ---- two answers, and tests listed by their places
+
+pub first-two : (a b : ℕ) → a ≡ 0 → b ≡ first (a ∷ b ∷ [])
+first-two a zero e = rw e
+first-two a (suc b) e = rw e
+
+pub first-stays : (a b : ℕ) → (a ≡ 0 → ⊥) → a ≡ first (a ∷ b ∷ [])
+first-stays zero b n = absurd (n refl)
+first-stays (suc a) b n = refl
+
+pub first-one : (t : ℕ) → first (t ∷ []) ≡ t
+first-one zero = refl
+first-one (suc t) = refl
+
+-- one test more
+with-first : (v : ℕ) (xs ys : Tests) (w : ℕ) → first xs ≡ first (first ys ∷ w ∷ []) → first (v ∷ xs) ≡ first (first (v ∷ ys) ∷ w ∷ [])
+with-first zero xs ys w e = e
+with-first (suc v) xs ys w e = refl
+
+one-listed : (f : ℕ → ℕ) (n : ℕ) → first (listed f (suc n)) ≡ first (first (listed f n) ∷ f n ∷ [])
+unfolding listed
+one-listed f zero = refl
+one-listed f (suc n) =
+    let g : ℕ → ℕ = λ k. f (suc k) in
+    with-first (f zero) (listed g (suc n)) (listed g n) (g n) (one-listed g n)
+
+-- at the code's `n + 1`
+pub listed-more : (f : ℕ → ℕ) (n : ℕ) {a b r : ℕ} → a ≡ first (listed f n) → b ≡ f n → r ≡ first (a ∷ b ∷ []) → r ≡ first (listed f (n + 1))
+listed-more f n {a} {b} e g h =
+    h ∙ ap (λ (x : ℕ). first (x ∷ b ∷ [])) e ∙ ap (λ (y : ℕ). first (first (listed f n) ∷ y ∷ [])) g
+    ∙ sym (one-listed f n) ∙ ap (λ (m : ℕ). first (listed f m)) (sym (add-one n))
+
+-- no test of them gives a number
+pub each-listed : (f : ℕ → ℕ) (n : ℕ) → Passed (listed f n) → (k : ℕ) → k < n → f k ≡ 0
+unfolding listed
+each-listed f zero p k h = absurd (not-suc-le-zero h)
+each-listed f (suc n) p zero h = p .0
+each-listed f (suc n) p (suc k) h = each-listed (λ j. f (suc j)) n (p .1) k (le-of-suc-le-suc h)
+
+pub none-listed : (f : ℕ → ℕ) (n : ℕ) → ((k : ℕ) → k < n → f k ≡ 0) → first (listed f n) ≡ 0
+unfolding listed
+none-listed f zero h = refl
+none-listed f (suc n) h = rw (h zero (suc-le-suc zero-le)) (none-listed (λ j. f (suc j)) n (λ k l. h (suc k) (suc-le-suc l)))
 
 -- ---- a level's range, as the code tests it
 
