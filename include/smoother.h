@@ -14,7 +14,7 @@
  * always does; the processor rounds f32 to the nearest, ties to even, and keeps subnormals, as it does unless told otherwise.
  * Everything else is checked: a length, number, level, quantiser, position or weight that is not usable is refused.
  *
- * Answers. 0 is done. 1 to 13 is a refusal: nothing that was lent has changed, except `*line` of measure and read. 255 (project
+ * Answers. 0 is done. A number of the table is a refusal: nothing that was lent has changed, except `*line` of measure and read. 255 (project
  * and smoother_solve) is done, and the channel is now marked blown, or a channel blew in the run. */
 #ifndef SMOOTHER_H
 #define SMOOTHER_H
@@ -43,6 +43,8 @@ enum smoother_answer {
     SMOOTHER_DONE = 11,    /* the channel, or for blend any channel, has had all its steps */
     SMOOTHER_CHANNEL = 12, /* there is no such channel */
     SMOOTHER_RECORD = 13,  /* sizes, factors, weights, iterations, positions or marks of no legal record */
+    SMOOTHER_SEGMENT = 19,   /* a DQT segment with a wrong marker or stated length, or with fewer than 64 bytes left for a table */
+    SMOOTHER_PRECISION = 20, /* a table of a DQT segment with a precision other than 0 or a destination above 3 */
     SMOOTHER_NOW_BLOWN = 255 /* project: done, and the channel is now marked blown; smoother_solve: a channel blew */
 };
 
@@ -176,6 +178,22 @@ uint32_t smoother_finish(uint32_t rounding, uint32_t w, uint32_t h, uint32_t pic
  * 8 unless both lengths are equal and a multiple of 64 (0 is one); 5 for a level beyond +-2,047, for smoother_restore one that it would give. */
 uint32_t smoother_rearrange(const int16_t *levels, size_t levels_len, int16_t *out, size_t out_len);
 uint32_t smoother_restore(const int16_t *stored, size_t stored_len, int16_t *out, size_t out_len);
+
+/* ---- Tables from a JPEG file ---- */
+
+/* Four tables of 64 quantisers, one after the other by destination, each row by row; and the bytes of the segment that has all four. */
+#define SMOOTHER_QUANTISERS 256
+#define SMOOTHER_DQT 264
+
+/* Stores the tables of a DQT marker segment of T.81 B.2.4.1, from its FF DB to its stated length, at their destinations. A later table for a destination
+ * replaces an earlier one; a destination that the segment does not name keeps its table, which is not looked at.
+ * 8 unless tables_len is SMOOTHER_QUANTISERS; 19 for a wrong marker or stated length; then table by table 20, 19 for one cut short, and 4 for a
+ * quantiser of 0. A refusal leaves all four tables as they were. */
+uint32_t smoother_dqt_import(const uint8_t *segment, size_t segment_len, uint16_t *tables, size_t tables_len);
+
+/* Writes the four tables as one segment, destinations rising. 8 unless the lengths are SMOOTHER_QUANTISERS and SMOOTHER_DQT; 4 for a quantiser that
+ * is not 1 to 255. A refusal leaves `out` as it was. */
+uint32_t smoother_dqt_export(const uint16_t *tables, size_t tables_len, uint8_t *out, size_t out_len);
 
 #ifdef __cplusplus
 }

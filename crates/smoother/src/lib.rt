@@ -1,5 +1,6 @@
 // The library for C and Rust: each public call as a C function. A call answers the number of document 01's table, 0 where nothing is refused.
 pub mod runs;
+pub mod segments;
 pub mod sheets;
 pub mod sizes;
 pub mod tapes;

@@ -158,6 +158,8 @@ exports! {
     pub fn smoother_sheet_numbers() -> u32;
     pub fn smoother_rearrange(levels: *const i16, levels_len: usize, out: *mut i16, out_len: usize) -> u32;
     pub fn smoother_restore(stored: *const i16, stored_len: usize, out: *mut i16, out_len: usize) -> u32;
+    pub fn smoother_dqt_import(segment: *const u8, segment_len: usize, tables: *mut u16, tables_len: usize) -> u32;
+    pub fn smoother_dqt_export(tables: *const u16, tables_len: usize, out: *mut u8, out_len: usize) -> u32;
 }
 
 /// A call of one of them: `read x` and `write x` lend a slice, as its pointer and its length; `six b` lends the fields of `b` to be written; anything

@@ -19,6 +19,7 @@ macro_rules! exports {
 mod ffi;
 mod refusal;
 mod run;
+mod segments;
 mod sheet;
 mod tapes;
 
@@ -27,5 +28,6 @@ pub use run::{
     Answers, Buffers, Channel, Job, Outcome, Run, blend, call, data, move_plane, project, push, serve, serve_numbers,
     start,
 };
+pub use segments::{QUANTISERS, SEGMENT, dqt_export, dqt_export_into, dqt_import};
 pub use sheet::{Lengths, NUMBERS, Own, Rounding, Sheet, finish_into, measure, read, read_into, solve_into};
 pub use tapes::{rearrange, rearrange_into, restore, restore_into};

@@ -18,20 +18,29 @@ pub enum Refusal {
     Done,
     Channel,
     Record,
+    Segment = 19,
+    Precision,
 }
 
 use Refusal::*;
 
 impl Refusal {
-    pub const ALL: [Self; 13] =
-        [Form, Size, Factor, Table, Level, Weight, Cut, Length, Turn, Blown, Done, Channel, Record];
+    pub const ALL: [Self; 15] =
+        [Form, Size, Factor, Table, Level, Weight, Cut, Length, Turn, Blown, Done, Channel, Record, Segment, Precision];
 
     pub const fn number(self) -> u32 {
         self as u32
     }
 
     pub const fn of_number(number: u32) -> Option<Self> {
-        if number >= 1 && number <= 13 { Some(Self::ALL[number as usize - 1]) } else { None }
+        let mut k = 0;
+        while k < Self::ALL.len() {
+            if Self::ALL[k].number() == number {
+                return Some(Self::ALL[k]);
+            }
+            k += 1;
+        }
+        None
     }
 
     pub const fn word(self) -> &'static str {
@@ -49,6 +58,8 @@ impl Refusal {
             Done => "done",
             Channel => "channel",
             Record => "record",
+            Segment => "segment",
+            Precision => "precision",
         }
     }
 
@@ -69,6 +80,10 @@ impl Refusal {
             Done => "the channel has had all its steps",
             Channel => "there is no such channel",
             Record => "sizes, factors, weights, iterations, positions or marks of no legal record",
+            Segment => {
+                "a DQT segment with a wrong marker or stated length, or with fewer than 64 bytes left for a table"
+            }
+            Precision => "a table of a DQT segment with a precision other than 0 or a destination above 3",
         }
     }
 }

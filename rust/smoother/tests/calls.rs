@@ -154,14 +154,28 @@ fn reading_into_wrong_lengths() {
 
 #[test]
 fn table_of_refusals() {
-    for (i, refusal) in Refusal::ALL.into_iter().enumerate() {
-        assert_eq!(refusal.number() as usize, i + 1);
+    let numbers: Vec<u32> = (1..=13).chain([19, 20]).collect();
+    assert_eq!(Refusal::ALL.map(Refusal::number).to_vec(), numbers);
+    for refusal in Refusal::ALL {
         assert_eq!(Refusal::of_number(refusal.number()), Some(refusal));
     }
     assert_eq!([0, 14, 255].map(Refusal::of_number), [None; 3]);
     let words = [
-        "form", "size", "factor", "table", "level", "weight", "cut", "length", "turn", "blown", "done", "channel",
+        "form",
+        "size",
+        "factor",
+        "table",
+        "level",
+        "weight",
+        "cut",
+        "length",
+        "turn",
+        "blown",
+        "done",
+        "channel",
         "record",
+        "segment",
+        "precision",
     ];
     assert_eq!(Refusal::ALL.map(Refusal::word), words);
 }
