@@ -10,6 +10,7 @@ pub mod program;
 pub mod random;
 pub mod replay;
 pub mod run;
+pub mod segments;
 pub mod sheet;
 pub mod tally;
 pub mod tapes;

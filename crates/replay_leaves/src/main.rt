@@ -1,12 +1,28 @@
 // Replays calls on lent slices: each line of standard input has a call, what it is lent, and the answer and values that the oracle's own gives.
 // Writes how many of the lines have what the proved code gives, and how many have another.
+mod segments;
 mod tapes;
 
 use words::Tally;
+use words::byte_at;
 use words::line_end;
 use words::refill;
 ghost use Prim.Native.Nat.{_≤_};
 ghost use lib.ListN.{length};
+
+// Whether the line at `at` has what the proved code gives. The first letter tells the crate's call.
+fn same_line(s: &[u8], at: usize) -> bool
+    requires { ⌜ at ≤ length (now s) ⌝ }
+{
+    let first = byte_at(s, at, 0);
+    if first == b'i' {
+        return segments::same_import_line(s, at);
+    }
+    if first == b'e' {
+        return segments::same_export_line(s, at);
+    }
+    tapes::same_line(s, at)
+}
 
 // The tally after some lines, and where the first line that has no end yet starts.
 struct Counted {
@@ -29,7 +45,7 @@ fn count_lines(s: &[u8], to: usize, tally: Tally) -> Counted
                 at: at,
             };
         }
-        so_far = so_far.with(tapes::same_line(s, at));
+        so_far = so_far.with(same_line(s, at));
         at = e + 1;
     }
     Counted {

@@ -1,0 +1,18 @@
+use Prim.Native.Nat.{_≤_, _-_}
+use lib.ListN.{length}
+use borrow.Author.Needs.{needs}
+use Rattle.replay_leaves.proofs.segments.same_tables.Statement.{statement}
+use Rattle.replay_leaves.proofs.segments.same_tables.Tie as tie
+
+abbrev Inv-loop : tie.InvT-loop
+Inv-loop s i xs at₀ n₀ n-end at n = (n ≤ n-end) × (at ≤ length s)
+
+abbrev μ-loop : tie.MeasureT-loop
+μ-loop s i xs at₀ n₀ n-end at n = n-end - n
+
+pub same-tables-spec : {M : Type 1} → statement M
+same-tables-spec =
+    tie.close
+    (tie.spec Inv-loop μ-loop (λ c. search needs) (λ c. search needs) (λ c. search needs) (λ c κs. search needs)
+    (λ c κs. search needs) (λ c. search needs) (λ c κs. search needs) (λ c. search needs) (λ c. search needs)
+    (λ c. search needs) (λ c. search needs))
