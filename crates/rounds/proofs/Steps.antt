@@ -33,7 +33,7 @@ use Rattle.record.specs.declared.Answer.the-variants.{Refused, Done, Blown}
 use Rattle.record.specs.Model.{sheetOf, placesOf, givenOf, answerOf}
 use Rattle.record.proofs.Placed.{sheet-stays, places-placed}
 use Rattle.run.specs.Public.{Result, result, gave, stateOf, callOf}
-use Rattle.serve.specs.Serve.{numbered}
+use Rattle.numbered.specs.Numbered.{numbered}
 use Rattle.rounds.specs.Whole.{blowsAt}
 use Rattle.rounds.specs.Rounds.{AllAt, passed, Within, turns, roundBlows, RoundAsks, RoundIs}
 

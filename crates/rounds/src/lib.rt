@@ -1,9 +1,9 @@
 // A run from its start to its last job, in rounds: a round makes one job for every channel.
+use numbered::job_value;
 use record::Answer;
 use record::Answered;
 use record::Run;
 use run::values::start_value;
-use serve::jobs::job_value;
 ghost use mathlib.Core.Path.{_≡_};
 ghost use Rattle.record.specs.Model.{givenOf, answerOf};
 ghost use Rattle.rounds.specs.Whole.{six, runOf, Ends, RunIs};

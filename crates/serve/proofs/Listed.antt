@@ -20,7 +20,8 @@ use Rattle.record.specs.Model.{placesOf, givenOf, placed, answerOf}
 use Rattle.record.proofs.Placed.{placed-same, sheet-stays, places-placed, placed-twice}
 use Rattle.run.specs.Public.{Result, gave, stateOf, callOf}
 use Rattle.calls.proofs.Tests.{all-anywhere}
-use Rattle.serve.specs.Serve.{numbered, callList, allJobs, byteOf, GaveNumber, Listed, ran, listOf}
+use Rattle.numbered.specs.Numbered.{numbered}
+use Rattle.serve.specs.Serve.{callList, allJobs, byteOf, GaveNumber, Listed, ran, listOf}
 
 -- ---- places keep their number
 

@@ -1,3 +1,3 @@
--- A list of calls on a run: each call by its numbers, and what the whole list gives.
+-- A list of calls on a run, and what it gives.
 pub mod Serve
 pub mod Made

@@ -1,4 +1,4 @@
--- A call by its numbers, and a list of calls on a fresh run, with demand 3 of document 01 as its contract.
+-- A list of calls on a fresh run, with demand 3 of document 01 as its contract.
 use Prim.Native.Nat.{ℕ, zero, suc, _<_}
 use mathlib.Core.Path.{_≡_}
 use mathlib.Core.Logic.{_≢_}
@@ -18,19 +18,8 @@ use Rattle.demand.specs.Solver.{jobs}
 use Rattle.record.specs.declared.Run.{Run}
 use Rattle.record.specs.declared.Answer.{Answer}
 use Rattle.record.specs.Model.{placesOf, givenOf, placed, answerOf}
-use Rattle.run.specs.Public.{Result, gave, stateOf, callOf}
-
--- A call by two numbers. The job's number is the remainder modulo 5 at which it is the next: "0 push to 4 project".
-abbrev pub numbered : ℕ → ℕ → Call
-numbered zero c = on push c
-numbered (suc zero) c = on fidelity c
-numbered (suc (suc zero)) c = blend
-numbered (suc (suc (suc zero))) c = on move c
-numbered (suc (suc (suc (suc k)))) c = on project c
-
--- what the call of these two numbers gives
-abbrev pub NumberedIs : Run → ℕ → ℕ → List ℤ → List ℕ → Buffers → Answer → Run → Buffers → Type 0
-NumberedIs r job c levels tables B a r′ B′ = callOf r (numbered job c) levels tables B ≡ gave a r′ B′
+use Rattle.run.specs.Public.{Result, stateOf}
+use Rattle.numbered.specs.Numbered.{numbered}
 
 -- ---- a list of calls
 

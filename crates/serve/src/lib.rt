@@ -1,5 +1,4 @@
-// A call of any job by its numbers, and a list of calls on a fresh run, whose contract is demand 3 of document 01.
-pub mod jobs;
+// A list of calls on a fresh run, whose contract is demand 3 of document 01.
 mod lists;
 
 use record::Answer;

@@ -83,7 +83,7 @@ pub fn list_value(
 {
     let mut last = run;
     for i in 0..jobs.len() {
-        let answered = crate::jobs::job_value(
+        let answered = numbered::job_value(
             last,
             jobs[i],
             channels[i],

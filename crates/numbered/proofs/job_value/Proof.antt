@@ -3,8 +3,8 @@ use mathlib.Core.Path.{_≡_}
 use native.Mathlib.Omega.{arith}
 use Rattle.start.specs.Buffers.{Buffers}
 use borrow.Author.Needs.{needs}
-use Rattle.serve.proofs.jobs.job_value.Statement.{statement}
-use Rattle.serve.proofs.jobs.job_value.Tie as tie
+use Rattle.numbered.proofs.job_value.Statement.{statement}
+use Rattle.numbered.proofs.job_value.Tie as tie
 
 returns : tie.Need-returns
 returns c =

@@ -1,11 +1,11 @@
-// One call of any job, by the job's number and the channel's.
+// One call of any job, by the job's number and the channel's: for the crates that make many calls. The public calls are those of `run`.
 use record::Answered;
 use record::Run;
 ghost use Prim.Native.Nat.{_<_};
-ghost use Rattle.serve.specs.Serve.{NumberedIs};
+ghost use Rattle.numbered.specs.Numbered.{NumberedIs};
 
-// The call of job 0 push, 1 data, 2 blend, 3 move or 4 project, lent all that any of them is lent. For the functions that make many calls; it is
-// asked for a job's number only. Rules out: the job of another number made.
+// The call of job 0 push, 1 data, 2 blend, 3 move or 4 project, lent all that any of them is lent. It is asked for a job's number
+// only. Rules out: the job of another number made.
 pub fn job_value(
     run: Run,
     job: u8,

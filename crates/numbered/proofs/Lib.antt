@@ -1,0 +1,1 @@
+-- The proof of `job_value`.

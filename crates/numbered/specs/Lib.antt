@@ -1,0 +1,2 @@
+-- A call of a run by its numbers.
+pub mod Numbered
