@@ -9,10 +9,10 @@ use Rattle.fold.proofs.Loops.{upto-keeps}
 use Rattle.float.specs.Names.{f0}
 use Rattle.utils.proofs.Lengths.{upsample-length}
 use Rattle.start.specs.declared.coef.Own.{Own}
-use Rattle.start.specs.Coef.{Coef, blockCount, dequantise, dequantiseAt, imageData, initDctTarget, change, changeAt, changeRow}
+use Rattle.start.specs.Coef.{Coef, blockCount, dequantise, dequantiseAt, initDctTarget, change, changeAt, changeRow}
 use Rattle.start.specs.Auxiliary.{initPixels}
 
-dequantise-length : (levels : List ℤ) (table : List ℕ) (i : ℕ) (out : List Float) → length (dequantise levels table i out) ≡ length out
+pub dequantise-length : (levels : List ℤ) (table : List ℕ) (i : ℕ) (out : List Float) → length (dequantise levels table i out) ≡ length out
 unfolding dequantise
 dequantise-length levels table i out = upto-keeps length (dequantiseAt levels table i) (λ k a. simp length-set) 64 out
 
@@ -20,11 +20,10 @@ pub initDctTarget-length : (C : Coef) (out : List Float) → length (initDctTarg
 unfolding initDctTarget
 initDctTarget-length C out = upto-keeps length (dequantise (C .levels) (C .table)) (dequantise-length (C .levels) (C .table)) (blockCount (C .own)) out
 
-pub initPixels-length : (C : Coef) (W H : ℕ) → length (initPixels C W H) ≡ W * H
+pub initPixels-length : (image : List Float) (o : Own) (W H : ℕ) → length (initPixels image o W H) ≡ W * H
 unfolding initPixels
-initPixels-length C W H =
-    let o = C .own in
-    upsample-length (imageData C) (o .width) (o .height) (o .horizontal) (o .vertical) W H (replicate (W * H) f0) ∙ length-replicate (W * H) f0
+initPixels-length image o W H =
+    upsample-length image (o .width) (o .height) (o .horizontal) (o .vertical) W H (replicate (W * H) f0) ∙ length-replicate (W * H) f0
 
 -- what is done to each place of an own sample
 pub change-length : (f : Float → Float) (o : Own) (W cy cx : ℕ) (p : List Float) → length (change f o W cy cx p) ≡ length p

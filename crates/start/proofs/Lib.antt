@@ -2,3 +2,5 @@
 pub mod Cover
 pub mod Lengths
 pub mod Writes
+pub mod Examples
+pub mod Once

@@ -7,15 +7,17 @@ use lib.Ieee.{Float}
 use Rattle.float.specs.Names.{f0}
 use Rattle.utils.specs.Auxiliary.{upsamplePixels}
 use Rattle.start.specs.Buffers.{Buffers}
-use Rattle.start.specs.Coef.{Coef, imageData, initDctTarget}
+use Rattle.start.specs.Coef.{Coef, imageOf, initDctTarget}
+use Rattle.start.specs.declared.coef.Own.{Own}
+use Rattle.start.specs.declared.coef.Reorder.{Reorder}
 
--- init_pixels_into, onto zeros: full sides W and H
-unfoldable pub initPixels : Coef → ℕ → ℕ → List Float
-initPixels C W H =
-    let o = C .own in
-    upsamplePixels (imageData C) (o .width) (o .height) (o .horizontal) (o .vertical) W H (replicate (W * H) f0)
+-- init_pixels_into of an image, onto zeros: full sides W and H
+unfoldable pub initPixels : List Float → Own → ℕ → ℕ → List Float
+initPixels image o W H =
+    upsamplePixels image (o .width) (o .height) (o .horizontal) (o .vertical) W H (replicate (W * H) f0)
 
-unfoldable pub auxInit : Coef → ℕ → ℕ → Buffers
-auxInit C W H =
+unfoldable pub auxInit : Reorder → Coef → ℕ → ℕ → Buffers
+auxInit R C W H =
+    let start = initPixels (imageOf R C) (C .own) W H in
     let zeros = replicate (W * H) f0 in
-    record { plane = initPixels C W H; prior = initPixels C W H; gradient = zeros; across = zeros; down = zeros; saved = initDctTarget C zeros }
+    record { plane = start; prior = start; gradient = zeros; across = zeros; down = zeros; saved = initDctTarget C zeros }

@@ -11,6 +11,8 @@ use Rattle.utils.specs.Blocks.{fromBlocks, onBlock}
 use Rattle.utils.specs.Dct.{idct8x8}
 use Rattle.interval.specs.Interval.{dequantised}
 use Rattle.start.specs.declared.coef.Own.{Own}
+use Rattle.start.specs.declared.coef.Reorder.{Reorder}
+use Rattle.start.specs.declared.coef.Reorder.the-variants.{Each, Once}
 
 -- ScalarCoef: own sides (rounded_px_w, rounded_px_h) and factors (horizontal, vertical), levels (dct_coefs) and quantisers (quant_table) as
 -- whole numbers
@@ -60,6 +62,30 @@ imageData C = upto (imageBlock C) (blockCount (C .own)) (replicate (pxCount (C .
 -- init_dct_target_into
 unfoldable pub initDctTarget : Coef → List Float → List Float
 initDctTarget C out = upto (dequantise (C .levels) (C .table)) (blockCount (C .own)) out
+
+-- M-102's start: all blocks dequantised and transformed, and then the plane is reordered once
+unfoldable pub imageOnce : Coef → List Float
+imageOnce C =
+    let o = C .own in
+    let x = upto (onBlock idct8x8) (blockCount o) (initDctTarget C (replicate (pxCount o) f0)) in
+    fromBlocks (o .width) (blockW o) (blockH o) x x
+
+-- the image that a channel starts with
+abbrev pub imageOf : Reorder → Coef → List Float
+imageOf Each C = imageData C
+imageOf Once C = imageOnce C
+
+-- ---- what the image reordered once is
+
+-- the values of the levels of block i
+unfoldable pub blockValues : Coef → ℕ → List Float
+blockValues C i = upto (λ j out. set out j (dequantised (levelAt (C .levels) (i * 64 + j)) (quantAt (C .table) j))) 64 (replicate 64 f0)
+
+-- T.81's placement with `idct8x8` as its transform: row 8 by + r, column 8 bx + k of the own plane holds value 8 r + k of block by × (w / 8) + bx
+pub record Placement (C : Coef) (image : List Float) : Type 0 where
+  pub long : length image ≡ pxCount (C .own)
+  pub at : (by bx r k : ℕ) → by < blockH (C .own) → bx < blockW (C .own) → r < 8 → k < 8
+      → val image ((by * 8 + r) * C .own .width + (bx * 8 + k)) ≡ val (idct8x8 (blockValues C (by * blockW (C .own) + bx))) (r * 8 + k)
 
 -- the place in the full plane, of width W, of the subsample (sx, sy) of the own sample (cx, cy)
 abbrev pub spot : Own → ℕ → ℕ → ℕ → ℕ → ℕ → ℕ

@@ -1,11 +1,12 @@
 // auxiliary.rs, `Aux::init`: a channel's buffers at the start.
 use crate::coef;
 use crate::coef::Own;
+use crate::coef::Reorder;
 ghost use mathlib.Core.Path.{_≡_};
 ghost use Prim.Native.Nat.{_*_};
 ghost use lib.ListN.{length, replicate};
 ghost use Rattle.float.specs.Names.{f0};
-ghost use Rattle.start.specs.Coef.{Covers, Lent, coef, initDctTarget};
+ghost use Rattle.start.specs.Coef.{Covers, Lent, coef, imageOf, initDctTarget};
 ghost use Rattle.start.specs.Auxiliary.{initPixels, auxInit};
 
 // AlignedF32::zeros(n).
@@ -25,14 +26,15 @@ fn init_pixels(
     o: Own,
     w: usize,
     h: usize,
+    reorder: Reorder,
     levels: &[i16],
     table: &[u16],
 )
     requires { ⌜ Covers o w h × Lent o (now levels) (now table) × (length (now plane) ≡ w * h)
         × (length (now image) ≡ o .width * o .height) × (length (now scratch) ≡ o .width * o .height) ⌝ }
-    ensures { λ _. ⌜ now (plane .exit) ≡ initPixels (coef o (now (levels .entry)) (now (table .entry))) w h ⌝ }
+    ensures { λ _. ⌜ now (plane .exit) ≡ initPixels (imageOf reorder (coef o (now (levels .entry)) (now (table .entry)))) o w h ⌝ }
 {
-    coef::image_data(image, scratch, o, levels, table);
+    coef::image_of(image, scratch, o, reorder, levels, table);
     zeros(plane, w * h);
     utils::auxiliary::upsample_pixels(
         &image[..],
@@ -64,12 +66,13 @@ fn init_planes(
     o: Own,
     w: usize,
     h: usize,
+    reorder: Reorder,
     levels: &[i16],
     table: &[u16],
 )
     requires { ⌜ Covers o w h × Lent o (now levels) (now table) × (length (now plane) ≡ w * h) × (length (now prior) ≡ w * h)
         × (length (now across) ≡ w * h) × (length (now down) ≡ w * h) ⌝ }
-    ensures { λ _. ⌜ (now (plane .exit) ≡ initPixels (coef o (now (levels .entry)) (now (table .entry))) w h)
+    ensures { λ _. ⌜ (now (plane .exit) ≡ initPixels (imageOf reorder (coef o (now (levels .entry)) (now (table .entry)))) o w h)
         × (now (prior .exit) ≡ now (plane .exit)) × (now (across .exit) ≡ replicate (w * h) f0) × (now (down .exit) ≡ replicate (w * h) f0) ⌝ }
 {
     let area = w * h;
@@ -81,6 +84,7 @@ fn init_planes(
         o,
         w,
         h,
+        reorder,
         levels,
         table,
     );
@@ -90,7 +94,7 @@ fn init_planes(
 }
 
 // Start of one channel, on its part of each buffer.
-// Rules out: the image reordered once, and values left over in a buffer.
+// Rules out: the other order of the image, and values left over in a buffer.
 pub fn start(
     plane: &mut [f32],
     prior: &mut [f32],
@@ -101,6 +105,7 @@ pub fn start(
     o: Own,
     w: usize,
     h: usize,
+    reorder: Reorder,
     levels: &[i16],
     table: &[u16],
 )
@@ -114,9 +119,9 @@ pub fn start(
       down = now (down .exit);
       saved = now (saved .exit);
     }
-        ≡ auxInit (coef o (now (levels .entry)) (now (table .entry))) w h ⌝ }
+        ≡ auxInit reorder (coef o (now (levels .entry)) (now (table .entry))) w h ⌝ }
 {
     init_saved(saved, o, w, h, levels, table);
     zeros(gradient, w * h);
-    init_planes(plane, prior, across, down, o, w, h, levels, table);
+    init_planes(plane, prior, across, down, o, w, h, reorder, levels, table);
 }

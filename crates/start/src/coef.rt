@@ -2,7 +2,7 @@
 ghost use mathlib.Core.Path.{_≡_};
 ghost use Prim.Native.Nat.{_+_, _*_, _/_, _^_, _<_, _≤_};
 ghost use lib.ListN.{length};
-ghost use Rattle.start.specs.Coef.{Covers, Eights, Lent, coef, dequantise, imageBlock, imageData, initDctTarget, spot};
+ghost use Rattle.start.specs.Coef.{Covers, Eights, Lent, coef, dequantise, imageBlock, imageData, imageOnce, imageOf, initDctTarget, spot};
 
 // A channel's own sides and its factors.
 pub struct Own {
@@ -10,6 +10,12 @@ pub struct Own {
     pub height: usize,
     pub horizontal: usize,
     pub vertical: usize,
+}
+
+// When the image is reordered: after each block, as the Rust does, or once after all of them (M-102).
+pub enum Reorder {
+    Each,
+    Once,
 }
 
 // The blocks of a channel: 64 values each, as many as its own plane has.
@@ -69,7 +75,7 @@ fn image_block(
 
 // The channel's pixels in its own sides. Above width 8 the image is reordered after each block.
 // Rules out: the image reordered once, after the last block, and values that `image` held before.
-pub fn image_data(image: &mut [f32], scratch: &mut [f32], o: Own, levels: &[i16], table: &[u16])
+fn image_data(image: &mut [f32], scratch: &mut [f32], o: Own, levels: &[i16], table: &[u16])
     requires { ⌜ Eights o × Lent o (now levels) (now table)
         × (length (now image) ≡ o .width * o .height) × (length (now scratch) ≡ o .width * o .height) ⌝ }
     ensures { λ _. ⌜ now (image .exit) ≡ imageData (coef o (now (levels .entry)) (now (table .entry))) ⌝ }
@@ -90,6 +96,41 @@ pub fn init_dct_target(out: &mut [f32], o: Own, levels: &[i16], table: &[u16])
     let n = block_count(o);
     for i in 0..n {
         dequantise(out, levels, table, i);
+    }
+}
+
+// The channel's pixels in its own sides, reordered once: T.81's placement.
+fn image_once(image: &mut [f32], scratch: &mut [f32], o: Own, levels: &[i16], table: &[u16])
+    requires { ⌜ Eights o × Lent o (now levels) (now table)
+        × (length (now image) ≡ o .width * o .height) × (length (now scratch) ≡ o .width * o .height) ⌝ }
+    ensures { λ _. ⌜ now (image .exit) ≡ imageOnce (coef o (now (levels .entry)) (now (table .entry))) ⌝ }
+{
+    let w = o.width;
+    let h = o.height;
+    let n = block_count(o);
+    utils::slices::zero(image);
+    init_dct_target(image, o, levels, table);
+    utils::dct::idct_blocks(image, n);
+    utils::slices::copy(&image[..], scratch);
+    utils::blocks::from_blocks(&scratch[..], image, w, h, w / 8, h / 8);
+}
+
+// Either image. Rules out: with `Once` a reordering after each block, and none with `Each`.
+pub fn image_of(
+    image: &mut [f32],
+    scratch: &mut [f32],
+    o: Own,
+    reorder: Reorder,
+    levels: &[i16],
+    table: &[u16],
+)
+    requires { ⌜ Eights o × Lent o (now levels) (now table)
+        × (length (now image) ≡ o .width * o .height) × (length (now scratch) ≡ o .width * o .height) ⌝ }
+    ensures { λ _. ⌜ now (image .exit) ≡ imageOf reorder (coef o (now (levels .entry)) (now (table .entry))) ⌝ }
+{
+    match reorder {
+        Reorder::Each => image_data(image, scratch, o, levels, table),
+        Reorder::Once => image_once(image, scratch, o, levels, table),
     }
 }
 

@@ -1,5 +1,5 @@
 -- Laws of `from_blocks` and `to_blocks`: which value stands where, and that each undoes the other.
-use mathlib.Core.Path.{_≡_, ap, _∙_, sym}
+use mathlib.Core.Path.{_≡_, refl, ap, _∙_, sym}
 use mathlib.Core.Logic.{⊎-elim}
 use mathlib.Core.List.{List}
 use Prim.Native.Nat.{ℕ, _+_, _*_, _/_, _%_, _<_, _≤_}
@@ -181,3 +181,10 @@ module _ (w h bw bh : ℕ) (across : w ≡ bw * 8) (down : h ≡ bh * 8) where
         let m : p < w * h = omega (arith, fromBlocks-length w bw bh (toBlocks w bw bh input between) output) in
         from-place (toBlocks w bw bh input between) output (omega arith) p m
         ∙ to-place input between (omega arith) (blockPlace w bw p) (block-in p m) ∙ ap (val input) (raster-block p m))
+
+-- With one block to a line both orders are the same.
+pub from-one : (bh : ℕ) (x : List Float) → length x ≡ 8 * (bh * 8) → fromBlocks 8 1 bh x x ≡ x
+from-one bh x n =
+    let long = fromBlocks-length 8 1 bh x x in
+    ext-getD nan (fromBlocks 8 1 bh x x) x long
+    (λ p l. from-place 8 (bh * 8) 1 bh refl refl x x (omega arith) p (omega arith) ∙ ap (val x) (omega arith))

@@ -14,8 +14,9 @@ use Rattle.steps.specs.declared.solve.Constants.{Constants}
 use Rattle.steps.proofs.Laws.{moved-length, push-plane-length, push-prior-length}
 use Rattle.gradients.specs.Tv.{Terms}
 use Rattle.gradients.proofs.Laws.{blended-across-length, blended-down-length, blended-gradient-length}
+use Rattle.start.specs.declared.coef.Reorder.{Reorder}
 use Rattle.start.specs.Buffers.{Buffers}
-use Rattle.start.specs.Coef.{Coef, Covers, levelAt, pxCount, quantAt}
+use Rattle.start.specs.Coef.{Coef, Covers, imageOf, levelAt, pxCount, quantAt}
 use Rattle.start.specs.Auxiliary.{auxInit}
 use Rattle.projection.specs.Projection.{projectOntoBox, transformed}
 use Rattle.projection.specs.Blown.{bad}
@@ -30,14 +31,14 @@ use Rattle.work.specs.Work.{CoefsIn, Legal, CoefIn, blending, boxOf, dat
 
 -- ---- lengths
 
-pub starting-sized : (C : Coef) (W H : ℕ) → Sized (W * H) (starting C W H)
+pub starting-sized : (R : Reorder) (C : Coef) (W H : ℕ) → Sized (W * H) (starting R C W H)
 unfolding auxInit
-starting-sized C W H Plane = initPixels-length C W H
-starting-sized C W H Prior = initPixels-length C W H
-starting-sized C W H Gradient = length-replicate (W * H) f0
-starting-sized C W H Across = length-replicate (W * H) f0
-starting-sized C W H Down = length-replicate (W * H) f0
-starting-sized C W H Saved = initDctTarget-length C (replicate (W * H) f0) ∙ length-replicate (W * H) f0
+starting-sized R C W H Plane = initPixels-length (imageOf R C) (C .own) W H
+starting-sized R C W H Prior = initPixels-length (imageOf R C) (C .own) W H
+starting-sized R C W H Gradient = length-replicate (W * H) f0
+starting-sized R C W H Across = length-replicate (W * H) f0
+starting-sized R C W H Down = length-replicate (W * H) f0
+starting-sized R C W H Saved = initDctTarget-length C (replicate (W * H) f0) ∙ length-replicate (W * H) f0
 
 pub pushing-sized : (n : ℕ) (k : Constants) (b : Buffers) → Sized n b → Sized n (pushing k b)
 unfolding pushing
@@ -120,9 +121,9 @@ projecting-leaves C W H b = (refl, refl)
 -- ---- intervals
 
 module _ (C : Coef) (W H : ℕ) (cover : Covers (C .own) W H) (legal : Legal C) where
-  pub starting-in : CoefsIn C (starting C W H)
+  pub starting-in : (R : Reorder) → CoefsIn C (starting R C W H)
   unfolding auxInit
-  starting-in k l =
+  starting-in R k l =
       let zeros = replicate (W * H) f0 in
       let d = levelAt (C .levels) k in
       let q = quantAt (C .table) (k % 64) in

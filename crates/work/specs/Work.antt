@@ -8,15 +8,16 @@ use Rattle.steps.specs.declared.solve.Constants.{Constants}
 use Rattle.steps.specs.Solve.{pushed}
 use Rattle.steps.specs.Step.{moved}
 use Rattle.gradients.specs.Blend.{blended}
+use Rattle.start.specs.declared.coef.Reorder.{Reorder}
 use Rattle.start.specs.Buffers.{Buffers}
 use Rattle.start.specs.Coef.{Coef, levelAt, pxCount, quantAt}
 use Rattle.start.specs.Auxiliary.{auxInit}
 use Rattle.fidelity.specs.DctGradient.{dataGradient}
 use Rattle.projection.specs.Projection.{Box, projectOntoBox}
 
--- start, of a channel with the coefficients C, at full sides W and H: "plane and prior are the upsampled start, saved coefficients are level × quantiser, other values 0"
-abbrev pub starting : Coef → ℕ → ℕ → Buffers
-starting C W H = auxInit C W H
+-- start, of a channel with the coefficients C, at full sides W and H, reordered as R says: "plane and prior are the upsampled start, saved coefficients are level × quantiser, other values 0"
+abbrev pub starting : Reorder → Coef → ℕ → ℕ → Buffers
+starting R C W H = auxInit R C W H
 
 -- 1, push
 unfoldable pub pushing : Constants → Buffers → Buffers

@@ -5,7 +5,7 @@ use Rattle.start.proofs.auxiliary.init_pixels.Tie as tie
 
 returns : tie.Need-returns
 unfolding initPixels
-returns c = rw (← c .before .before .before .before .before .before .before .before .before .before .before .before .before .image-data .ensures, ← c .before .before .before .before .before .before .before .zeros .ensures) (c .before .before .upsample-pixels .ensures)
+returns c = rw (← c .before .before .before .before .before .before .before .before .before .before .before .before .before .image-of .ensures, ← c .before .before .before .before .before .before .before .zeros .ensures) (c .before .before .upsample-pixels .ensures)
 
 pub init-pixels-spec : {M : Type 1} → statement M
 init-pixels-spec =
