@@ -6,6 +6,7 @@ use Prim.Native.Nat.{ℕ}
 use lib.IntN.{pos}
 use lib.ListN.{replicate}
 use lib.Ieee.{Float, nan, fin}
+use Rattle.start.specs.declared.coef.Reorder.the-variants.{Each}
 use Rattle.projection.specs.Blown.{isBlown}
 use Rattle.calls.specs.Run.{Sheet, Place, Given, weight, ownOk, headerOk, sheetOk, placeOk, placesOk}
 use Rattle.calls.specs.Buffers.{make, channel, joined}
@@ -21,6 +22,7 @@ sheet n N =
       H = 8;
       N = N;
       smoothing = w;
+      reorder = Each;
       count = n;
       owns = replicate n (record { width = 8; height = 8; across = 1; down = 1; data-weight = w });
     }

@@ -7,6 +7,7 @@ use lib.ListN.{length, getD}
 use lib.Dec.{leb, ltb, eqb}
 use lib.IntN.{ℤ, pos}
 use lib.Ieee.{Float, nan, inf, fin}
+use Rattle.start.specs.declared.coef.Reorder.{Reorder}
 
 -- a channel's own numbers: its sides, its factors and its data weight
 pub record Numbers : Type 0 where
@@ -16,12 +17,13 @@ pub record Numbers : Type 0 where
   pub down : ℕ
   pub data-weight : Float
 
--- full width and height, iterations, smoothing weight, and the channels: how many, and their own numbers
+-- full width and height, iterations, smoothing weight, the letter of M-102's line `A`, which only start looks at, and the channels: how many, and their own numbers
 pub record Sheet : Type 0 where
   pub W : ℕ
   pub H : ℕ
   pub N : ℕ
   pub smoothing : Float
+  pub reorder : Reorder
   pub count : ℕ
   pub owns : List Numbers
 

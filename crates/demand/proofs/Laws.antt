@@ -106,11 +106,11 @@ blending-in G step c B i = i
 pub laws : Laws jobs
 laws =
     record {
-      start-sized = λ G ok c h. Solver-laws.starting-sized (coefOf G c) (G .sheet .W) (G .sheet .H);
+      start-sized = λ G ok c h. Solver-laws.starting-sized (G .sheet .reorder) (coefOf G c) (G .sheet .W) (G .sheet .H);
       start-in =
           λ G ok c h k l.
-          saved-in G ok c h (starting (coefOf G c) (G .sheet .W) (G .sheet .H)) k l
-          (Solver-laws.starting-in (coefOf G c) (G .sheet .W) (G .sheet .H) (covers G ok c h) (legal G ok c h) k (rw (coef-count G c) l));
+          saved-in G ok c h (starting (G .sheet .reorder) (coefOf G c) (G .sheet .W) (G .sheet .H)) k l
+          (Solver-laws.starting-in (coefOf G c) (G .sheet .W) (G .sheet .H) (covers G ok c h) (legal G ok c h) (G .sheet .reorder) k (rw (coef-count G c) l));
       work-sized = λ j G ok c step h b z. work-sized j G c step b z;
       push-in = λ G ok c step h b z i. stays G c b (work push G c step b) (Solver-laws.pushing-saved (constantsOf (G .sheet) step) b) i;
       fidelity-in =

@@ -31,7 +31,7 @@ work project G c step b = projecting (coefOf G c) (G .sheet .W) (G .sheet .H) b
 abbrev pub jobs : Jobs
 jobs =
     record {
-      start = λ G c. starting (coefOf G c) (G .sheet .W) (G .sheet .H);
+      start = λ G c. starting (G .sheet .reorder) (coefOf G c) (G .sheet .W) (G .sheet .H);
       work = work;
       blending = λ G step B. blending (G .sheet .W) (G .sheet .H) (count G) (constantsOf (G .sheet) step) B;
     }

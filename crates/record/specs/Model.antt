@@ -24,7 +24,7 @@ placeOf c = record { position = c .position; mark = c .mark }
 
 -- the sheet's half, with these own numbers of the channels
 abbrev pub sheetWith : Run → List Numbers → Sheet
-sheetWith r os = record { W = r .w; H = r .h; N = r .n; smoothing = r .smoothing; count = r .count; owns = os }
+sheetWith r os = record { W = r .w; H = r .h; N = r .n; smoothing = r .smoothing; reorder = r .reorder; count = r .count; owns = os }
 
 abbrev pub sheetOf : Run → Sheet
 sheetOf r = sheetWith r (map ownOf (take (r .count) (r .channels)))
@@ -47,7 +47,7 @@ channelOk S ps c = ownOk S (own S c) && placeOk S (place ps c) && eqb (blendsIn 
 -- ---- the struct with other channels, and with other places: channel by channel, as long as there are places; the rest of it stays
 
 abbrev pub withChannels : Run → List Channel → Run
-withChannels r cs = record { w = r .w; h = r .h; n = r .n; smoothing = r .smoothing; count = r .count; channels = cs }
+withChannels r cs = record { w = r .w; h = r .h; n = r .n; smoothing = r .smoothing; reorder = r .reorder; count = r .count; channels = cs }
 
 abbrev pub withPlace : Channel → Place → Channel
 withPlace c p =

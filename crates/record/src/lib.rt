@@ -4,6 +4,7 @@ pub mod places;
 pub mod refusals;
 pub mod scans;
 
+use start::coef::Reorder;
 ghost use mathlib.Core.Path.{_≡_};
 
 // A channel of the run: own sides, factors across and down, data weight, position and mark.
@@ -18,13 +19,14 @@ pub struct Channel {
     pub mark: bool,
 }
 
-// The run's record: W, H, N, the smoothing weight, and its channels, the first `count` of three.
-#[repr(C)]
+// The run's record: W, H, N, the smoothing weight, the letter of line A, and its channels, the first `count` of three. Every value of the letter is
+// legal, and only start looks at it.
 pub struct Run {
     pub w: u32,
     pub h: u32,
     pub n: u32,
     pub smoothing: f32,
+    pub reorder: Reorder,
     pub count: u32,
     pub channels: [Channel; 3],
 }
