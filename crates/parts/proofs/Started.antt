@@ -30,7 +30,7 @@ module _ (r : Run) (c : ℕ) (levels : List ℤ) (tables : List ℕ) (B : Buffer
       → {o : Sides.Own} → o ≡ sides r c
       → {ls : List ℤ} → ls ≡ part levels (levelsBefore (sheetOf r) c) (levelsBefore (sheetOf r) c + coefs (sheetOf r) c)
       → {ts : List ℕ} → ts ≡ part tables (c * 64) (c * 64 + 64)
-      → {x : Buffers} → x ≡ auxInit (coef o ls ts) (r .w) (r .h)
+      → {x : Buffers} → x ≡ auxInit (r .reorder) (coef o ls ts) (r .w) (r .h)
       → record {
         plane = splice (B .plane) from to (x .plane);
         prior = splice (B .prior) from to (x .prior);
@@ -43,7 +43,7 @@ module _ (r : Run) (c : ℕ) (levels : List ℤ) (tables : List ℕ) (B : Buffer
   unfolding putChannel coefOf
   part-started f t o l s e =
       λ i.
-      let x : Buffers = (e ∙ (λ j. auxInit (coef (o j) (l j) (s j)) (r .w) (r .h))) i in
+      let x : Buffers = (e ∙ (λ j. auxInit (r .reorder) (coef (o j) (l j) (s j)) (r .w) (r .h))) i in
       record {
         plane = splice (B .plane) (f i) (t i) (x .plane);
         prior = splice (B .prior) (f i) (t i) (x .prior);
@@ -67,7 +67,7 @@ six-long n B p q g a d s Saved = s
 
 start-sized : (G : Given) (c : ℕ) → Sized (area G) (jobs .start G c)
 start-sized G c =
-    starting-sized (coefOf G c) (G .sheet .W) (G .sheet .H)
+    starting-sized (G .sheet .reorder) (coefOf G c) (G .sheet .W) (G .sheet .H)
 
 module _ (G : Given) (B : Buffers) (long : Sized (count G * area G) B) where
   -- the six after the first k channels

@@ -185,6 +185,7 @@ pub fn start_part(
     let ts = table_of(run, c, tables);
     let w = run.w as usize;
     let h = run.h as usize;
+    let reorder = run.reorder;
     start::auxiliary::start(
         &mut plane[from..to],
         &mut prior[from..to],
@@ -195,6 +196,7 @@ pub fn start_part(
         o,
         w,
         h,
+        reorder,
         ls,
         ts,
     );

@@ -97,7 +97,7 @@ part-start-start-6 : tie.Need-part-start-start-6
 part-start-start-6 c = search needs
 
 part-start-end-6 : tie.Need-part-start-end-6
-part-start-end-6 c = search needs
+part-start-end-6 c = search (needs, c .before .before .before .before .before .before .before .before .before .before .before .before .before .before .before .before .before .before .pre)
 
 start-requires : tie.Need-start-requires
 start-requires c κs =
