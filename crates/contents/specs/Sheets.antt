@@ -42,7 +42,7 @@ noHeader =
     }
 
 abbrev pub noSettings : Settings
-noSettings = record { rounding = choice.Unsaid }
+noSettings = record { rounding = choice.Unsaid; start = choice.Unsaid }
 
 abbrev pub noChannel : Channel
 noChannel = record { width = 0; height = 0; across = 0; down = 0 }

@@ -47,9 +47,10 @@ pub enum Choice {
     Second,
 }
 
-// The settings: F, the rounding, t or n.
+// The settings: F, the rounding, t or n; A, the start, m or o.
 pub struct Settings {
     pub rounding: Choice,
+    pub start: Choice,
 }
 
 // A sheet but for its levels and quantisers. With one channel the second and third are zero.

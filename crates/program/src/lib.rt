@@ -19,7 +19,7 @@ ghost use Rattle.output.specs.Output.{Wrote};
 ghost use Rattle.program.specs.Printed.{limits, roundingOf, painted, sheetText, printed, mostPrinted, printedInto, SixLong};
 
 // So many bytes of a text decide what is printed for it: `decisive 32`.
-const DECISIVE: usize = 20457;
+const DECISIVE: usize = 20461;
 // No text that is printed takes more bytes: `mostPrinted`.
 const MOST_PRINTED: usize = 7242;
 

@@ -2,53 +2,47 @@
 use Prim.Native.Nat.{ℕ, zero, suc, _+_, _-_, _*_, _/_, _<_, _≤_}
 use mathlib.Core.Path.{_≡_, refl, sym, ap, _∙_}
 use mathlib.Core.List.{List, [], _∷_, _++_, map, append-nil, append-assoc}
-use mathlib.Core.Bool.{Bool, true, false, cond}
+use mathlib.Core.Bool.{Bool, true, false, cond, _&&_}
 use mathlib.Core.Option.{none}
 use native.Mathlib.Omega.{arith}
-use lib.ListN.{length, getD, take, drop, replicate, length-drop, drop-of-length-le}
-use lib.Seq.{drop-cons, drop-drop, take-append-seam, drop-append-seam}
+use lib.ListN.{length, getD, take, drop, replicate, length-drop}
+use lib.Seq.{drop-drop, take-append-seam, drop-append-seam}
 use lib.IntN.{ℤ}
-use borrow.Author.Tests.{ne-eqb}
+use lib.Dec.{eqb, ltb}
+use borrow.Author.Tests.{eqb-true, ltb-true}
 use Rattle.text.specs.declared.field.Rule.the-variants as rule
 use Rattle.text.specs.Pieces.{split}
 use Rattle.text.specs.Numbers.{numberAt}
 use Rattle.text.specs.Weights.{weightAt}
-use Rattle.text.specs.Fields.{letter, fieldOf, faultIn}
+use Rattle.text.specs.Fields.{fieldOf, faultIn}
 use Rattle.text.specs.Written.{levelText}
 use Rattle.digits.specs.Written.{decimal, joined}
 use Rattle.text.proofs.GoodLaws.{quantiser-good, level-good}
-use Rattle.text.proofs.JoinLaws.{joined-split, ended-split}
+use Rattle.text.proofs.JoinLaws.{ended-split}
+use Rattle.digits.proofs.Both.{both-left, both-right}
 use Rattle.text.proofs.SizeLaws.{tag-as, range-as, side-as, channels-as, letters-as, weight-as, quantiser-as, level-as}
 use Rattle.contents.specs.declared.Limits.{Limits}
-use Rattle.contents.specs.declared.Choice.{Choice}
-use Rattle.contents.specs.declared.Choice.the-variants as choice
 use Rattle.contents.specs.declared.Header.{Header}
 use Rattle.contents.specs.declared.Channel.{Channel}
 use Rattle.contents.specs.declared.Settings.{Settings}
 use Rattle.contents.specs.declared.Sheet.{Sheet}
 use Rattle.sheet.specs.declared.state.State.{State}
 use Rattle.sheet.specs.declared.state.Taken.the-variants as taken
-use Rattle.sheet.specs.Lines.{headerRules, roundingRules, choiceOf, channelRules, blockRules, endRules, rulesOf, firstFault, lineLevels, lineTables, headerOf, channelOf, recordOf}
+use Rattle.sheet.specs.Lines.{headerRules, channelRules, blockRules, endRules, rulesOf, firstFault, lineLevels, lineTables, headerOf, channelOf, recordOf}
 use Rattle.contents.specs.Sheets.{Held, held, channelsOf}
-use Rattle.sheet.specs.Reading.{Contents, contents, headed, blank, mayRound, lineTag, rounded, placed, opened, covers, takenOf, nothingLeft, onTaken, readFrom, allowed, readText}
+use Rattle.sheet.specs.Reading.{Contents, contents, headed, blank, lastSaid, lineTag, withSetting, settled, placed, opened, covers, takenOf, nothingLeft, onTaken, readFrom, allowed, readText}
 use Rattle.sheet.specs.Reading.Outcome.{Gives, Refused}
-use Rattle.sheet.specs.Written.{headerFields, channelFields, blockFields, endFields, choiceLines, settingLines, blockLines, channelLines, written}
+use Rattle.sheet.specs.Written.{headerFields, channelFields, blockFields, endFields, settingLines, blockLines, channelLines, written}
 use Rattle.sheet.specs.Accepts.{Accepts}
-use Rattle.sheet.proofs.StateLaws.{Stands, stands, unbegun, first-tag, said}
-use Rattle.sheet.proofs.StateLaws.Stands.{Header-line, Rounding-line, Block-line, Channel-line, End-line}
-use Rattle.sheet.proofs.GoodLines.{or-left, or-right, fault-at, fault-drop, tables-without, levels-without, channel-tables, block-levels, all-quantisers, all-levels}
-use Rattle.sheet.proofs.LegalLaws.{header-is-legal, channel-is-legal, few, blocks, line-is, refusal, legal}
+use Rattle.sheet.proofs.StateLaws.{SettingTag, Stands, stands, unbegun, first-tag}
+use Rattle.sheet.proofs.StateLaws.Stands.{Header-line, Setting-line, Block-line, Channel-line, End-line}
+use Rattle.sheet.proofs.GoodLines.{or-left, or-right, fault-at, fault-drop, tables-without, levels-without, channel-tables, block-levels, all-quantisers, all-levels, field-at, no-more, row-as}
+use Rattle.sheet.proofs.SettingLaws.{placeOf, Agree, linesAfter, now-said, none-after, one-line, one-kept}
+use Rattle.sheet.proofs.LegalLaws.{header-is-legal, channel-is-legal, few, blocks, line-is, setting-read, refusal, legal}
 use Rattle.sheet.proofs.RoundTrip.{during, placedAll, round-trip}
 use Rattle.sheet.proofs.PrefixLaws.{not-unended}
 
 -- Good lines are written so
-
--- field i, and those after it
-field-at : (fs : List (List ℕ)) (i : ℕ) (g : List ℕ) (gs : List (List ℕ)) → i < length fs → g ≡ getD fs i [] → gs ≡ drop (suc i) fs → g ∷ gs ≡ drop i fs
-field-at fs i g gs h e q = rw (e, q, drop-cons fs i [] h)
-
-no-more : (fs : List (List ℕ)) (i : ℕ) → length fs ≤ i → [] ≡ drop i fs
-no-more fs i h = sym (drop-of-length-le fs {i = i} h)
 
 header-as : (limits : Limits) (fs : List (List ℕ)) → length fs ≡ 16 → firstFault (headerRules limits fs) fs ≡ none → headerFields (headerOf fs) ≡ fs
 unfolding headerOf numberAt weightAt
@@ -114,19 +108,6 @@ block-as fs n e =
 end-as : (fs : List (List ℕ)) → length fs ≡ 1 → firstFault (rule.Tag 69 ∷ []) fs ≡ none → endFields ≡ fs
 end-as fs n e = field-at fs 0 _ _ (omega arith) (tag-as (getD fs 0 []) 69 (fault-at (rule.Tag 69 ∷ []) fs 0 e (omega arith) (omega arith))) (no-more fs 1 (omega arith))
 
-rounding-as : (fs : List (List ℕ)) → length fs ≡ 2 → firstFault roundingRules fs ≡ none → (70 ∷ []) ∷ (cond (letter 116 (getD fs 1 [])) 116 110 ∷ []) ∷ [] ≡ fs
-rounding-as fs n e =
-    field-at fs 0 _ _ (omega arith) (tag-as (getD fs 0 []) 70 (fault-at roundingRules fs 0 e (omega arith) (omega arith)))
-    (field-at fs 1 _ _ (omega arith) (letters-as (getD fs 1 []) 116 110 (fault-at roundingRules fs 1 e (omega arith) (omega arith))) (no-more fs 2 (omega arith)))
-
-choice-line : (x : Bool) → choiceLines 70 116 110 (cond x choice.First choice.Second) ≡ joined ((70 ∷ []) ∷ (cond x 116 110 ∷ []) ∷ []) ∷ []
-choice-line true = refl
-choice-line false = refl
-
--- a line by its fields
-row-as : (p : List ℕ) (fs : List (List ℕ)) → fs ≡ split 9 p → joined fs ≡ p
-row-as p fs e = ap joined e ∙ joined-split p
-
 -- The lines that are still to come: n blocks, then the channels cs, with these levels and tables
 abbrev rows : ℕ → List Channel → List ℤ → List ℕ → List (List ℕ)
 rows n cs zs us = blockLines n zs ++ (channelLines cs (held (drop (64 * n) zs) us) ++ joined endFields ∷ [] ∷ [])
@@ -164,11 +145,11 @@ record Under (s : State) : Type 0 where
   upto : s .read ≤ s .sheet .header .channels
 
 module _ (limits : Limits) (p : List ℕ) (rest : List (List ℕ)) (C : Contents)
-    (ih : (s : State) (H : Held) (k : ℕ) → Under s → mayRound s ≡ false → readFrom limits s H k rest ≡ Gives C → Rest s H rest C) (s : State) (H : Held) (k : ℕ) (b : Under s) where
+    (ih : (s : State) (H : Held) (k : ℕ) → Under s → 0 < s .read → readFrom limits s H k rest ≡ Gives C → Rest s H rest C) (s : State) (H : Held) (k : ℕ) (b : Under s) where
   fs : List (List ℕ)
   fs = split 9 p
 
-  block-rest : mayRound s ≡ false → 0 < s .left → lineTag s (split 9 p) ≡ 66 → readFrom limits s H k (p ∷ rest) ≡ Gives C → Rest s H (p ∷ rest) C
+  block-rest : 0 < s .read → 0 < s .left → lineTag s (split 9 p) ≡ 66 → readFrom limits s H k (p ∷ rest) ≡ Gives C → Rest s H (p ∷ rest) C
   unfolding rulesOf takenOf recordOf fs
   block-rest m u g e =
       let l = line-is blockRules k p rest _ C (rw g at e) in
@@ -210,7 +191,7 @@ module _ (limits : Limits) (p : List ℕ) (rest : List (List ℕ)) (C : Contents
       covered true i n f o =
           let good = channel-is-legal (s .sheet .header) (split 9 p) n f i in
           let a = all-quantisers 64 (drop 5 (split 9 p)) (length-drop 5 (split 9 p) ∙ omega arith) (fault-drop 5 channelRules (split 9 p) f) in
-          let r = ih (opened s c) (held (H .levels) (H .tables ++ qs)) (k + 1) (record { begun = refl; upto = omega arith }) (rw (ne-eqb (s .read + 1) 0 (λ q. omega arith))) o in
+          let r = ih (opened s c) (held (H .levels) (H .tables ++ qs)) (k + 1) (record { begun = refl; upto = omega arith }) (omega arith) o in
           let z : 0 ≡ s .left = omega arith in
           record {
             cs = c ∷ r .cs;
@@ -252,60 +233,74 @@ module _ (limits : Limits) (p : List ℕ) (rest : List (List ℕ)) (C : Contents
       last ([] ∷ (r ∷ ps)) w o q f = refusal 7 (k + 1) C o
       last ((x ∷ r) ∷ ps) w o q f = refusal 7 (k + 1) C o
 
-  any-rest : mayRound s ≡ false → readFrom limits s H k (p ∷ rest) ≡ Gives C → Rest s H (p ∷ rest) C
+  any-rest : 0 < s .read → readFrom limits s H k (p ∷ rest) ≡ Gives C → Rest s H (p ∷ rest) C
   any-rest m e = by (stands s (split 9 p) (lineTag s (split 9 p)) refl)
     where
       by : Stands s (lineTag s (split 9 p)) → Rest s H (p ∷ rest) C
       by (Header-line q g) = unbegun s (b .begun) q
-      by (Rounding-line q g) = let z : _≡_ {A = ℕ} 0 1 = cc in let y : ⊥ = omega arith in absurd y
+      by (Setting-line i q g) =
+          let z : s .read ≡ 0 = eqb-true (s .read) 0 (both-left (eqb (s .read) 0) (ltb (lastSaid (s .sheet .settings)) i) (both-right (s .begun) (eqb (s .read) 0 && ltb (lastSaid (s .sheet .settings)) i) q)) in
+          let y : ⊥ = omega arith in absurd y
       by (Block-line q u g) = block-rest m u g e
       by (Channel-line q u v g) = channel-rest u v g e
       by (End-line q u v g) = end-rest u v g e
 
-rest-from : (limits : Limits) (ps : List (List ℕ)) (C : Contents) (s : State) (H : Held) (k : ℕ) → Under s → mayRound s ≡ false → readFrom limits s H k ps ≡ Gives C → Rest s H ps C
+rest-from : (limits : Limits) (ps : List (List ℕ)) (C : Contents) (s : State) (H : Held) (k : ℕ) → Under s → 0 < s .read → readFrom limits s H k ps ≡ Gives C → Rest s H ps C
 rest-from limits [] C s H k b m e = refusal 7 k C e
 rest-from limits (p ∷ rest) C s H k b m e = any-rest limits p rest C (rest-from limits rest C) s H k b m e
 
--- After the header: a setting's line, or none
-record Opening (h : Header) (ps : List (List ℕ)) (C : Contents) : Type 0 where
-  r : Choice
+-- After the header and the settings of the sheet t: the lines of more settings, or none
+record Opening (t : Sheet) (ps : List (List ℕ)) (C : Contents) : Type 0 where
+  y : Settings
   later : List (List ℕ)
-  lines : ps ≡ choiceLines 70 116 110 r ++ later
-  rest : Rest (during (rounded (headed h) r) 0 0) (held [] []) later C
+  lines : ps ≡ linesAfter (lastSaid (t .settings)) y ++ later
+  agree : Agree (lastSaid (t .settings)) (t .settings) y
+  rest : Rest (during (settled t y) 0 0) (held [] []) later C
 
-opening : (limits : Limits) (h : Header) (ps : List (List ℕ)) (C : Contents) → readFrom limits (during (headed h) 0 0) (held [] []) 2 ps ≡ Gives C → Opening h ps C
-unfolding rulesOf takenOf recordOf
-opening limits h [] C e = refusal 7 2 C e
-opening limits h (p ∷ rest) C e = by (stands s (split 9 p) (lineTag s (split 9 p)) refl)
-  where
-    s : State
-    s = during (headed h) 0 0
+module _ (limits : Limits) (p : List ℕ) (rest : List (List ℕ)) (C : Contents)
+    (ih : (t : Sheet) (k : ℕ) → readFrom limits (during t 0 0) (held [] []) k rest ≡ Gives C → Opening t rest C) (t : Sheet) (k : ℕ)
+    (e : readFrom limits (during t 0 0) (held [] []) k (p ∷ rest) ≡ Gives C) where
+  no-setting : Rest (during t 0 0) (held [] []) (p ∷ rest) C → Opening t (p ∷ rest) C
+  no-setting r =
+      record {
+        y = t .settings;
+        later = p ∷ rest;
+        lines = ap (λ (q : List (List ℕ)). q ++ p ∷ rest) (sym (none-after (t .settings)));
+        agree = record { rounding = λ q. refl; start = λ q. refl };
+        rest = r;
+      }
 
-    u : Under s
-    u = record { begun = refl; upto = omega arith }
+  one-setting : (i : ℕ) → lastSaid (t .settings) < i → SettingTag i (lineTag (during t 0 0) (split 9 p)) → Opening t (p ∷ rest) C
+  one-setting i h g =
+      let x : Settings = t .settings in
+      let r = setting-read limits (during t 0 0) (held [] []) k i p rest C g e in
+      let z = r .x in
+      let u : lastSaid x < placeOf z = omega (arith, h, r .place) in
+      let o = ih (settled t (withSetting x z)) (k + 1) (r .more) in
+      let n = now-said x z p u (r .row) in
+      let a : Agree (placeOf z) (withSetting x z) (o .y) = rw n at (o .agree) in
+      record {
+        y = o .y;
+        later = o .later;
+        lines =
+            ap (λ (q : List (List ℕ)). p ∷ q) (o .lines ∙ ap (λ (m : ℕ). linesAfter m (o .y) ++ o .later) n)
+            ∙ ap (λ (q : List (List ℕ)). q ++ o .later) (sym (one-line x (o .y) p z u (r .row) a));
+        agree = one-kept x (o .y) p z u a;
+        rest = o .rest;
+      }
 
-    unset : Rest s (held [] []) (p ∷ rest) C → Opening h (p ∷ rest) C
-    unset r = record { r = choice.Unsaid; later = p ∷ rest; lines = refl; rest = r }
+  opening-line : Stands (during t 0 0) (lineTag (during t 0 0) (split 9 p)) → Opening t (p ∷ rest) C
+  opening-line (Header-line q g) = unbegun (during t 0 0) refl q
+  opening-line (Setting-line i q g) = one-setting i (ltb-true (lastSaid (t .settings)) i q) g
+  opening-line (Block-line q v g) = let y : ⊥ = omega arith in absurd y
+  opening-line (Channel-line q v w g) =
+      no-setting (channel-rest limits p rest C (rest-from limits rest C) (during t 0 0) (held [] []) k (record { begun = refl; upto = omega arith }) v w g e)
+  opening-line (End-line q v w g) =
+      no-setting (end-rest limits p rest C (rest-from limits rest C) (during t 0 0) (held [] []) k (record { begun = refl; upto = omega arith }) v w g e)
 
-    by : Stands s (lineTag s (split 9 p)) → Opening h (p ∷ rest) C
-    by (Header-line q g) = unbegun s refl q
-    by (Rounding-line q g) =
-        let l = line-is roundingRules 2 p rest _ C (rw g at e) in
-        let fs = split 9 p in
-        let x = letter 116 (getD fs 1 []) in
-        record {
-          r = choiceOf 116 (getD fs 1 []);
-          later = rest;
-          lines =
-              ap (λ (q : List ℕ). q ∷ rest) (sym (row-as p ((70 ∷ []) ∷ (cond x 116 110 ∷ []) ∷ []) (rounding-as fs (l .count) (l .fault))))
-              ∙ sym (ap (λ (q : List (List ℕ)). q ++ rest) (choice-line x));
-          rest =
-              rest-from limits rest C (during (rounded (headed h) (choiceOf 116 (getD fs 1 []))) 0 0) (held [] []) 3 (record { begun = refl; upto = omega arith }) (said x)
-              (rw (levels-without roundingRules fs refl, tables-without roundingRules fs refl) at (l .more));
-        }
-    by (Block-line q v g) = let y : ⊥ = omega arith in absurd y
-    by (Channel-line q v w g) = unset (channel-rest limits p rest C (rest-from limits rest C) s (held [] []) 2 u v w g e)
-    by (End-line q v w g) = unset (end-rest limits p rest C (rest-from limits rest C) s (held [] []) 2 u v w g e)
+opening : (limits : Limits) (ps : List (List ℕ)) (C : Contents) (t : Sheet) (k : ℕ) → readFrom limits (during t 0 0) (held [] []) k ps ≡ Gives C → Opening t ps C
+opening limits [] C t k e = refusal 7 k C e
+opening limits (p ∷ rest) C t k e = opening-line limits p rest C (opening limits rest C) t k e (stands (during t 0 0) (split 9 p) (lineTag (during t 0 0) (split 9 p)) refl)
 
 -- The header's line, and the whole text
 
@@ -317,7 +312,7 @@ header-kept : (s : Sheet) (j : ℕ) (cs : List Channel) → placedAll s j cs .he
 header-kept s j [] = refl
 header-kept s j (c ∷ cs) = header-kept (placed s j c) (j + 1) cs
 
-in-use : (h : Header) (r : Choice) (cs : List Channel) → length cs ≡ h .channels → h .channels ≤ 3 → channelsOf (placedAll (rounded (headed h) r) 0 cs) ≡ cs
+in-use : (h : Header) (r : Settings) (cs : List Channel) → length cs ≡ h .channels → h .channels ≤ 3 → channelsOf (placedAll (settled (headed h) r) 0 cs) ≡ cs
 in-use h r [] e k = rw (← e)
 in-use h r (a ∷ []) e k = rw (← e)
 in-use h r (a ∷ (b ∷ [])) e k = rw (← e)
@@ -326,7 +321,7 @@ in-use h r (a ∷ (b ∷ (c ∷ (d ∷ cs)))) e k = let y : ⊥ = omega arith in
 
 -- the pieces of a text with these contents
 abbrev Pieces : Contents → List (List ℕ) → Type 0
-Pieces C ps = ps ≡ joined (headerFields (C .sheet .header)) ∷ (settingLines (C .sheet) ++ (channelLines (channelsOf (C .sheet)) (C .held) ++ joined endFields ∷ [] ∷ []))
+Pieces C ps = ps ≡ joined (headerFields (C .sheet .header)) ∷ (settingLines (C .sheet .settings) ++ (channelLines (channelsOf (C .sheet)) (C .held) ++ joined endFields ∷ [] ∷ []))
 
 pieces-are : (limits : Limits) (ps : List (List ℕ)) (C : Contents) → readFrom limits blank (held [] []) 1 ps ≡ Gives C → Pieces C ps
 unfolding rulesOf takenOf recordOf
@@ -335,15 +330,15 @@ pieces-are limits (p ∷ rest) C e =
     let l = line-is (headerRules limits (split 9 p)) 1 p rest _ C (rw (first-tag (split 9 p)) at e) in
     let fs = split 9 p in
     let h = headerOf fs in
-    let o = opening limits h rest C (rw (levels-without (headerRules limits fs) fs refl, tables-without (headerRules limits fs) fs refl) at (l .more)) in
+    let o = opening limits rest C (headed h) 2 (rw (levels-without (headerRules limits fs) fs refl, tables-without (headerRules limits fs) fs refl) at (l .more)) in
     let r = o .rest in
-    let t = rounded (headed h) (o .r) in
+    let t = settled (headed h) (o .y) in
     let same : C .sheet .header ≡ h = ap (λ (s : Sheet). s .header) (sym (r .sheet)) ∙ header-kept t 0 (r .cs) in
-    let set : C .sheet .settings .rounding ≡ o .r = ap (λ (s : Sheet). s .settings .rounding) (sym (r .sheet)) ∙ ap (λ (x : Settings). x .rounding) (settings-kept t 0 (r .cs)) in
-    let used : channelsOf (C .sheet) ≡ r .cs = ap channelsOf (sym (r .sheet)) ∙ in-use h (o .r) (r .cs) (omega (arith, r .count)) (few limits h (header-is-legal limits fs (l .count) (l .fault))) in
+    let set : C .sheet .settings ≡ o .y = ap (λ (s : Sheet). s .settings) (sym (r .sheet)) ∙ settings-kept t 0 (r .cs) in
+    let used : channelsOf (C .sheet) ≡ r .cs = ap channelsOf (sym (r .sheet)) ∙ in-use h (o .y) (r .cs) (omega (arith, r .count)) (few limits h (header-is-legal limits fs (l .count) (l .fault))) in
     let kept : C .held ≡ held (r .zs) (r .us) = λ i. held (sym (r .levels) i) (sym (r .tables) i) in
-    (λ i. sym (row-as p (headerFields h) (header-as limits fs (l .count) (l .fault))) i ∷ (o .lines ∙ ap (λ (q : List (List ℕ)). choiceLines 70 116 110 (o .r) ++ q) (r .lines)) i)
-    ∙ sym (λ i. joined (headerFields (same i)) ∷ (choiceLines 70 116 110 (set i) ++ (channelLines (used i) (kept i) ++ joined endFields ∷ [] ∷ [])))
+    (λ i. sym (row-as p (headerFields h) (header-as limits fs (l .count) (l .fault))) i ∷ (o .lines ∙ ap (λ (q : List (List ℕ)). settingLines (o .y) ++ q) (r .lines)) i)
+    ∙ sym (λ i. joined (headerFields (same i)) ∷ (settingLines (set i) ++ (channelLines (used i) (kept i) ++ joined endFields ∷ [] ∷ [])))
 
 -- An accepted text is the written text of its contents
 pub canonical : (limits : Limits) (text : List ℕ) (s : Sheet) (H : Held) → readText limits text ≡ contents s H → text ≡ written s H
@@ -353,10 +348,10 @@ canonical limits text s H e = two (allowed limits) e
     by : readFrom limits blank (held [] []) 1 (split 10 text) ≡ contents s H → text ≡ written s H
     by o =
         let cs = channelLines (channelsOf s) H in
-        sym (ended-split text (joined (headerFields (s .header)) ∷ (settingLines s ++ (cs ++ joined endFields ∷ [])))
+        sym (ended-split text (joined (headerFields (s .header)) ∷ (settingLines (s .settings) ++ (cs ++ joined endFields ∷ [])))
         (pieces-are limits (split 10 text) (record { sheet = s; held = H }) o
         ∙ ap (λ (q : List (List ℕ)). joined (headerFields (s .header)) ∷ q)
-        (sym (append-assoc (settingLines s) (cs ++ joined endFields ∷ []) ([] ∷ []) ∙ ap (λ (q : List (List ℕ)). settingLines s ++ q) (append-assoc cs (joined endFields ∷ []) ([] ∷ []))))))
+        (sym (append-assoc (settingLines (s .settings)) (cs ++ joined endFields ∷ []) ([] ∷ []) ∙ ap (λ (q : List (List ℕ)). settingLines (s .settings) ++ q) (append-assoc cs (joined endFields ∷ []) ([] ∷ []))))))
 
     two : (b : Bool) → cond b (readFrom limits blank (held [] []) 1 (split 10 text)) (Refused 2 0) ≡ contents s H → text ≡ written s H
     two true o = by o

@@ -168,15 +168,19 @@ bad-limit : (answer 0 (text whole) ≡ (2, 0)) × (answer 12 (text whole) ≡ (2
 unfolding answer
 bad-limit = (refl, refl, refl)
 
+-- these lines directly after `S`
+abbrev after-S : List (List (List ℕ)) → List ℕ
+after-S rows = text (take 1 whole ++ rows ++ drop 1 whole)
+
 -- M-100: `F` only directly after `S`, once, with `t` or `n`
 rounding : answers 32 (
-    text (take 1 whole ++ (b "F" ∷ b "t" ∷ []) ∷ drop 1 whole)
-    ∷ text (take 1 whole ++ (b "F" ∷ b "n" ∷ []) ∷ drop 1 whole)
-    ∷ text (take 1 whole ++ (b "F" ∷ b "n" ∷ []) ∷ (b "F" ∷ b "n" ∷ []) ∷ drop 1 whole)
+    after-S ((b "F" ∷ b "t" ∷ []) ∷ [])
+    ∷ after-S ((b "F" ∷ b "n" ∷ []) ∷ [])
+    ∷ after-S ((b "F" ∷ b "n" ∷ []) ∷ (b "F" ∷ b "n" ∷ []) ∷ [])
     ∷ text ((b "F" ∷ b "n" ∷ []) ∷ whole)
     ∷ text (take 2 whole ++ (b "F" ∷ b "n" ∷ []) ∷ drop 2 whole)
-    ∷ text (take 1 whole ++ (b "F" ∷ b "x" ∷ []) ∷ drop 1 whole)
-    ∷ text (take 1 whole ++ (b "F" ∷ []) ∷ drop 1 whole)
+    ∷ after-S ((b "F" ∷ b "x" ∷ []) ∷ [])
+    ∷ after-S ((b "F" ∷ []) ∷ [])
     ∷ text (take 1 whole ++ (b "F" ∷ b "t" ∷ []) ∷ [])
     ∷ text (take 1 whole ++ (b "F" ∷ b "t" ∷ []) ∷ drop 3 whole)
     ∷ []
@@ -184,6 +188,25 @@ rounding : answers 32 (
     ≡ (0, 0) ∷ (0, 0) ∷ (1, 3) ∷ (1, 1) ∷ (1, 3) ∷ (1, 2) ∷ (1, 2) ∷ (7, 3) ∷ (1, 3) ∷ []
 unfolding answer
 rounding = refl
+
+-- M-102: `A` after `S` or `F`, once, with `m` or `o`, and no `F` after it
+starting : answers 32 (
+    after-S ((b "A" ∷ b "m" ∷ []) ∷ [])
+    ∷ after-S ((b "F" ∷ b "t" ∷ []) ∷ (b "A" ∷ b "o" ∷ []) ∷ [])
+    ∷ after-S ((b "A" ∷ b "o" ∷ []) ∷ (b "F" ∷ b "t" ∷ []) ∷ [])
+    ∷ after-S ((b "A" ∷ b "m" ∷ []) ∷ (b "A" ∷ b "m" ∷ []) ∷ [])
+    ∷ text ((b "A" ∷ b "m" ∷ []) ∷ whole)
+    ∷ text (take 2 whole ++ (b "A" ∷ b "m" ∷ []) ∷ drop 2 whole)
+    ∷ after-S ((b "A" ∷ b "t" ∷ []) ∷ [])
+    ∷ after-S ((b "A" ∷ b "M" ∷ []) ∷ [])
+    ∷ after-S ((b "A" ∷ b "m" ∷ b "m" ∷ []) ∷ [])
+    ∷ text (take 1 whole ++ (b "A" ∷ b "o" ∷ []) ∷ [])
+    ∷ text (take 1 whole ++ (b "A" ∷ b "o" ∷ []) ∷ drop 3 whole)
+    ∷ []
+    )
+    ≡ (0, 0) ∷ (0, 0) ∷ (1, 3) ∷ (1, 3) ∷ (1, 1) ∷ (1, 3) ∷ (1, 2) ∷ (1, 2) ∷ (1, 2) ∷ (7, 3) ∷ (1, 3) ∷ []
+unfolding answer
+starting = refl
 
 -- measuring gives both lengths; reading refuses other lengths, last
 unfoldable measured : ℕ → List ℕ → Outcome Lengths

@@ -1,15 +1,19 @@
 -- Lines with no fault: each field is good, and what they add to the levels and the tables.
-use Prim.Native.Nat.{ℕ, zero, suc, _<_}
+use Prim.Native.Nat.{ℕ, zero, suc, _<_, _≤_}
 use mathlib.Core.Path.{_≡_, refl, sym, ap, _∙_}
 use mathlib.Core.List.{List, [], _∷_, _++_, append-nil}
 use mathlib.Core.Bool.{Bool, true, not, _&&_}
 use mathlib.Core.Option.{Option, none, some}
 use native.Mathlib.Omega.{arith}
-use lib.ListN.{length, getD, drop, replicate}
+use lib.ListN.{length, getD, drop, replicate, drop-of-length-le}
+use lib.Seq.{drop-cons}
 use borrow.Author.Tests.{not-true}
 use Rattle.text.specs.declared.field.Rule.{Rule}
 use Rattle.text.specs.declared.field.Rule.the-variants as rule
+use Rattle.text.specs.Pieces.{split}
 use Rattle.text.specs.Fields.{fieldOf, faultIn}
+use Rattle.digits.specs.Written.{joined}
+use Rattle.text.proofs.JoinLaws.{joined-split}
 use Rattle.text.proofs.GoodLaws.{addsTable, addsLevel, tables-none, levels-none, quantiser-good, level-good}
 use Rattle.digits.proofs.Both.{both-left, both-right}
 use Rattle.sheet.specs.Lines.{factor, ownSide, channelRules, blockRules, orElse, firstFault, lineLevels, lineTables}
@@ -102,3 +106,15 @@ all-levels (suc n) (f ∷ fs) h e =
     let g = level-good f (or-left (faultIn (fieldOf rule.Level f)) (firstFault (replicate n rule.Level) fs) e) in
     let r = all-levels n fs (omega arith) (or-right (faultIn (fieldOf rule.Level f)) (firstFault (replicate n rule.Level) fs) e) in
     rw (g .1) ((g .2, r .0), ap suc (r .1))
+
+-- A line by its fields
+
+-- field i, and those after it
+pub field-at : (fs : List (List ℕ)) (i : ℕ) (g : List ℕ) (gs : List (List ℕ)) → i < length fs → g ≡ getD fs i [] → gs ≡ drop (suc i) fs → g ∷ gs ≡ drop i fs
+field-at fs i g gs h e q = rw (e, q, drop-cons fs i [] h)
+
+pub no-more : (fs : List (List ℕ)) (i : ℕ) → length fs ≤ i → [] ≡ drop i fs
+no-more fs i h = sym (drop-of-length-le fs {i = i} h)
+
+pub row-as : (p : List ℕ) (fs : List (List ℕ)) → fs ≡ split 9 p → joined fs ≡ p
+row-as p fs e = ap joined e ∙ joined-split p

@@ -25,15 +25,18 @@ use Rattle.contents.specs.declared.Limits.{Limits}
 use Rattle.contents.specs.declared.Header.{Header}
 use Rattle.contents.specs.declared.Channel.{Channel}
 use Rattle.contents.specs.declared.Sheet.{Sheet}
+use Rattle.sheet.specs.declared.line.Setting.{Setting}
 use Rattle.sheet.specs.declared.state.State.{State}
 use Rattle.sheet.specs.declared.state.Taken.the-variants as taken
-use Rattle.sheet.specs.Lines.{headerRules, roundingRules, choiceOf, channelRules, blockRules, endRules, rulesOf, firstFault, fieldsFault, lineLevels, lineTables, headerOf, channelOf, recordOf}
+use Rattle.sheet.specs.Lines.{headerRules, channelRules, blockRules, endRules, rulesOf, firstFault, fieldsFault, lineLevels, lineTables, holding, headerOf, channelOf, recordOf}
 use Rattle.contents.specs.Sheets.{Held, held, noChannel, channelAt, levelsTo}
-use Rattle.sheet.specs.Reading.{Outcome, Contents, contents, headed, blank, lineTag, rounded, placed, opened, covers, takenOf, isLast, lineFault, nothingLeft, onFault, onTaken, readFrom, allowed, readText}
+use Rattle.sheet.specs.Reading.{Outcome, Contents, contents, headed, blank, lineTag, withSetting, settled, placed, opened, covers, takenOf, isLast, lineFault, nothingLeft, onFault, onTaken, readFrom, allowed, readText}
 use Rattle.sheet.specs.Reading.Outcome.{Gives, Refused}
-use Rattle.sheet.proofs.StateLaws.{Stands, stands, unbegun, first-tag}
-use Rattle.sheet.proofs.StateLaws.Stands.{Header-line, Rounding-line, Block-line, Channel-line, End-line}
+use Rattle.sheet.specs.Written.{settingLine}
+use Rattle.sheet.proofs.StateLaws.{SettingTag, Stands, stands, unbegun, first-tag}
+use Rattle.sheet.proofs.StateLaws.Stands.{Header-line, Setting-line, Block-line, Channel-line, End-line}
 use Rattle.sheet.proofs.GoodLines.{fault-at, fault-drop, tables-without, levels-without, channel-tables, block-levels, all-quantisers, all-levels}
+use Rattle.sheet.proofs.SettingLaws.{placeOf, Said, said-line, no-end}
 
 -- Good lines
 
@@ -169,6 +172,39 @@ line-is rs k p rest X c e =
     (line-fields (ltb 1024 (length p)) (isLast rest) (fieldsFault rs (split 9 p)) (f .0)) in
     record { count = g .0; fault = g .1; more = f .1 }
 
+-- A setting's line that is no refusal: what it says, how it is written, and the others after it
+
+abbrev pub withSet : State → Setting → State
+withSet s x = record { begun = s .begun; sheet = settled (s .sheet) (withSetting (s .sheet .settings) x); read = s .read; left = s .left }
+
+pub record SettingRead (limits : Limits) (s : State) (H : Held) (k i : ℕ) (p : List ℕ) (rest : List (List ℕ)) (C : Contents) : Type 0 where
+  pub x : Setting
+  pub place : placeOf x ≡ i
+  pub row : settingLine x ≡ p ∷ []
+  pub more : readFrom limits (withSet s x) H (k + 1) rest ≡ Gives C
+
+pub setting-read : (limits : Limits) (s : State) (H : Held) (k i : ℕ) (p : List ℕ) (rest : List (List ℕ)) (C : Contents)
+    → SettingTag i (lineTag s (split 9 p)) → readFrom limits s H k (p ∷ rest) ≡ Gives C → SettingRead limits s H k i p rest C
+unfolding takenOf
+setting-read limits s H k i p rest C g e =
+    let l = line-is rs k p rest _ C e in
+    by (said-line i (lineTag s (split 9 p)) limits (s .sheet .header) p g (l .count) (l .fault)) (l .more)
+  where
+    rs : List Rule
+    rs = rulesOf (lineTag s (split 9 p)) limits (s .sheet .header) (split 9 p)
+
+    by : Said i rs p (recordOf (lineTag s (split 9 p)) (split 9 p))
+        → cond (eqb (lineTag s (split 9 p)) 69) (cond (nothingLeft rest) (contents (s .sheet) H) (Refused 7 (k + 1)))
+        (onTaken (takenOf s (recordOf (lineTag s (split 9 p)) (split 9 p))) k (λ t. readFrom limits t (holding H rs (split 9 p)) (k + 1) rest)) ≡ Gives C
+        → SettingRead limits s H k i p rest C
+    by w o =
+        record {
+          x = w .x;
+          place = w .place;
+          row = w .row;
+          more = rw (no-end i (lineTag s (split 9 p)) g, w .says, w .levels, w .tables, append-nil (H .levels), append-nil (H .tables)) at o;
+        }
+
 -- One line, then the others
 
 abbrev LegalContents : Limits → Contents → Type 0
@@ -223,13 +259,11 @@ module _ (limits : Limits) (most : LegalLimits limits) (p : List ℕ) (rest : Li
         })
         (rw (block-levels fs, tables-without blockRules fs refl, append-nil (H .tables)) at (l .more))
 
-    rounding-line : lineTag s (split 9 p) ≡ 70 → readFrom limits s H k (p ∷ rest) ≡ Gives C → LegalContents limits C
-    unfolding rulesOf takenOf recordOf
-    rounding-line g e =
-        let l = line-is roundingRules k p rest _ C (rw g at e) in
-        let fs = split 9 p in
-        let t : Sheet = rounded (s .sheet) (choiceOf 116 (getD fs 1 [])) in
-        ih (record { begun = s .begun; sheet = t; read = s .read; left = s .left }) H (k + 1)
+    setting-line : (i : ℕ) → SettingTag i (lineTag s (split 9 p)) → readFrom limits s H k (p ∷ rest) ≡ Gives C → LegalContents limits C
+    setting-line i g e =
+        let r = setting-read limits s H k i p rest C g e in
+        let t : Sheet = settled (s .sheet) (withSetting (s .sheet .settings) (r .x)) in
+        ih (withSet s (r .x)) H (k + 1)
         (record {
           begun = b .begun;
           header = b .header;
@@ -241,7 +275,7 @@ module _ (limits : Limits) (most : LegalLimits limits) (p : List ℕ) (rest : Li
           levels = b .levels;
           tables = b .tables;
         })
-        (rw (levels-without roundingRules fs refl, tables-without roundingRules fs refl, append-nil (H .levels), append-nil (H .tables)) at (l .more))
+        (r .more)
 
     channel-line : s .left ≤ 0 → s .read < s .sheet .header .channels → lineTag s (split 9 p) ≡ 67 → readFrom limits s H k (p ∷ rest) ≡ Gives C → LegalContents limits C
     unfolding rulesOf takenOf recordOf
@@ -328,7 +362,7 @@ module _ (limits : Limits) (most : LegalLimits limits) (p : List ℕ) (rest : Li
       where
         by : Stands s (lineTag s (split 9 p)) → LegalContents limits C
         by (Header-line q g) = unbegun s (b .begun) q
-        by (Rounding-line q g) = rounding-line g e
+        by (Setting-line i q g) = setting-line i g e
         by (Block-line q u g) = block-line u g e
         by (Channel-line q u v g) = channel-line u v g e
         by (End-line q u v g) = end-line u v g e

@@ -5,6 +5,7 @@ pub mod StoreLaws
 pub mod WalkLaws
 pub mod ReadLaws
 pub mod GoodLines
+pub mod SettingLaws
 pub mod LegalLaws
 pub mod RowLaws
 pub mod RoundTrip

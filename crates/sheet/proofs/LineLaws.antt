@@ -18,8 +18,9 @@ use Rattle.contents.specs.declared.Choice.{Choice}
 use Rattle.contents.specs.declared.Choice.the-variants as choice
 use Rattle.contents.specs.declared.Header.{Header}
 use Rattle.contents.specs.declared.Channel.{Channel}
+use Rattle.sheet.specs.declared.line.Setting.the-variants as setting
 use Rattle.sheet.specs.declared.line.Record.the-variants as line
-use Rattle.sheet.specs.Lines.{count, mode, factor, ownSide, headerRules, roundingRules, choiceOf, channelRules, blockRules, rulesOf, fieldCount, headerOf, channelOf, recordOf}
+use Rattle.sheet.specs.Lines.{count, mode, factor, ownSide, headerRules, choiceRules, roundingRules, startRules, choiceOf, channelRules, blockRules, rulesOf, fieldCount, headerOf, channelOf, recordOf}
 
 -- What a header line holds
 
@@ -67,9 +68,13 @@ module _ (t : ℕ) where
   unfolding fieldCount
   count-F e = rw e
 
-  pub count-E : (t ≡ 83 → ⊥) → (t ≡ 67 → ⊥) → (t ≡ 66 → ⊥) → (t ≡ 70 → ⊥) → 1 ≡ fieldCount t
+  pub count-A : t ≡ 65 → 2 ≡ fieldCount t
   unfolding fieldCount
-  count-E s c b f = rw (ne-eqb t 66 b, ne-eqb t 67 c, ne-eqb t 83 s, ne-eqb t 70 f)
+  count-A e = rw e
+
+  pub count-E : (t ≡ 83 → ⊥) → (t ≡ 67 → ⊥) → (t ≡ 66 → ⊥) → (t ≡ 70 → ⊥) → (t ≡ 65 → ⊥) → 1 ≡ fieldCount t
+  unfolding fieldCount
+  count-E s c b f a = rw (ne-eqb t 66 b, ne-eqb t 67 c, ne-eqb t 83 s, ne-eqb t 70 f, ne-eqb t 65 a)
 
   pub record-S : (fs : List (List ℕ)) (h : Header) → t ≡ 83 → h ≡ headerOf fs → line.Header h ≡ recordOf t fs
   unfolding recordOf
@@ -79,13 +84,17 @@ module _ (t : ℕ) where
   unfolding recordOf
   record-C fs c s e q = rw (ne-eqb t 83 s, eq-eqb t 67 e) (ap line.Channel q)
 
-  pub record-F : (fs : List (List ℕ)) (r : Choice) → (t ≡ 83 → ⊥) → (t ≡ 67 → ⊥) → t ≡ 70 → r ≡ choiceOf 116 (getD fs 1 []) → line.Rounding r ≡ recordOf t fs
+  pub record-F : (fs : List (List ℕ)) (r : Choice) → (t ≡ 83 → ⊥) → (t ≡ 67 → ⊥) → t ≡ 70 → r ≡ choiceOf 116 (getD fs 1 []) → line.Setting (setting.Rounding r) ≡ recordOf t fs
   unfolding recordOf
-  record-F fs r s c e q = rw (ne-eqb t 83 s, ne-eqb t 67 c, eq-eqb t 70 e) (ap line.Rounding q)
+  record-F fs r s c e q = rw (ne-eqb t 83 s, ne-eqb t 67 c, eq-eqb t 70 e, q)
 
-  pub record-B : (fs : List (List ℕ)) → (t ≡ 83 → ⊥) → (t ≡ 67 → ⊥) → (t ≡ 70 → ⊥) → line.Block ≡ recordOf t fs
+  pub record-A : (fs : List (List ℕ)) (a : Choice) → (t ≡ 83 → ⊥) → (t ≡ 67 → ⊥) → (t ≡ 70 → ⊥) → t ≡ 65 → a ≡ choiceOf 109 (getD fs 1 []) → line.Setting (setting.Start a) ≡ recordOf t fs
   unfolding recordOf
-  record-B fs s c f = rw (ne-eqb t 83 s, ne-eqb t 67 c, ne-eqb t 70 f)
+  record-A fs a s c f e q = rw (ne-eqb t 83 s, ne-eqb t 67 c, ne-eqb t 70 f, eq-eqb t 65 e, q)
+
+  pub record-B : (fs : List (List ℕ)) → (t ≡ 83 → ⊥) → (t ≡ 67 → ⊥) → (t ≡ 70 → ⊥) → (t ≡ 65 → ⊥) → line.Block ≡ recordOf t fs
+  unfolding recordOf
+  record-B fs s c f a = rw (ne-eqb t 83 s, ne-eqb t 67 c, ne-eqb t 70 f, ne-eqb t 65 a)
 
 -- a setting's letter
 module _ (a : ℕ) (f : List ℕ) (b : Bool) (e : b ≡ letter a f) where
@@ -95,7 +104,7 @@ module _ (a : ℕ) (f : List ℕ) (b : Bool) (e : b ≡ letter a f) where
   pub choice-second : b ≡ false → choice.Second ≡ choiceOf a f
   choice-second p = rw (sym e ∙ p)
 
-pub ruleset tags = (count-S, count-C, count-B, count-F, count-E, record-S, record-C, record-F, record-B, choice-first, choice-second)
+pub ruleset tags = (count-S, count-C, count-B, count-F, count-A, count-E, record-S, record-C, record-F, record-A, record-B, choice-first, choice-second)
 
 -- Rules by place
 
@@ -184,14 +193,14 @@ module _ (i : ℕ) where
       sym (past (take 1 blockRules) (replicate 64 rule.Level) i (rule.Tag 0) (omega arith)
       ∙ getD-replicate 64 (i - 1) rule.Level (rule.Tag 0) (omega arith))
 
-module _ (i : ℕ) where
-  pub rounding-tag : i ≡ 0 → rule.Tag 70 ≡ getD roundingRules i (rule.Tag 0)
-  rounding-tag e = rw e
+module _ (i t a b : ℕ) where
+  pub choice-tag : i ≡ 0 → rule.Tag t ≡ getD (choiceRules t a b) i (rule.Tag 0)
+  choice-tag e = rw e
 
-  pub rounding-letter : (i ≡ 0 → ⊥) → i < 2 → rule.Letters 116 110 ≡ getD roundingRules i (rule.Tag 0)
-  rounding-letter h k = let e : i ≡ 1 = omega arith in rw e
+  pub choice-letter : (i ≡ 0 → ⊥) → i < 2 → rule.Letters a b ≡ getD (choiceRules t a b) i (rule.Tag 0)
+  choice-letter h k = let e : i ≡ 1 = omega arith in rw e
 
-pub ruleset rules = (rounding-tag, rounding-letter, header-tag, header-side, header-wide, header-high, header-channels, header-mode, header-count, header-weight, channel-tag, channel-side, channel-factor, channel-quantiser, block-tag, block-level)
+pub ruleset rules = (choice-tag, choice-letter, header-tag, header-side, header-wide, header-high, header-channels, header-mode, header-count, header-weight, channel-tag, channel-side, channel-factor, channel-quantiser, block-tag, block-level)
 
 -- The rule of a tag's field
 
@@ -212,11 +221,15 @@ module _ (t : ℕ) (limits : Limits) (top : Header) (i : ℕ) (fs : List (List �
   unfolding rulesOf
   rule-F b c s e q = rw (ne-eqb t 66 b, ne-eqb t 67 c, ne-eqb t 83 s, eq-eqb t 70 e) q
 
-pub rule-E : (t : ℕ) (limits : Limits) (top : Header) (i : ℕ) (fs : List (List ℕ)) → (t ≡ 66 → ⊥) → (t ≡ 67 → ⊥) → (t ≡ 83 → ⊥) → (t ≡ 70 → ⊥) → i < fieldCount t → rule.Tag 69 ≡ getD (rulesOf t limits top fs) i (rule.Tag 0)
+  pub rule-A : (t ≡ 66 → ⊥) → (t ≡ 67 → ⊥) → (t ≡ 83 → ⊥) → (t ≡ 70 → ⊥) → t ≡ 65 → r ≡ getD startRules i (rule.Tag 0) → r ≡ getD (rulesOf t limits top fs) i (rule.Tag 0)
+  unfolding rulesOf
+  rule-A b c s f e q = rw (ne-eqb t 66 b, ne-eqb t 67 c, ne-eqb t 83 s, ne-eqb t 70 f, eq-eqb t 65 e) q
+
+pub rule-E : (t : ℕ) (limits : Limits) (top : Header) (i : ℕ) (fs : List (List ℕ)) → (t ≡ 66 → ⊥) → (t ≡ 67 → ⊥) → (t ≡ 83 → ⊥) → (t ≡ 70 → ⊥) → (t ≡ 65 → ⊥) → i < fieldCount t → rule.Tag 69 ≡ getD (rulesOf t limits top fs) i (rule.Tag 0)
 unfolding rulesOf fieldCount
-rule-E t limits top i fs b c s f h =
-    let z : i ≡ 0 = omega (arith, simp (ne-eqb t 83 s, ne-eqb t 67 c, ne-eqb t 66 b, ne-eqb t 70 f) at h) in
-    rw (ne-eqb t 66 b, ne-eqb t 67 c, ne-eqb t 83 s, ne-eqb t 70 f, z)
+rule-E t limits top i fs b c s f a h =
+    let z : i ≡ 0 = omega (arith, simp (ne-eqb t 83 s, ne-eqb t 67 c, ne-eqb t 66 b, ne-eqb t 70 f, ne-eqb t 65 a) at h) in
+    rw (ne-eqb t 66 b, ne-eqb t 67 c, ne-eqb t 83 s, ne-eqb t 70 f, ne-eqb t 65 a, z)
 
 module _ (t i : ℕ) (h : i < fieldCount t) where
   pub below-S : t ≡ 83 → i < 16
@@ -231,4 +244,7 @@ module _ (t i : ℕ) (h : i < fieldCount t) where
   pub below-F : t ≡ 70 → i < 2
   below-F e = omega (arith, count-F t e)
 
-pub ruleset places = (rule-S, rule-C, rule-B, rule-F, rule-E, below-S, below-C, below-B, below-F)
+  pub below-A : t ≡ 65 → i < 2
+  below-A e = omega (arith, count-A t e)
+
+pub ruleset places = (rule-S, rule-C, rule-B, rule-F, rule-A, rule-E, below-S, below-C, below-B, below-F, below-A)

@@ -15,7 +15,7 @@ use Rattle.text.specs.declared.field.Rule.{Rule}
 use Rattle.text.specs.declared.field.Rule.the-variants as rule
 use Rattle.text.specs.Pieces.{split, before}
 use Rattle.text.specs.Numbers.{numberAt}
-use Rattle.text.specs.Fields.{letter, fieldOf, faultIn}
+use Rattle.text.specs.Fields.{fieldOf, faultIn}
 use Rattle.digits.specs.Written.{decimal, rowBytes}
 use Rattle.text.proofs.PieceLaws.{split-cut, split-whole, split-some}
 use Rattle.text.proofs.GoodLaws.{side-is}
@@ -25,19 +25,21 @@ use Rattle.text.proofs.JoinLaws.{joined-split, joined-length, Within}
 use Rattle.text.proofs.SizeLaws.{tag-short, range-short, side-short, channels-short, letters-short, weight-short, quantiser-short, level-short}
 use Rattle.contents.specs.declared.Limits.{Limits}
 use Rattle.contents.specs.declared.Header.{Header}
+use Rattle.contents.specs.declared.Settings.{Settings}
 use Rattle.sheet.specs.declared.state.State.{State}
 use Rattle.sheet.specs.declared.state.Taken.{Taken}
 use Rattle.sheet.specs.declared.state.Taken.the-variants as taken
-use Rattle.sheet.specs.Lines.{headerRules, roundingRules, choiceOf, channelRules, blockRules, rulesOf, firstFault, fieldsFault, holding, headerOf, channelOf, recordOf}
+use Rattle.sheet.specs.Lines.{headerRules, channelRules, blockRules, rulesOf, firstFault, fieldsFault, holding, headerOf, channelOf, recordOf}
 use Rattle.contents.specs.Sheets.{Held, held}
-use Rattle.sheet.specs.Reading.{Outcome, Contents, contents, headed, blank, unsaid, mayRound, lineTag, rounded, opened, covers, takenOf, isLast, lineFault, nothingLeft, onFault, onTaken, readFrom, allowed, readText}
+use Rattle.sheet.specs.Reading.{Outcome, Contents, contents, headed, blank, lastSaid, mayStand, lineTag, opened, covers, takenOf, isLast, lineFault, nothingLeft, onFault, onTaken, readFrom, allowed, readText}
 use Rattle.sheet.specs.Reading.Outcome.{Gives, Refused}
-use Rattle.sheet.specs.Longest.{headerSizes, roundingSizes, channelSizes, blockSizes, channelBytes, longest, decisive}
-use Rattle.sheet.proofs.StateLaws.{Stands, stands, unbegun, first-tag, said}
-use Rattle.sheet.proofs.StateLaws.Stands.{Header-line, Rounding-line, Block-line, Channel-line, End-line}
+use Rattle.sheet.specs.Longest.{headerSizes, channelSizes, blockSizes, channelBytes, longest, decisive}
+use Rattle.sheet.proofs.StateLaws.{SettingTag, Stands, stands, unbegun, first-tag}
+use Rattle.sheet.proofs.StateLaws.Stands.{Header-line, Setting-line, Block-line, Channel-line, End-line}
 use Rattle.sheet.proofs.WalkLaws.{line-long, split-head, not-last, some-after}
 use Rattle.sheet.proofs.GoodLines.{or-left, or-right, fault-at, fault-drop}
-use Rattle.sheet.proofs.LegalLaws.{header-is-legal, channel-is-legal, few, fields-count, line-fields, line-is, refusal}
+use Rattle.sheet.proofs.SettingLaws.{placeOf, settingsLeft, said-line, now-said, setting-spent}
+use Rattle.sheet.proofs.LegalLaws.{header-is-legal, channel-is-legal, few, fields-count, line-fields, line-is, refusal, withSet}
 
 -- The length of a good line
 
@@ -72,11 +74,6 @@ within-at fs i m ms h k w = rw (drop-cons fs i [] h) (k, w)
 
 within-end : (fs : List (List ℕ)) (i : ℕ) → length fs ≤ i → Within (drop i fs) []
 within-end fs i h = rw (drop-of-length-le fs {i = i} h) tt
-
-rounding-within : (fs : List (List ℕ)) → length fs ≡ 2 → firstFault roundingRules fs ≡ none → Within fs roundingSizes
-rounding-within fs n e =
-    within-at fs 0 1 _ (omega arith) (tag-short (getD fs 0 []) 70 (fault-at roundingRules fs 0 e (omega arith) (omega arith)))
-    (within-at fs 1 1 _ (omega arith) (letters-short (getD fs 1 []) 116 110 (fault-at roundingRules fs 1 e (omega arith) (omega arith))) (within-end fs 2 (omega arith)))
 
 module _ (limits : Limits) (most : limits .side ≤ 512) where
   d : ℕ
@@ -124,8 +121,12 @@ module _ (limits : Limits) (most : limits .side ≤ 512) where
 abbrev lineBytes : Limits → ℕ
 lineBytes limits = channelBytes (limits .side) (length (decimal (limits .side)))
 
+-- the settings that may still stand
+abbrev settingRoom : State → ℕ
+settingRoom s = cond (eqb (s .read) 0) (settingsLeft (lastSaid (s .sheet .settings))) 0
+
 abbrev room : Limits → State → ℕ
-room limits s = cond (s .begun) (cond (mayRound s) 4 0 + s .left * rowBytes blockSizes + (s .sheet .header .channels - s .read) * lineBytes limits + 2) (longest (limits .side))
+room limits s = cond (s .begun) (settingRoom s + s .left * rowBytes blockSizes + (s .sheet .header .channels - s .read) * lineBytes limits + 2) (longest (limits .side))
 
 record On (limits : Limits) (s : State) : Type 0 where
   begun : s .begun ≡ true
@@ -177,17 +178,21 @@ module _ (limits : Limits) (most : limits .side ≤ 512) (p : List ℕ) where
           bytes = rw (b .begun) (omega (arith, row-bytes p blockSizes (block-within (split 9 p) n e)));
         })
 
-    spent-rounding : (t : State) → mayRound s ≡ true → length (split 9 p) ≡ 2 → firstFault roundingRules (split 9 p) ≡ none
-        → taken.Good (record { begun = s .begun; sheet = rounded (s .sheet) (choiceOf 116 (getD (split 9 p) 1 [])); read = s .read; left = s .left }) ≡ taken.Good t → Spent limits s p t
-    spent-rounding t m n e o =
-        let u = unsaid (s .sheet .settings .rounding) in
-        let r = both-right (s .begun) (eqb (s .read) 0 && u) m in
-        subst (Spent limits s p) (good-inj _ t o)
+    spent-setting : (t : State) (i g : ℕ) → mayStand i s ≡ true → SettingTag i g → length (split 9 p) ≡ length (rulesOf g limits (s .sheet .header) (split 9 p))
+        → firstFault (rulesOf g limits (s .sheet .header) (split 9 p)) (split 9 p) ≡ none → takenOf s (recordOf g (split 9 p)) ≡ taken.Good t → Spent limits s p t
+    unfolding takenOf
+    spent-setting t i g m q n e o =
+        let w = said-line i g limits (s .sheet .header) p q n e in
+        let x : Settings = s .sheet .settings in
+        let r = both-right (s .begun) (eqb (s .read) 0 && ltb (lastSaid x) i) m in
+        let h : lastSaid x < placeOf (w .x) = omega (arith, ltb-true (lastSaid x) i (both-right (eqb (s .read) 0) (ltb (lastSaid x) i) r), w .place) in
+        let z : taken.Good (withSet s (w .x)) ≡ taken.Good t = rw (w .says) at o in
+        subst (Spent limits s p) (good-inj _ t z)
         (record {
           stage = record { begun = b .begun; wide = b .wide; high = b .high; few = b .few };
           bytes =
-              rw (b .begun, both-left (eqb (s .read) 0) u r, both-right (eqb (s .read) 0) u r, said (letter 116 (getD (split 9 p) 1 [])))
-              (omega (arith, row-bytes p roundingSizes (rounding-within (split 9 p) n e)));
+              rw (b .begun, both-left (eqb (s .read) 0) (ltb (lastSaid x) i) r, now-said x (w .x) p h (w .row))
+              (omega (arith, setting-spent (w .x) p (lastSaid x) h (w .row)));
         })
 
     spent-channel : (t : State) → length (split 9 p) ≡ 69 → firstFault channelRules (split 9 p) ≡ none → s .left ≤ 0 → s .read < s .sheet .header .channels
@@ -217,7 +222,7 @@ module _ (limits : Limits) (most : limits .side ≤ 512) (p : List ℕ) where
         → firstFault (rulesOf g limits (s .sheet .header) (split 9 p)) (split 9 p) ≡ none → takenOf s (recordOf g (split 9 p)) ≡ taken.Good t → Spent limits s p t
     unfolding rulesOf recordOf takenOf
     spent-on t g (Header-line q r) x n e o = unbegun s (b .begun) q
-    spent-on t g (Rounding-line q r) x n e o = spent-rounding t q (rw r at n) (rw r at e) (rw r at o)
+    spent-on t g (Setting-line i q r) x n e o = spent-setting t i g q r n e o
     spent-on t g (Block-line q l r) x n e o = spent-block t (rw r at n) (rw r at e) l (rw r at o)
     spent-on t g (Channel-line q l c r) x n e o = covering (covers (s .sheet .header) (channelOf (split 9 p))) refl (rw r at n) (rw r at e) l c (rw r at o)
       where

@@ -21,16 +21,20 @@ use Rattle.contents.specs.declared.Choice.{Choice}
 use Rattle.contents.specs.declared.Choice.the-variants as choice
 use Rattle.contents.specs.declared.Header.{Header}
 use Rattle.contents.specs.declared.Channel.{Channel}
+use Rattle.contents.specs.declared.Settings.{Settings}
 use Rattle.contents.specs.declared.Sheet.{Sheet}
+use Rattle.sheet.specs.declared.line.Setting.{Setting}
+use Rattle.sheet.specs.declared.line.Setting.the-variants as setting
 use Rattle.sheet.specs.declared.state.State.{State}
 use Rattle.sheet.specs.declared.state.Taken.the-variants as taken
-use Rattle.sheet.specs.Lines.{headerRules, roundingRules, channelRules, blockRules, rulesOf, fieldCount, firstFault, holding, channelOf, recordOf}
+use Rattle.sheet.specs.Lines.{headerRules, roundingRules, startRules, channelRules, blockRules, rulesOf, fieldCount, firstFault, holding, channelOf, recordOf}
 use Rattle.contents.specs.Sheets.{Held, held, levelsTo, channelsOf}
-use Rattle.sheet.specs.Reading.{contents, headed, blank, lineTag, rounded, placed, covers, takenOf, isLast, readFrom, readText}
+use Rattle.sheet.specs.Reading.{contents, headed, blank, lastSaid, lineTag, withSetting, settled, placed, covers, takenOf, isLast, readFrom, readText}
 use Rattle.sheet.specs.Reading.Outcome.{Refused}
-use Rattle.sheet.specs.Written.{headerFields, channelFields, blockFields, endFields, choiceLines, settingLines, blockLines, channelLines, written}
+use Rattle.sheet.specs.Written.{headerFields, channelFields, blockFields, endFields, settingLine, settingLines, blockLines, channelLines, written}
 use Rattle.sheet.proofs.WalkLaws.{line-next, line-end}
 use Rattle.sheet.proofs.GoodLines.{tables-without, levels-without, channel-tables, block-levels}
+use Rattle.sheet.proofs.SettingLaws.{placeOf, now-said, unset}
 use Rattle.sheet.proofs.LegalLaws.{blocks}
 use Rattle.sheet.proofs.RowLaws.{SixDigits, header-good, header-back, header-free, header-short, channel-good, channel-said, channel-back, channel-free, channel-short, block-good, block-said, block-free, block-short, end-good}
 
@@ -188,29 +192,63 @@ read-header limits most h l rest e =
     refl (header-good limits most h l) (during (headed h) 0 0) (rw (header-back limits most h l))
     ∙ rw (levels-without (headerRules limits fs) fs refl, tables-without (headerRules limits fs) fs refl)
 
--- the settings' lines
-read-settings : (limits : Limits) (h : Header) (c : Choice) (rest : List (List ℕ)) → isLast rest ≡ false
-    → (m : ℕ) × (readFrom limits (during (headed h) 0 0) (held [] []) 2 (choiceLines 70 116 110 c ++ rest) ≡ readFrom limits (during (rounded (headed h) c) 0 0) (held [] []) m rest)
+-- a setting's line, if it has one, where it may stand
+read-setting : (limits : Limits) (rest : List (List ℕ)) → isLast rest ≡ false → (t : Sheet) (k : ℕ) (z : Setting) → lastSaid (t .settings) < placeOf z
+    → (m : ℕ) × (readFrom limits (during t 0 0) (held [] []) k (settingLine z ++ rest) ≡ readFrom limits (during (settled t (withSetting (t .settings) z)) 0 0) (held [] []) m rest)
 unfolding lineTag rulesOf fieldCount recordOf takenOf fieldOf
-read-settings limits h choice.Unsaid rest e = (2, refl)
-read-settings limits h choice.First rest e =
+read-setting limits rest e t k (setting.Rounding choice.Unsaid) h =
+    (k, ap (λ (x : Settings). readFrom limits (during (settled t x) 0 0) (held [] []) k rest) (sym (unset (t .settings) (setting.Rounding choice.Unsaid) h refl)))
+read-setting limits rest e t k (setting.Rounding choice.First) h =
     let fs : List (List ℕ) = (70 ∷ []) ∷ (116 ∷ []) ∷ [] in (
-      3,
-      read-row limits (during (headed h) 0 0) (held [] []) 2 fs rest 70 refl (λ q. omega arith) (omega arith) refl (omega arith) e refl refl (during (rounded (headed h) choice.First) 0 0) refl
+      k + 1,
+      read-row limits (during t 0 0) (held [] []) k fs rest 70 (rw (lt-ltb (lastSaid (t .settings)) 1 h)) (λ q. omega arith) (omega arith) refl (omega arith) e refl refl _ refl
           ∙ rw (levels-without roundingRules fs refl, tables-without roundingRules fs refl),
     )
-read-settings limits h choice.Second rest e =
+read-setting limits rest e t k (setting.Rounding choice.Second) h =
     let fs : List (List ℕ) = (70 ∷ []) ∷ (110 ∷ []) ∷ [] in (
-      3,
-      read-row limits (during (headed h) 0 0) (held [] []) 2 fs rest 70 refl (λ q. omega arith) (omega arith) refl (omega arith) e refl refl (during (rounded (headed h) choice.Second) 0 0) refl
+      k + 1,
+      read-row limits (during t 0 0) (held [] []) k fs rest 70 (rw (lt-ltb (lastSaid (t .settings)) 1 h)) (λ q. omega arith) (omega arith) refl (omega arith) e refl refl _ refl
           ∙ rw (levels-without roundingRules fs refl, tables-without roundingRules fs refl),
+    )
+read-setting limits rest e t k (setting.Start choice.Unsaid) h =
+    (k, ap (λ (x : Settings). readFrom limits (during (settled t x) 0 0) (held [] []) k rest) (sym (unset (t .settings) (setting.Start choice.Unsaid) h refl)))
+read-setting limits rest e t k (setting.Start choice.First) h =
+    let fs : List (List ℕ) = (65 ∷ []) ∷ (109 ∷ []) ∷ [] in (
+      k + 1,
+      read-row limits (during t 0 0) (held [] []) k fs rest 65 (rw (lt-ltb (lastSaid (t .settings)) 2 h)) (λ q. omega arith) (omega arith) refl (omega arith) e refl refl _ refl
+          ∙ rw (levels-without startRules fs refl, tables-without startRules fs refl),
+    )
+read-setting limits rest e t k (setting.Start choice.Second) h =
+    let fs : List (List ℕ) = (65 ∷ []) ∷ (111 ∷ []) ∷ [] in (
+      k + 1,
+      read-row limits (during t 0 0) (held [] []) k fs rest 65 (rw (lt-ltb (lastSaid (t .settings)) 2 h)) (λ q. omega arith) (omega arith) refl (omega arith) e refl refl _ refl
+          ∙ rw (levels-without startRules fs refl, tables-without startRules fs refl),
     )
 
+-- the settings' lines
+read-settings : (limits : Limits) (h : Header) (x : Settings) (rest : List (List ℕ)) → isLast rest ≡ false
+    → (m : ℕ) × (readFrom limits (during (headed h) 0 0) (held [] []) 2 (settingLines x ++ rest) ≡ readFrom limits (during (settled (headed h) x) 0 0) (held [] []) m rest)
+read-settings limits h x rest e =
+    let F = setting.Rounding (x .rounding) in
+    let A = setting.Start (x .start) in
+    let t : Sheet = settled (headed h) (withSetting (headed h .settings) F) in
+    let f = read-setting limits (settingLine A ++ rest) (more-left (settingLine A) rest e) (headed h) 2 F (omega arith) in
+    let a = read-setting limits rest e t (f .0) A (below (x .rounding)) in
+    (a .0, ap (λ (q : List (List ℕ)). readFrom limits (during (headed h) 0 0) (held [] []) 2 q) (append-assoc (settingLine F) (settingLine A) rest) ∙ f .1 ∙ a .1)
+  where
+    below : (r : Choice) → lastSaid (record { rounding = r; start = choice.Unsaid }) < 2
+    below choice.Unsaid = omega arith
+    below choice.First = omega arith
+    below choice.Second = omega arith
+
 -- the lines have no line end in them
-free-choice : (c : Choice) → allFree 10 (choiceLines 70 116 110 c) ≡ true
-free-choice choice.Unsaid = refl
-free-choice choice.First = refl
-free-choice choice.Second = refl
+free-setting : (z : Setting) → allFree 10 (settingLine z) ≡ true
+free-setting (setting.Rounding choice.Unsaid) = refl
+free-setting (setting.Rounding choice.First) = refl
+free-setting (setting.Rounding choice.Second) = refl
+free-setting (setting.Start choice.Unsaid) = refl
+free-setting (setting.Start choice.First) = refl
+free-setting (setting.Start choice.Second) = refl
 
 free-blocks : (n : ℕ) (zs : List ℤ) → allFree 10 (blockLines n zs) ≡ true
 free-blocks zero zs = refl
@@ -224,6 +262,9 @@ free-both (p ∷ ps) qs a b = two (free 10 p) a (free-both ps qs)
     two true o ih = ih o b
     two false o ih = o
 
+free-settings : (x : Settings) → allFree 10 (settingLines x) ≡ true
+free-settings x = free-both (settingLine (setting.Rounding (x .rounding))) (settingLine (setting.Start (x .start))) (free-setting (setting.Rounding (x .rounding))) (free-setting (setting.Start (x .start)))
+
 free-channels : (cs : List Channel) (H : Held) → allFree 10 (channelLines cs H) ≡ true
 free-channels [] H = refl
 free-channels (c ∷ cs) H =
@@ -231,19 +272,20 @@ free-channels (c ∷ cs) H =
     (free-both (blockLines (c .width * c .height / 64) (H .levels)) (channelLines cs (held (drop (c .width * c .height) (H .levels)) (drop 64 (H .tables)))) (free-blocks (c .width * c .height / 64) (H .levels))
     (free-channels cs (held (drop (c .width * c .height) (H .levels)) (drop 64 (H .tables)))))
 
-written-lines : (s : Sheet) (H : Held) → split 10 (written s H) ≡ joined (headerFields (s .header)) ∷ (settingLines s ++ (channelLines (channelsOf s) H ++ joined endFields ∷ [] ∷ []))
+written-lines : (s : Sheet) (H : Held) → split 10 (written s H) ≡ joined (headerFields (s .header)) ∷ (settingLines (s .settings) ++ (channelLines (channelsOf s) H ++ joined endFields ∷ [] ∷ []))
 unfolding written
 written-lines s H =
     let cs = channelLines (channelsOf s) H in
-    split-ended (joined (headerFields (s .header)) ∷ (settingLines s ++ (cs ++ joined endFields ∷ [])))
+    let xs = settingLines (s .settings) in
+    split-ended (joined (headerFields (s .header)) ∷ (xs ++ (cs ++ joined endFields ∷ [])))
     (rw (joined-free (headerFields (s .header)) (header-free 10 (omega arith) (s .header)))
-    (free-both (settingLines s) (cs ++ joined endFields ∷ []) (free-choice (s .settings .rounding)) (free-both cs (joined endFields ∷ []) (free-channels (channelsOf s) H) refl)))
+    (free-both xs (cs ++ joined endFields ∷ []) (free-settings (s .settings)) (free-both cs (joined endFields ∷ []) (free-channels (channelsOf s) H) refl)))
     ∙ ap (λ (q : List (List ℕ)). joined (headerFields (s .header)) ∷ q)
-    (append-assoc (settingLines s) (cs ++ joined endFields ∷ []) ([] ∷ []) ∙ ap (λ (q : List (List ℕ)). settingLines s ++ q) (append-assoc cs (joined endFields ∷ []) ([] ∷ [])))
+    (append-assoc xs (cs ++ joined endFields ∷ []) ([] ∷ []) ∙ ap (λ (q : List (List ℕ)). xs ++ q) (append-assoc cs (joined endFields ∷ []) ([] ∷ [])))
 
 -- a sheet before its channels
 abbrev opening : Sheet → Sheet
-opening s = rounded (headed (s .header)) (s .settings .rounding)
+opening s = settled (headed (s .header)) (s .settings)
 
 -- the first n channels are those that are placed
 abbrev channelsTo : Sheet → ℕ → List Channel
@@ -288,13 +330,13 @@ round-trip limits s H l =
     let u = used limits s H l in
     let cs = channelsOf s in
     let end : List (List ℕ) = joined endFields ∷ [] ∷ [] in
-    let f = read-settings limits (s .header) (s .settings .rounding) (channelLines cs H ++ end) (more-left (channelLines cs H) end refl) in
+    let f = read-settings limits (s .header) (s .settings) (channelLines cs H ++ end) (more-left (channelLines cs H) end refl) in
     let r =
     read-channels limits end refl cs (opening s) 0 [] (H .levels) [] (H .tables) (f .0) (omega (arith, u .count)) (omega (arith, l .limits-legal .side .top, l .header .width .top), omega (arith, l .limits-legal .side .top, l .header .height .top)) (u .legal) (l .levels-count ∙ u .levels) (l .levels)
     (l .tables-count ∙ ap (λ (n : ℕ). 64 * n) (sym (u .count))) (l .tables) in
     ap (λ (b : Bool). cond b (readFrom limits blank (held [] []) 1 (split 10 (written s H))) (Refused 2 0)) (side-test 512 (limits .side) (l .limits-legal .side))
     ∙ ap (λ (ps : List (List ℕ)). readFrom limits blank (held [] []) 1 ps) (written-lines s H)
-    ∙ read-header limits (l .limits-legal .side .top) (s .header) (l .header) (settingLines s ++ (channelLines cs H ++ end)) (more-left (settingLines s) (channelLines cs H ++ end) (more-left (channelLines cs H) end refl))
+    ∙ read-header limits (l .limits-legal .side .top) (s .header) (l .header) (settingLines (s .settings) ++ (channelLines cs H ++ end)) (more-left (settingLines (s .settings)) (channelLines cs H ++ end) (more-left (channelLines cs H) end refl))
     ∙ f .1
     ∙ r .1
     ∙ ap (λ (v : Sheet). readFrom limits (during v (0 + length cs) 0) H (r .0) end) (u .placed)

@@ -16,7 +16,10 @@ use Rattle.contents.specs.declared.Choice.{Choice}
 use Rattle.contents.specs.declared.Choice.the-variants as choice
 use Rattle.contents.specs.declared.Header.{Header}
 use Rattle.contents.specs.declared.Channel.{Channel}
+use Rattle.contents.specs.declared.Settings.{Settings}
 use Rattle.contents.specs.declared.Sheet.{Sheet}
+use Rattle.sheet.specs.declared.line.Setting.{Setting}
+use Rattle.sheet.specs.declared.line.Setting.the-variants as setting
 use Rattle.sheet.specs.declared.line.Record.{Record}
 use Rattle.sheet.specs.declared.line.Record.the-variants as line
 use Rattle.sheet.specs.declared.state.State.{State}
@@ -25,7 +28,7 @@ use Rattle.sheet.specs.declared.state.Taken.the-variants as taken
 use Rattle.sheet.specs.Lines.{choiceOf, headerOf, channelOf, recordOf}
 use Rattle.contents.specs.Sheets.{noHeader, noSettings, noChannel}
 use Rattle.sheet.specs.Walk.{Due}
-use Rattle.sheet.specs.Reading.{headed, blank, dueTag, unsaid, mayRound, lineTag, rounded, placed, takenOf}
+use Rattle.sheet.specs.Reading.{headed, blank, dueTag, unsaid, lastSaid, mayStand, isSetting, lineTag, withSetting, settled, placed, takenOf}
 
 -- Nothing, and a header
 
@@ -52,41 +55,59 @@ module _ (s : State) where
     pub due-E : s .left ≤ 0 → s .sheet .header .channels ≤ s .read → 69 ≡ dueTag s
     due-E h k = rw (b, le-ltb 0 (s .left) h, le-ltb (s .read) (s .sheet .header .channels) k)
 
-  -- whether a line F may stand
-  pub round-unbegun : s .begun ≡ false → false ≡ mayRound s
-  round-unbegun b = rw b
+  -- whether setting i may stand
+  module _ (i : ℕ) where
+    pub stand-unbegun : s .begun ≡ false → false ≡ mayStand i s
+    stand-unbegun b = rw b
 
-  pub round-late : (s .read ≡ 0 → ⊥) → s .begun ≡ true → false ≡ mayRound s
-  round-late r b = rw (b, ne-eqb (s .read) 0 r)
+    pub stand-late : (s .read ≡ 0 → ⊥) → s .begun ≡ true → false ≡ mayStand i s
+    stand-late r b = rw (b, ne-eqb (s .read) 0 r)
 
-  pub round-if : s .begun ≡ true → s .read ≡ 0 → (u : Bool) → u ≡ unsaid (s .sheet .settings .rounding) → u ≡ mayRound s
-  round-if b r u q = rw (b, eq-eqb (s .read) 0 r, q)
+    pub stand-if : s .begun ≡ true → s .read ≡ 0 → (n : ℕ) → n ≡ lastSaid (s .sheet .settings) → ltb n i ≡ mayStand i s
+    stand-if b r n q = rw (b, eq-eqb (s .read) 0 r, q)
 
-  module _ (fs : List (List ℕ)) (t : ℕ) (d : t ≡ dueTag s) (l : Bool) (e : l ≡ letter 70 (getD fs 0 [])) where
-    pub tag-other : l ≡ false → t ≡ lineTag s fs
+    module _ (fs : List (List ℕ)) (t : ℕ) (l : Bool) (e : l ≡ letter t (getD fs 0 [])) where
+      pub setting-other : l ≡ false → false ≡ isSetting s fs i t
+      setting-other p = rw (sym e ∙ p)
+
+      pub setting-if : l ≡ true → (m : Bool) → m ≡ mayStand i s → m ≡ isSetting s fs i t
+      setting-if p m q = rw (sym e ∙ p, q)
+
+  module _ (fs : List (List ℕ)) (f : Bool) (e : f ≡ isSetting s fs 1 70) where
+    pub tag-F : f ≡ true → 70 ≡ lineTag s fs
     unfolding lineTag
-    tag-other p = rw (sym e ∙ p) d
+    tag-F p = rw (sym e ∙ p)
 
-    pub tag-closed : l ≡ true → (m : Bool) → m ≡ mayRound s → m ≡ false → t ≡ lineTag s fs
-    unfolding lineTag
-    tag-closed p m q o = rw (sym e ∙ p, sym q ∙ o) d
+    module _ (p : f ≡ false) (a : Bool) (q : a ≡ isSetting s fs 2 65) where
+      pub tag-A : a ≡ true → 65 ≡ lineTag s fs
+      unfolding lineTag
+      tag-A o = rw (sym e ∙ p, sym q ∙ o)
 
-    pub tag-F : l ≡ true → (m : Bool) → m ≡ mayRound s → m ≡ true → 70 ≡ lineTag s fs
-    unfolding lineTag
-    tag-F p m q o = rw (sym e ∙ p, sym q ∙ o)
+      pub tag-due : a ≡ false → (t : ℕ) → t ≡ dueTag s → t ≡ lineTag s fs
+      unfolding lineTag
+      tag-due o t d = rw (sym e ∙ p, sym q ∙ o) d
 
 pub first-tag : (fs : List (List ℕ)) → lineTag blank fs ≡ 83
 unfolding blank lineTag
-first-tag fs = two (letter 70 (getD fs 0 []))
+first-tag fs = two (letter 70 (getD fs 0 [])) (letter 65 (getD fs 0 []))
   where
-    two : (x : Bool) → _≡_ {A = ℕ} (cond (x && false) 70 83) 83
-    two true = refl
-    two false = refl
+    two : (x y : Bool) → _≡_ {A = ℕ} (cond (x && false) 70 (cond (y && false) 65 83)) 83
+    two true true = refl
+    two true false = refl
+    two false true = refl
+    two false false = refl
 
--- a setting that was read is not unsaid
-pub said : (x : Bool) → unsaid (cond x choice.First choice.Second) ≡ false
-said true = refl
-said false = refl
+-- the last setting that was said
+module _ (x : Settings) (a : Bool) (e : a ≡ unsaid (x .start)) where
+  pub last-start : a ≡ false → 2 ≡ lastSaid x
+  last-start p = rw (sym e ∙ p)
+
+  module _ (p : a ≡ true) (r : Bool) (q : r ≡ unsaid (x .rounding)) where
+    pub last-rounding : r ≡ false → 1 ≡ lastSaid x
+    last-rounding o = rw (sym e ∙ p, sym q ∙ o)
+
+    pub last-none : r ≡ true → 0 ≡ lastSaid x
+    last-none o = rw (sym e ∙ p, sym q ∙ o)
 
 pub unsaid-none : (c : Choice) → c ≡ choice.Unsaid → true ≡ unsaid c
 unsaid-none c e = rw e
@@ -97,12 +118,17 @@ unsaid-first c e = rw e
 pub unsaid-second : (c : Choice) → c ≡ choice.Second → false ≡ unsaid c
 unsaid-second c e = rw e
 
-pub ruleset nexts = (headed-is, blank-is, due-S, due-B, due-C, due-E, round-unbegun, round-late, round-if, tag-other, tag-closed, tag-F, unsaid-none, unsaid-first, unsaid-second)
+pub ruleset nexts = (headed-is, blank-is, due-S, due-B, due-C, due-E, stand-unbegun, stand-late, stand-if, setting-other, setting-if, tag-F, tag-A, tag-due, last-start, last-rounding, last-none, unsaid-none, unsaid-first, unsaid-second)
+
+-- Setting i, by its tag
+pub data SettingTag (i tag : ℕ) : Type 0 where
+  F-tag : i ≡ 1 → tag ≡ 70 → SettingTag i tag
+  A-tag : i ≡ 2 → tag ≡ 65 → SettingTag i tag
 
 -- Which line may stand after what was read
 pub data Stands (s : State) (tag : ℕ) : Type 0 where
   Header-line : s .begun ≡ false → tag ≡ 83 → Stands s tag
-  Rounding-line : mayRound s ≡ true → tag ≡ 70 → Stands s tag
+  Setting-line : (i : ℕ) → mayStand i s ≡ true → SettingTag i tag → Stands s tag
   Block-line : s .begun ≡ true → 0 < s .left → tag ≡ 66 → Stands s tag
   Channel-line : s .begun ≡ true → s .left ≤ 0 → s .read < s .sheet .header .channels → tag ≡ 67 → Stands s tag
   End-line : s .begun ≡ true → s .left ≤ 0 → s .sheet .header .channels ≤ s .read → tag ≡ 69 → Stands s tag
@@ -112,7 +138,7 @@ unbegun s p q = let z : _≡_ {A = ℕ} 0 1 = cc in let y : ⊥ = omega arith in
 
 pub stands : (s : State) (fs : List (List ℕ)) (tag : ℕ) → tag ≡ lineTag s fs → Stands s tag
 unfolding lineTag
-stands s fs tag e = own (letter 70 (getD fs 0 []) && mayRound s) refl e
+stands s fs tag e = own (isSetting s fs 1 70) (isSetting s fs 2 65) refl refl e
   where
     three : (a b c : Bool) → s .begun ≡ a → ltb 0 (s .left) ≡ b → ltb (s .read) (s .sheet .header .channels) ≡ c → tag ≡ cond a (cond b 66 (cond c 67 69)) 83 → Stands s tag
     three false b c p q r o = Header-line p o
@@ -120,9 +146,10 @@ stands s fs tag e = own (letter 70 (getD fs 0 []) && mayRound s) refl e
     three true false true p q r o = Channel-line p (ltb-false 0 (s .left) q) (ltb-true (s .read) (s .sheet .header .channels) r) o
     three true false false p q r o = End-line p (ltb-false 0 (s .left) q) (ltb-false (s .read) (s .sheet .header .channels) r) o
 
-    own : (x : Bool) → (letter 70 (getD fs 0 []) && mayRound s) ≡ x → tag ≡ cond x 70 (dueTag s) → Stands s tag
-    own true p o = Rounding-line (both-right (letter 70 (getD fs 0 [])) (mayRound s) p) o
-    own false p o = three (s .begun) (ltb 0 (s .left)) (ltb (s .read) (s .sheet .header .channels)) refl refl refl o
+    own : (x y : Bool) → isSetting s fs 1 70 ≡ x → isSetting s fs 2 65 ≡ y → tag ≡ cond x 70 (cond y 65 (dueTag s)) → Stands s tag
+    own true y p q o = Setting-line 1 (both-right (letter 70 (getD fs 0 [])) (mayStand 1 s) p) (F-tag refl o)
+    own false true p q o = Setting-line 2 (both-right (letter 65 (getD fs 0 [])) (mayStand 2 s) q) (A-tag refl o)
+    own false false p q o = three (s .begun) (ltb 0 (s .left)) (ltb (s .read) (s .sheet .header .channels)) refl refl refl o
 
 -- What a line adds
 
@@ -131,9 +158,11 @@ pub placed-is : (s : Sheet) (j : ℕ) (c f g h : Channel)
     → record { header = s .header; settings = s .settings; first = f; second = g; third = h } ≡ placed s j c
 placed-is s j c f g h e i k = rw (e, i, k)
 
-pub rounded-is : (s : Sheet) (r : Choice)
-    → record { header = s .header; settings = record { rounding = r }; first = s .first; second = s .second; third = s .third } ≡ rounded s r
-rounded-is s r = refl
+pub with-rounding : (x : Settings) (y : Setting) (r : Choice) → y ≡ setting.Rounding r → record { rounding = r; start = x .start } ≡ withSetting x y
+with-rounding x y r e = rw e
+
+pub with-start : (x : Settings) (y : Setting) (a : Choice) → y ≡ setting.Start a → record { rounding = x .rounding; start = a } ≡ withSetting x y
+with-start x y a e = rw e
 
 pub product-fits : (a b : ℕ) → Fits w32 a → Fits w32 b → Fits w64 (a * b)
 product-fits a b h k = record { fits = lt-of-le-of-lt (mul-le-mul-left a (le-of-lt (k .fits))) (mul-lt-mul-of-pos-right (h .fits) (lit< tt)) }
@@ -161,10 +190,10 @@ module _ (s : State) (rec : Record) where
   pub record-channel : (c : Channel) (r : Taken) → rec ≡ line.Channel c → r ≡ takenOf s (line.Channel c) → r ≡ takenOf s rec
   record-channel c r e q = rw e q
 
-  pub record-rounding : (r : Choice) (t : Sheet) → rec ≡ line.Rounding r → t ≡ rounded (s .sheet) r
+  pub record-setting : (x : Setting) (y : Settings) (t : Sheet) → rec ≡ line.Setting x → y ≡ withSetting (s .sheet .settings) x → t ≡ settled (s .sheet) y
       → taken.Good (record { begun = s .begun; sheet = t; read = s .read; left = s .left }) ≡ takenOf s rec
   unfolding takenOf
-  record-rounding r t e q = rw (e, q)
+  record-setting x y t e p q = rw (e, q, p)
 
   pub record-block : rec ≡ line.Block → taken.Good (record { begun = s .begun; sheet = s .sheet; read = s .read; left = s .left - 1 }) ≡ takenOf s rec
   unfolding takenOf
@@ -183,11 +212,16 @@ unfolding recordOf
 due s fs tag e h rec q = subst⁻¹ (Due s) q (by (stands s fs tag e))
   where
     by : Stands s tag
-        → Due s (cond (eqb tag 83) (line.Header (headerOf fs)) (cond (eqb tag 67) (line.Channel (channelOf fs)) (cond (eqb tag 70) (line.Rounding (choiceOf 116 (getD fs 1 []))) line.Block)))
+        → Due s
+        (cond (eqb tag 83) (line.Header (headerOf fs))
+        (cond (eqb tag 67) (line.Channel (channelOf fs))
+        (cond (eqb tag 70) (line.Setting (setting.Rounding (choiceOf 116 (getD fs 1 []))))
+        (cond (eqb tag 65) (line.Setting (setting.Start (choiceOf 109 (getD fs 1 [])))) line.Block))))
     by (Header-line p o) = rw o tt
-    by (Rounding-line p o) = rw o tt
+    by (Setting-line i p (F-tag n o)) = rw o tt
+    by (Setting-line i p (A-tag n o)) = rw o tt
     by (Block-line p l o) = rw o l
     by (Channel-line p l r o) = rw o r
     by (End-line p l r o) = absurd (h o)
 
-pub ruleset takes = (placed-is, channel-wide, channel-high, channel-opened, product-fits, record-header, record-channel, record-rounding, record-block, rounded-is, due-channel, due-block)
+pub ruleset takes = (placed-is, channel-wide, channel-high, channel-opened, product-fits, record-header, record-channel, record-setting, record-block, with-rounding, with-start, due-channel, due-block)

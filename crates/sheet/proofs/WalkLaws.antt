@@ -32,7 +32,7 @@ use Rattle.sheet.specs.declared.state.State.{State}
 use Rattle.sheet.specs.declared.state.Taken.{Taken}
 use Rattle.sheet.specs.declared.state.Taken.the-variants as taken
 use Rattle.sheet.specs.declared.walk.Walked.the-variants as walked
-use Rattle.sheet.specs.Lines.{headerRules, roundingRules, channelRules, blockRules, endRules, rulesOf, fieldCount, firstFault, fieldsFault, lineLevels, lineTables, holding, recordOf}
+use Rattle.sheet.specs.Lines.{headerRules, roundingRules, startRules, channelRules, blockRules, endRules, rulesOf, fieldCount, firstFault, fieldsFault, lineLevels, lineTables, holding, recordOf}
 use Rattle.contents.specs.Sheets.{Held, held}
 use Rattle.sheet.specs.Reading.{Outcome, Contents, contents, blank, lineTag, takenOf, isLast, nothingLeft, onTaken, lineFault, readFrom, allowed, readText}
 use Rattle.sheet.specs.Reading.Outcome.{Refused}
@@ -80,14 +80,16 @@ stored-end d e = record { next = omega (arith, d .next, e .next); last = e .last
 
 pub rules-length : (t : ℕ) (limits : Limits) (top : Header) (fs : List (List ℕ)) → length (rulesOf t limits top fs) ≡ fieldCount t
 unfolding rulesOf fieldCount
-rules-length t limits top fs = four (eqb t 66) (eqb t 67) (eqb t 83) (eqb t 70)
+rules-length t limits top fs = five (eqb t 66) (eqb t 67) (eqb t 83) (eqb t 70) (eqb t 65)
   where
-    four : (a b c d : Bool) → length (cond a blockRules (cond b channelRules (cond c (headerRules limits fs) (cond d roundingRules endRules)))) ≡ cond a 65 (cond b 69 (cond c 16 (cond d 2 1)))
-    four true b c d = refl
-    four false true c d = refl
-    four false false true d = refl
-    four false false false true = refl
-    four false false false false = refl
+    five : (a b c d e : Bool) → length (cond a blockRules (cond b channelRules (cond c (headerRules limits fs) (cond d roundingRules (cond e startRules endRules)))))
+        ≡ cond a 65 (cond b 69 (cond c 16 (cond d 2 (cond e 2 1))))
+    five true b c d e = refl
+    five false true c d e = refl
+    five false false true d e = refl
+    five false false false true e = refl
+    five false false false false true = refl
+    five false false false false false = refl
 
 -- E adds nothing
 end-levels : (t : ℕ) (limits : Limits) (top : Header) (fs : List (List ℕ)) → t ≡ 69 → lineLevels (rulesOf t limits top fs) fs ≡ []

@@ -1,5 +1,5 @@
 -- The lines of a sheet: the rule of each field, left to right, and what a good line says.
--- Tags are S (83), F (70), C (67), B (66) and E (69).
+-- Tags are S (83), F (70), A (65), C (67), B (66) and E (69).
 use Prim.Native.Nat.{ℕ}
 use mathlib.Core.List.{List, [], _∷_, _++_}
 use mathlib.Core.Bool.{cond}
@@ -17,6 +17,7 @@ use Rattle.contents.specs.declared.Choice.{Choice}
 use Rattle.contents.specs.declared.Choice.the-variants as choice
 use Rattle.contents.specs.declared.Header.{Header}
 use Rattle.contents.specs.declared.Channel.{Channel}
+use Rattle.sheet.specs.declared.line.Setting.the-variants as setting
 use Rattle.sheet.specs.declared.line.Record.{Record}
 use Rattle.sheet.specs.declared.line.Record.the-variants as line
 use Rattle.contents.specs.Sheets.{Held, held}
@@ -49,9 +50,17 @@ headerRules limits fs =
     ∷ count ∷ count ∷ count
     ∷ replicate 6 rule.Weight
 
+-- a setting with one of two letters
+abbrev pub choiceRules : ℕ → ℕ → ℕ → List Rule
+choiceRules tag a b = rule.Tag tag ∷ rule.Letters a b ∷ []
+
 -- "A line `F` with `t` or `n`" (M-100)
 abbrev pub roundingRules : List Rule
-roundingRules = rule.Tag 70 ∷ rule.Letters 116 110 ∷ []
+roundingRules = choiceRules 70 116 110
+
+-- "A line `A` with `m` or `o`" (M-102)
+abbrev pub startRules : List Rule
+startRules = choiceRules 65 109 111
 
 -- "`C`, own width w and height h, across and down factors, 64 quantisers"
 abbrev pub channelRules : List Rule
@@ -67,11 +76,16 @@ endRules = rule.Tag 69 ∷ []
 
 -- the rules of a line of this tag with the fields fs, after the header h
 unfoldable pub rulesOf : ℕ → Limits → Header → List (List ℕ) → List Rule
-rulesOf tag limits h fs = cond (eqb tag 66) blockRules (cond (eqb tag 67) channelRules (cond (eqb tag 83) (headerRules limits fs) (cond (eqb tag 70) roundingRules endRules)))
+rulesOf tag limits h fs =
+    cond (eqb tag 66) blockRules
+    (cond (eqb tag 67) channelRules
+    (cond (eqb tag 83) (headerRules limits fs)
+    (cond (eqb tag 70) roundingRules
+    (cond (eqb tag 65) startRules endRules))))
 
 -- how many fields that line must have
 unfoldable pub fieldCount : ℕ → ℕ
-fieldCount tag = cond (eqb tag 66) 65 (cond (eqb tag 67) 69 (cond (eqb tag 83) 16 (cond (eqb tag 70) 2 1)))
+fieldCount tag = cond (eqb tag 66) 65 (cond (eqb tag 67) 69 (cond (eqb tag 83) 16 (cond (eqb tag 70) 2 (cond (eqb tag 65) 2 1))))
 
 -- "fields left to right": the fault of the first bad field, if there is one
 abbrev pub orElse : Option ℕ → Option ℕ → Option ℕ
@@ -132,4 +146,7 @@ choiceOf a f = cond (letter a f) choice.First choice.Second
 
 unfoldable pub recordOf : ℕ → List (List ℕ) → Record
 recordOf tag fs =
-    cond (eqb tag 83) (line.Header (headerOf fs)) (cond (eqb tag 67) (line.Channel (channelOf fs)) (cond (eqb tag 70) (line.Rounding (choiceOf 116 (getD fs 1 []))) line.Block))
+    cond (eqb tag 83) (line.Header (headerOf fs))
+    (cond (eqb tag 67) (line.Channel (channelOf fs))
+    (cond (eqb tag 70) (line.Setting (setting.Rounding (choiceOf 116 (getD fs 1 []))))
+    (cond (eqb tag 65) (line.Setting (setting.Start (choiceOf 109 (getD fs 1 [])))) line.Block)))

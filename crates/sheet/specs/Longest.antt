@@ -8,8 +8,8 @@ use Rattle.digits.specs.Written.{decimal, rowBytes}
 abbrev pub headerSizes : ℕ → List ℕ
 headerSizes d = 1 ∷ d ∷ d ∷ d ∷ d ∷ 1 ∷ 1 ∷ 4 ∷ 4 ∷ 4 ∷ replicate 6 9
 
-abbrev pub roundingSizes : List ℕ
-roundingSizes = 1 ∷ 1 ∷ []
+abbrev pub choiceSizes : List ℕ
+choiceSizes = 1 ∷ 1 ∷ []
 
 abbrev pub channelSizes : ℕ → List ℕ
 channelSizes d = 1 ∷ d ∷ d ∷ 1 ∷ 1 ∷ replicate 64 3
@@ -21,9 +21,13 @@ blockSizes = 1 ∷ replicate 64 5
 abbrev pub channelBytes : ℕ → ℕ → ℕ
 channelBytes limit d = rowBytes (channelSizes d) + limit * limit / 64 * rowBytes blockSizes
 
--- No legal text has more bytes: a header, a rounding, three channels and E
+-- the lines of all settings, F and A
+abbrev pub settingsBytes : ℕ
+settingsBytes = rowBytes choiceSizes + rowBytes choiceSizes
+
+-- No legal text has more bytes: a header, the settings, three channels and E
 unfoldable pub longest : ℕ → ℕ
-longest limit = let d = length (decimal limit) in rowBytes (headerSizes d) + rowBytes roundingSizes + 3 * channelBytes limit d + 2
+longest limit = let d = length (decimal limit) in rowBytes (headerSizes d) + settingsBytes + 3 * channelBytes limit d + 2
 
 -- So many bytes of a text, or more, decide it: the first bad line of a longer text begins within the longest legal text, and
 -- ends in sight or shows more than 1,024 bytes

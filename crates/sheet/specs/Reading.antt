@@ -13,7 +13,10 @@ use Rattle.contents.specs.declared.Choice.{Choice}
 use Rattle.contents.specs.declared.Choice.the-variants as choice
 use Rattle.contents.specs.declared.Header.{Header}
 use Rattle.contents.specs.declared.Channel.{Channel}
+use Rattle.contents.specs.declared.Settings.{Settings}
 use Rattle.contents.specs.declared.Sheet.{Sheet}
+use Rattle.sheet.specs.declared.line.Setting.{Setting}
+use Rattle.sheet.specs.declared.line.Setting.the-variants as setting
 use Rattle.sheet.specs.declared.line.Record.{Record}
 use Rattle.sheet.specs.declared.line.Record.the-variants as line
 use Rattle.sheet.specs.declared.state.State.{State}
@@ -48,22 +51,36 @@ blank = record { begun = false; sheet = headed noHeader; read = 0; left = 0 }
 abbrev pub dueTag : State → ℕ
 dueTag s = cond (s .begun) (cond (ltb 0 (s .left)) 66 (cond (ltb (s .read) (s .sheet .header .channels)) 67 69)) 83
 
--- "`F` .. may follow the `S` line": no other setting and no channel was read
+-- No line said this setting
 abbrev pub unsaid : Choice → Bool
 unsaid choice.Unsaid = true
 unsaid choice.First = false
 unsaid choice.Second = false
 
-abbrev pub mayRound : State → Bool
-mayRound s = s .begun && (eqb (s .read) 0 && unsaid (s .sheet .settings .rounding))
+-- The settings have an order: F is 1, A is 2. The last that was said, 0 where none was
+abbrev pub lastSaid : Settings → ℕ
+lastSaid x = cond (unsaid (x .start)) (cond (unsaid (x .rounding)) 0 1) 2
+
+-- "`F` .. may follow the `S` line", "`A` .. may follow `S` or `F`": setting i where no channel was read, and no setting but earlier ones
+abbrev pub mayStand : ℕ → State → Bool
+mayStand i s = s .begun && (eqb (s .read) 0 && ltb (lastSaid (s .sheet .settings)) i)
+
+-- the line has the tag of setting i, and may stand here
+abbrev pub isSetting : State → List (List ℕ) → ℕ → ℕ → Bool
+isSetting s fs i tag = letter tag (getD fs 0 []) && mayStand i s
 
 -- The tag that a line with the fields fs is read by: its own where it may stand here, else the due one, whose rule then gives 1
 unfoldable pub lineTag : State → List (List ℕ) → ℕ
-lineTag s fs = cond (letter 70 (getD fs 0 []) && mayRound s) 70 (dueTag s)
+lineTag s fs = cond (isSetting s fs 1 70) 70 (cond (isSetting s fs 2 65) 65 (dueTag s))
 
--- a sheet with this rounding
-abbrev pub rounded : Sheet → Choice → Sheet
-rounded s r = record { header = s .header; settings = record { rounding = r }; first = s .first; second = s .second; third = s .third }
+-- one more setting
+abbrev pub withSetting : Settings → Setting → Settings
+withSetting x (setting.Rounding r) = record { rounding = r; start = x .start }
+withSetting x (setting.Start a) = record { rounding = x .rounding; start = a }
+
+-- a sheet with these settings
+abbrev pub settled : Sheet → Settings → Sheet
+settled s x = record { header = s .header; settings = x; first = s .first; second = s .second; third = s .third }
 
 -- channel j
 abbrev pub placed : Sheet → ℕ → Channel → Sheet
@@ -88,7 +105,7 @@ covers h c = leb (c .width * c .across) (h .width) && leb (c .height * c .down) 
 unfoldable pub takenOf : State → Record → Taken
 takenOf s (line.Header h) = taken.Good (record { begun = true; sheet = headed h; read = 0; left = 0 })
 takenOf s (line.Channel c) = cond (covers (s .sheet .header) c) (taken.Good (opened s c)) (taken.Bad 2)
-takenOf s (line.Rounding r) = taken.Good (record { begun = s .begun; sheet = rounded (s .sheet) r; read = s .read; left = s .left })
+takenOf s (line.Setting x) = taken.Good (record { begun = s .begun; sheet = settled (s .sheet) (withSetting (s .sheet .settings) x); read = s .read; left = s .left })
 takenOf s line.Block = taken.Good (record { begun = s .begun; sheet = s .sheet; read = s .read; left = s .left - 1 })
 
 -- The line p is the last piece: unended, or nothing at all

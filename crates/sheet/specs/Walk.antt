@@ -23,7 +23,7 @@ use Rattle.sheet.specs.Reading.Outcome.{Gives, Refused}
 abbrev pub Due : State → Record → Type 0
 Due s (line.Header h) = Unit {0}
 Due s (line.Channel c) = s .read < s .sheet .header .channels
-Due s (line.Rounding r) = Unit {0}
+Due s (line.Setting x) = Unit {0}
 Due s line.Block = 0 < s .left
 
 -- What the field before field i said; before the first there is none

@@ -9,9 +9,12 @@ use Rattle.digits.specs.Written.{decimal, joined, ended}
 use Rattle.contents.specs.declared.Choice.{Choice}
 use Rattle.contents.specs.declared.Choice.the-variants as choice
 use Rattle.contents.specs.declared.Header.{Header}
+use Rattle.contents.specs.declared.Settings.{Settings}
 use Rattle.contents.specs.declared.Channel.{Channel}
 use Rattle.contents.specs.declared.Sheet.{Sheet}
 use Rattle.contents.specs.Sheets.{Held, held, channelsOf}
+use Rattle.sheet.specs.declared.line.Setting.{Setting}
+use Rattle.sheet.specs.declared.line.Setting.the-variants as setting
 
 -- The fields of each line
 abbrev pub headerFields : Header → List (List ℕ)
@@ -40,8 +43,13 @@ choiceLines tag a b choice.Unsaid = []
 choiceLines tag a b choice.First = joined ((tag ∷ []) ∷ (a ∷ []) ∷ []) ∷ []
 choiceLines tag a b choice.Second = joined ((tag ∷ []) ∷ (b ∷ []) ∷ []) ∷ []
 
-abbrev pub settingLines : Sheet → List (List ℕ)
-settingLines s = choiceLines 70 116 110 (s .settings .rounding)
+-- the line of a setting, and all settings in their order
+abbrev pub settingLine : Setting → List (List ℕ)
+settingLine (setting.Rounding r) = choiceLines 70 116 110 r
+settingLine (setting.Start a) = choiceLines 65 109 111 a
+
+abbrev pub settingLines : Settings → List (List ℕ)
+settingLines x = settingLine (setting.Rounding (x .rounding)) ++ settingLine (setting.Start (x .start))
 
 -- n blocks, one after the other
 abbrev pub blockLines : ℕ → List ℤ → List (List ℕ)
@@ -57,4 +65,4 @@ channelLines (c ∷ cs) h =
 
 unfoldable pub written : Sheet → Held → List ℕ
 unfolding decimal weightText levelText
-written s h = ended (joined (headerFields (s .header)) ∷ (settingLines s ++ (channelLines (channelsOf s) h ++ joined endFields ∷ [])))
+written s h = ended (joined (headerFields (s .header)) ∷ (settingLines (s .settings) ++ (channelLines (channelsOf s) h ++ joined endFields ∷ [])))

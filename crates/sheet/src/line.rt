@@ -13,14 +13,20 @@ ghost use mathlib.Core.List.{[]};
 ghost use Prim.Native.Nat.{_<_};
 ghost use lib.ListN.{getD};
 ghost use Rattle.text.specs.Pieces.{split};
-ghost use Rattle.sheet.specs.Lines.{headerRules, roundingRules, choiceOf, channelRules, blockRules, rulesOf, fieldCount, headerOf, channelOf, recordOf};
+ghost use Rattle.sheet.specs.Lines.{headerRules, choiceRules, choiceOf, channelRules, blockRules, rulesOf, fieldCount, headerOf, channelOf, recordOf};
 ghost use Rattle.sheet.specs.Walk.{saidBefore};
+
+// A setting's line: F or A.
+pub enum Setting {
+    Rounding(Choice),
+    Start(Choice),
+}
 
 // A line as read. Quantisers and levels go to the buffers.
 pub enum Record {
     Header(Header),
+    Setting(Setting),
     Channel(Channel),
-    Rounding(Choice),
     Block,
 }
 
@@ -38,6 +44,9 @@ pub fn field_count(tag: u8) -> usize
         return 65;
     }
     if tag == b'F' {
+        return 2;
+    }
+    if tag == b'A' {
         return 2;
     }
     1
@@ -110,14 +119,15 @@ fn block_rule(i: usize) -> Rule
     if i == 0 { Rule::Tag(b'B') } else { Rule::Level }
 }
 
-fn rounding_rule(i: usize) -> Rule
+// A setting with one of two letters.
+fn choice_rule(i: usize, tag: u8, a: u8, b: u8) -> Rule
     requires { ⌜ i < 2 ⌝ }
-    ensures { λ r. ⌜ r ≡ getD roundingRules i (Rule.Tag 0) ⌝ }
+    ensures { λ r. ⌜ r ≡ getD (choiceRules tag a b) i (Rule.Tag 0) ⌝ }
 {
     if i == 0 {
-        return Rule::Tag(b'F');
+        return Rule::Tag(tag);
     }
-    Rule::Letters(b't', b'n')
+    Rule::Letters(a, b)
 }
 
 // The rule of field i of a line after this header. The field before it said `last`, so that a rule can depend on it and nothing is read twice.
@@ -135,7 +145,10 @@ pub fn rule_at(tag: u8, i: usize, limits: Limits, header: Header, last: Field, r
         return header_rule(i, limits, row);
     }
     if tag == b'F' {
-        return rounding_rule(i);
+        return choice_rule(i, b'F', b't', b'n');
+    }
+    if tag == b'A' {
+        return choice_rule(i, b'A', b'm', b'o');
     }
     Rule::Tag(b'E')
 }
@@ -200,7 +213,10 @@ pub fn record_of(tag: u8, row: &[u8]) -> Record
         return Record::Channel(channel_of(row));
     }
     if tag == b'F' {
-        return Record::Rounding(choice_at(row, 1, b't'));
+        return Record::Setting(Setting::Rounding(choice_at(row, 1, b't')));
+    }
+    if tag == b'A' {
+        return Record::Setting(Setting::Start(choice_at(row, 1, b'm')));
     }
     Record::Block
 }

@@ -1,5 +1,6 @@
 // What was read so far, and what the next line adds to it.
 use crate::line::Record;
+use crate::line::Setting;
 use contents::Channel;
 use contents::Choice;
 use contents::Header;
@@ -13,7 +14,7 @@ ghost use Rattle.contents.specs.Sheets.{noHeader, noChannel};
 ghost use Prim.Native.Nat.{_<_};
 ghost use Rattle.sheet.specs.Walk.{Due};
 ghost use Rattle.text.specs.Pieces.{split};
-ghost use Rattle.sheet.specs.Reading.{blank, headed, placed, dueTag, unsaid, mayRound, lineTag, rounded, takenOf};
+ghost use Rattle.sheet.specs.Reading.{blank, headed, placed, dueTag, unsaid, lastSaid, mayStand, isSetting, lineTag, withSetting, settled, takenOf};
 
 // The sheet so far: whether the header was read, how many channels were, and how many blocks of the last are still to come.
 pub struct State {
@@ -70,6 +71,7 @@ fn no_channels(header: Header) -> Sheet
     let none = no_channel();
     let settings = Settings {
         rounding: Choice::Unsaid,
+        start: Choice::Unsaid,
     };
     Sheet {
         header,
@@ -121,18 +123,42 @@ fn is_unsaid(c: Choice) -> bool
     }
 }
 
-// May a line F stand here?
-fn may_round(s: State) -> bool
-    ensures { λ r. ⌜ r ≡ mayRound s ⌝ }
+// The last setting that was said: 1 for F, 2 for A, 0 for none.
+fn last_said(settings: Settings) -> u32
+    ensures { λ r. ⌜ r ≡ lastSaid settings ⌝ }
+{
+    let rounding = settings.rounding;
+    let start = settings.start;
+    if is_unsaid(start) {
+        if is_unsaid(rounding) {
+            return 0;
+        }
+        return 1;
+    }
+    2
+}
+
+// May setting i stand here?
+fn may_stand(s: State, i: u32) -> bool
+    ensures { λ r. ⌜ r ≡ mayStand i s ⌝ }
 {
     let sheet = s.sheet;
     let settings = sheet.settings;
-    let rounding = settings.rounding;
     if s.begun {
         if s.read != 0 {
             return false;
         }
-        return is_unsaid(rounding);
+        return last_said(settings) < i;
+    }
+    false
+}
+
+// Is this the line of setting i, with this tag, and may it stand here?
+fn is_setting(s: State, row: &[u8], i: u32, tag: u8) -> bool
+    ensures { λ r. ⌜ r ≡ isSetting s (split 9 (now (row .entry))) i tag ⌝ }
+{
+    if field::letter_at(row, 0, tag) {
+        return may_stand(s, i);
     }
     false
 }
@@ -141,25 +167,35 @@ fn may_round(s: State) -> bool
 pub fn expected(s: State, row: &[u8]) -> u8
     ensures { λ r. ⌜ r ≡ lineTag s (split 9 (now (row .entry))) ⌝ }
 {
-    let tag = due(s);
-    if field::letter_at(row, 0, b'F') {
-        if may_round(s) {
-            return b'F';
-        }
-        return tag;
+    if is_setting(s, row, 1, b'F') {
+        return b'F';
     }
-    tag
+    if is_setting(s, row, 2, b'A') {
+        return b'A';
+    }
+    due(s)
 }
 
-// A sheet with this rounding.
-fn set_rounding(sheet: Sheet, rounding: Choice) -> Sheet
-    ensures { λ r. ⌜ r ≡ rounded sheet rounding ⌝ }
+// One more setting.
+fn set_one(settings: Settings, x: Setting) -> Settings
+    ensures { λ r. ⌜ r ≡ withSetting settings x ⌝ }
+{
+    let rounding = settings.rounding;
+    let start = settings.start;
+    match x {
+        Setting::Rounding(r) => Settings { rounding: r, start },
+        Setting::Start(a) => Settings { rounding, start: a },
+    }
+}
+
+// A sheet with these settings.
+fn settle(sheet: Sheet, settings: Settings) -> Sheet
+    ensures { λ r. ⌜ r ≡ settled sheet settings ⌝ }
 {
     let header = sheet.header;
     let first = sheet.first;
     let second = sheet.second;
     let third = sheet.third;
-    let settings = Settings { rounding };
     Sheet {
         header,
         settings,
@@ -237,10 +273,11 @@ pub fn take_record(s: State, rec: Record) -> Taken
                 left: 0,
             })
         }
-        Record::Channel(c) => take_channel(s, c),
-        Record::Rounding(rounding) => {
+        Record::Setting(x) => {
             let sheet = s.sheet;
-            let sheet = set_rounding(sheet, rounding);
+            let settings = sheet.settings;
+            let settings = set_one(settings, x);
+            let sheet = settle(sheet, settings);
             Taken::Good(State {
                 begun: s.begun,
                 sheet,
@@ -248,6 +285,7 @@ pub fn take_record(s: State, rec: Record) -> Taken
                 left: s.left,
             })
         }
+        Record::Channel(c) => take_channel(s, c),
         Record::Block => {
             let mut t = s;
             t.left = s.left - 1;

@@ -57,7 +57,7 @@ abbrev pub choiceFrom : ℕ → Choice
 choiceFrom n = cond (eqb n 1) choice.Second choice.First
 
 abbrev pub settingsFrom : List ℕ → Settings
-settingsFrom ns = record { rounding = choiceFrom (getD ns 27 0) }
+settingsFrom ns = record { rounding = choiceFrom (getD ns 27 0); start = choice.Unsaid }
 
 unfoldable pub sheetOfNumbers : List ℕ → Sheet
 sheetOfNumbers ns =

@@ -64,7 +64,10 @@ fn settings_from(numbers: &[u32]) -> Settings
     ensures { λ r. ⌜ r ≡ settingsFrom (now (numbers .entry)) ⌝ }
 {
     let rounding = choice_from(numbers[27]);
-    Settings { rounding }
+    Settings {
+        rounding,
+        start: Choice::Unsaid,
+    }
 }
 
 // The sheet that a record's numbers say.

@@ -1,0 +1,10 @@
+-- `sheet::state::last_said` meets its contract.
+use borrow.Author.Needs.{needs}
+use Rattle.sheet.proofs.StateLaws.{nexts}
+use Rattle.sheet.proofs.state.last_said.Statement.{statement}
+use Rattle.sheet.proofs.state.last_said.Tie as tie
+
+pub last-said-spec : {M : Type 1} → statement M
+last-said-spec =
+    tie.close
+    (tie.spec (λ c κs. search needs) (λ c κs. search needs) (λ c. search nexts) (λ c. search nexts) (λ c. search nexts))

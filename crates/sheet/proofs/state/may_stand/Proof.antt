@@ -1,0 +1,10 @@
+-- `sheet::state::may_stand` meets its contract.
+use borrow.Author.Needs.{needs}
+use Rattle.sheet.proofs.StateLaws.{nexts}
+use Rattle.sheet.proofs.state.may_stand.Statement.{statement}
+use Rattle.sheet.proofs.state.may_stand.Tie as tie
+
+pub may-stand-spec : {M : Type 1} → statement M
+may-stand-spec =
+    tie.close
+    (tie.spec (λ c. search nexts) (λ c κs. search needs) (λ c. search nexts) (λ c. search nexts))

@@ -1,0 +1,10 @@
+-- `sheet::state::set_one` meets its contract.
+use borrow.Author.Needs.{needs}
+use Rattle.sheet.proofs.StateLaws.{takes}
+use Rattle.sheet.proofs.state.set_one.Statement.{statement}
+use Rattle.sheet.proofs.state.set_one.Tie as tie
+
+pub set-one-spec : {M : Type 1} → statement M
+set-one-spec =
+    tie.close
+    (tie.spec (λ c. search needs) (λ c. search needs) (λ c. search takes) (λ c. search takes))
