@@ -83,15 +83,16 @@ USES = {
     'Rattle.fidelity.specs.DctGradient': 'cosbOf cosbsOf spread spreadBlock gradientBlock dctGradient dataGradient',
     'Rattle.projection.specs.Projection': 'meanOf splitAt split clampAt clampBlock clamped keep ontoBox back projectFull projectMeans projectOntoBox',
     'Rattle.projection.specs.Blown': 'isBlown',
-    'Rattle.solver.specs.Solver': 'pushing dataJob blending moving projecting',
+    'Rattle.work.specs.Work': 'pushing dataJob blending moving projecting',
 }
 OTHER = '''use mathlib.Core.Path.{_≡_, refl}
 use mathlib.Core.Bool.{false}
 use mathlib.Core.List.{List, [], _∷_, map}
 use Rattle.steps.specs.declared.solve.Constants.{Constants}
+use Rattle.start.specs.declared.coef.Reorder.the-variants.{Each}
 use Rattle.start.specs.Buffers.{Buffers}
 use Rattle.start.specs.Coef.{Coef, coef}
-use Rattle.solver.specs.Solver.{starting}
+use Rattle.work.specs.Work.{starting}
 use Rattle.calls.specs.Jobs.{channelBlown}
 use lib.Ieee.{Float, binary32}'''
 UNFOLD = ' '.join(USES.values())
@@ -120,7 +121,7 @@ def main(name):
     given = name.lower()
     o.insert(-1, 'use Rattle.wrong.specs.Sheet.{%s}' % given)
     for c, k in enumerate(channels):  # of one channel: its levels and quantisers are all that the sheet is given
-        o.append('unfoldable pub c%d : Coef\nc%d = coef (record { width = %d; height = %d; across = %d; down = %d }) (%s .levels) (%s .tables)\n' % (
+        o.append('unfoldable pub c%d : Coef\nc%d = coef (record { width = %d; height = %d; horizontal = %d; vertical = %d }) (%s .levels) (%s .tables)\n' % (
             c, c, k['w'], k['h'], k['across'], k['down'], given, given))
     for step, k in sorted(constants.items()):
         values = '; '.join('%s = ofBits binary32 %d' % (f, v) for f, v in zip(['term', 'factor', '«step_size»', 'second'], k))
@@ -162,7 +163,7 @@ def main(name):
         for c in range(n):
             b, d = 'b%d-%d' % (p - 1, c), 'b%d-%d' % (p, c)
             opened = [(given, []), ('c%d' % c, []), (d, names[p, c])] + ([(b, names[p - 1, c]), ('k%d' % step, [])] if p else [])
-            left = ['starting c%d %d %d' % (c, W, H)] if p == 0 else {
+            left = ['starting Each c%d %d %d' % (c, W, H)] if p == 0 else {
                 0: ['pushing k%d %s' % (step, b)],
                 1: ['dataJob c%d %d %d (ofBits binary32 %d) %s' % (c, W, H, bits(weights[c]), b)],
                 3: ['moving k%d %s' % (step, b)],

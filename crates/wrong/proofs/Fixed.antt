@@ -1,6 +1,7 @@
 -- What the recursion fixes for the small sheet at each count, 0 to 10: the buffers of the Rust's trace.
 use mathlib.Core.Path.{_≡_, refl, ap, _∙_}
 use lib.Ieee.{binary32, ofBits}
+use Rattle.start.specs.declared.coef.Reorder.the-variants.{Each}
 use Rattle.start.specs.Buffers.{Buffers}
 use Rattle.start.specs.Coef.{Coef}
 use Rattle.work.specs.Work.{starting, pushing, dataJob, blending, moving, projecting}
@@ -29,7 +30,7 @@ whole-8 = refl
 
 pub at-0 : fixed jobs low8 0 0 ≡ b0-0
 unfolding fixed low8
-at-0 = ap (λ (C : Coef). starting C 8 8) coef-is ∙ start-0-0
+at-0 = ap (λ (C : Coef). starting Each C 8 8) coef-is ∙ start-0-0
 
 pub at-1 : fixed jobs low8 1 0 ≡ b1-0
 unfolding fixed low8

@@ -3,6 +3,7 @@ use mathlib.Core.Path.{_≡_, refl}
 use mathlib.Core.Bool.{false}
 use mathlib.Core.List.{List, [], _∷_, map}
 use Rattle.steps.specs.declared.solve.Constants.{Constants}
+use Rattle.start.specs.declared.coef.Reorder.the-variants.{Each}
 use Rattle.start.specs.Buffers.{Buffers}
 use Rattle.start.specs.Coef.{Coef, coef, change}
 use Rattle.work.specs.Work.{starting}
@@ -130,7 +131,7 @@ l16 = map (ofBits binary32) (3155437843 ∷ 970137344 ∷ 3150027744 ∷ 3163451
 unfoldable pub b10-0 : Buffers
 b10-0 = record { plane = l15; prior = l7; gradient = l11; across = l15; down = l13; saved = l16 }
 
-pub start-0-0 : starting c0 8 8 ≡ b0-0
+pub start-0-0 : starting Each c0 8 8 ≡ b0-0
 unfolding low8 c0 b0-0 l0 l1 l2 trailingZeros add sub mul div sum round units odd size span climb ofBits ofFields neg ne eq lt ofInt upto mulAdd fused square product half midpoint isqrt halves root clamp fromBlocks toBlocks onLine idct8 dct8 idct8x8 dct8x8 upsamplePixels lowest highest dequantised nextTerm termOf constants pushed dataAlpha gradientNorm movedBy moved difference bump bumpUnless tvDifferencesAt tvDifferences gNormOf tvChannelDerivatives tvDerivatives store tvGradientPx tvAlpha tvGradient tgvDifferencesAt tgvDifferences g2NormOf tgvBeside tgvUpDown tgvCorners tgvChannelDerivatives tgvDerivatives tgvGradientPx tgvAlpha tgvGradient blended dequantise imageBlock imageData initDctTarget initPixels auxInit cosbOf cosbsOf spread spreadBlock gradientBlock dctGradient dataGradient meanOf change splitAt split clampAt clampBlock clamped keep ontoBox back projectFull projectMeans projectOntoBox isBlown pushing dataJob blending moving projecting
 start-0-0 = refl
 

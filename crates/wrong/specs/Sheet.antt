@@ -5,6 +5,7 @@ use mathlib.Core.List.{List, [], _∷_}
 use lib.IntN.{pos, negsuc}
 use lib.ListN.{take}
 use lib.Ieee.{Float, binary32, ofBits}
+use Rattle.start.specs.declared.coef.Reorder.the-variants.{Each}
 use Rattle.calls.specs.Run.{Place, Given}
 use Rattle.calls.specs.Buffers.{make}
 use Rattle.calls.specs.Jobs.{push, fidelity, move, project, Call, on, blend}
@@ -21,6 +22,7 @@ low8 =
             H = 8;
             N = 2;
             smoothing = ofBits binary32 1058642330;
+            reorder = Each;
             count = 1;
             owns = record { width = 8; height = 8; across = 1; down = 1; data-weight = ofBits binary32 1017370378 } ∷ [];
           };
