@@ -6,6 +6,7 @@ use mathlib.Core.List.{List, [], _∷_, map}
 use Prim.Native.Nat.{ℕ}
 use lib.IntN.{ℤ}
 use lib.Ieee.{Float}
+use Rattle.start.specs.declared.coef.Reorder.{Reorder}
 use Rattle.calls.specs.Run.{Numbers, Given}
 use Rattle.calls.specs.Jobs.{Call, fixed, channelBlown}
 use Rattle.calls.specs.Calls.{noneYet, plain, plainAnswers}
@@ -15,9 +16,9 @@ use Rattle.serve.specs.Serve.{callList, byteOf}
 abbrev calls : List Call
 calls = callList (0 ∷ 0 ∷ 0 ∷ 2 ∷ 1 ∷ 2 ∷ 3 ∷ 4 ∷ 0 ∷ []) (0 ∷ 0 ∷ 7 ∷ 0 ∷ 0 ∷ 0 ∷ 0 ∷ 0 ∷ 0 ∷ [])
 
-module _ (w h : ℕ) (smoothing : Float) (own : Numbers) (levels : List ℤ) (tables : List ℕ) where
+module _ (w h : ℕ) (smoothing : Float) (reorder : Reorder) (own : Numbers) (levels : List ℤ) (tables : List ℕ) where
   abbrev G : Given
-  G = record { sheet = record { W = w; H = h; N = 1; smoothing = smoothing; count = 1; owns = own ∷ [] }; levels = levels; tables = tables }
+  G = record { sheet = record { W = w; H = h; N = 1; smoothing = smoothing; reorder = reorder; count = 1; owns = own ∷ [] }; levels = levels; tables = tables }
 
   -- 9, 12 and 9 are the refusals; where project marks the channel, it is 255, and the last call is 10 before it is 11
   pub answered : (bad : Bool) → channelBlown G 0 (fixed jobs G 5 0) ≡ bad

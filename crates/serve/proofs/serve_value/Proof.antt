@@ -24,6 +24,9 @@ list-value-requires c κs =
 same-length-2 : tie.Need-same-length-2
 same-length-2 c = omega (arith, c .before .before .before .before .before .before .before .before .before .before .before .plane2 .given, c .before .before .before .before .before .before .before .before .before .before .before .before .before .before .before .before .before .before .before .before .before .before .before .before .before .before .before .before .before .before .before .before .before .before .plane .given)
 
+same-length-3 : tie.Need-same-length-3
+same-length-3 c = omega (arith, c .before .before .before .before .before .before .before .before .before .prior2 .given, c .before .before .before .before .before .before .before .before .before .before .before .before .before .before .before .before .before .before .before .before .before .before .before .before .before .before .before .before .before .before .before .before .prior .given)
+
 returns-2 : tie.Need-returns-2
 returns-2 c =
     let a = c .before .before .before .before .before .before .before .before .before .before .before .before .before .before .before .before .before .before .before .before .before .before .before .before .before .before .before .before .before .before .before .before .before .before .before .before .before .before .before .before .before .before .before .before .before .before .before .before .before .before .before .before .before .before .before .args in
@@ -34,5 +37,5 @@ pub serve-value-spec : {M : Type 1} → statement M
 serve-value-spec =
     tie.close
     (tie.spec (λ c. search needs) (λ c κs. search needs) returns (λ c κs. search needs) list-value-requires
-    (λ c. search needs) same-length-2 (λ c. search needs) (λ c. search needs) (λ c. search needs)
+    (λ c. search needs) same-length-2 same-length-3 (λ c. search needs) (λ c. search needs)
     (λ c. search needs) (λ c. search needs) returns-2)
