@@ -4,8 +4,8 @@ use crate::{
     floats::bits,
     jobs::Buffers,
     probe::{ffi::lend, *},
-    run::{Run, coefficient},
-    sheet::{self, Sheet},
+    run::Run,
+    sheet::{self, Reorder, Sheet},
 };
 
 /// A channel of the run, as the library declares it.
@@ -29,6 +29,8 @@ pub struct Record {
     pub h: u32,
     pub n: u32,
     pub smoothing: f32,
+    /// The letter of line `A`: 0 for `m`, 1 for `o`.
+    pub reorder: u32,
     pub count: u32,
     pub channels: [Channel; 3],
 }
@@ -110,6 +112,7 @@ impl Record {
             h: sheet.h,
             n: sheet.counts[c],
             smoothing: sheet.smoothing[c].value(),
+            reorder: u32::from(sheet.reorders() == Reorder::Once),
             count: owns.len() as u32,
             channels: std::array::from_fn(|c| owns.get(c).copied().unwrap_or(NO_CHANNEL)),
         }
@@ -118,7 +121,7 @@ impl Record {
     pub fn numbers(&self) -> Vec<u32> {
         let channel =
             |c: &Channel| [c.width, c.height, c.across, c.down, bits(c.weight), c.position, u32::from(c.mark)];
-        let first = [self.w, self.h, self.n, bits(self.smoothing), self.count];
+        let first = [self.w, self.h, self.n, bits(self.smoothing), self.reorder, self.count];
         first.into_iter().chain(self.channels.iter().flat_map(channel)).collect()
     }
 
@@ -134,7 +137,7 @@ impl Record {
     /// "Legal records: numbers within the sheet's rules, equal blends in all channels, marks only at positive multiples of 5."
     pub fn is_legal(&self) -> bool {
         let full = |side: u32| side % 8 == 0 && (8..=512).contains(&side);
-        if !full(self.w) || !full(self.h) || self.n > 1000 || !weight_ok(self.smoothing) {
+        if !full(self.w) || !full(self.h) || self.n > 1000 || !weight_ok(self.smoothing) || self.reorder > 1 {
             return false;
         }
         if self.count != 1 && self.count != 3 {
@@ -291,14 +294,13 @@ impl Lent {
         } else {
             Self { levels: vec![0; r.levels()], tables: vec![1; r.tables()], ..self.clone_fed() }
         };
-        let given = fed.coefficients().iter().map(coefficient).collect();
         let part = |b: usize, c: usize| -> Vec<f32> {
             let whole = self.buffers[b].len() == r.values();
             if whole { self.buffers[b][c * n..(c + 1) * n].to_vec() } else { vec![0.0; n] }
         };
         let weights = std::array::from_fn(|c| r.channels[c].weight);
         let parts = (0..r.count as usize).map(|c| std::array::from_fn(|b| part(b, c))).collect();
-        Run::on(r.w, r.h, r.n as usize, given, r.smoothing, weights, parts)
+        Run::on(r.w, r.h, r.n as usize, fed.coefficients(), r.smoothing, weights, parts)
     }
 
     fn clone_fed(&self) -> Self {
@@ -335,6 +337,7 @@ impl Lent {
             smoothing: [sheet::Weight::Bits(r.smoothing.to_bits()); 3],
             data: std::array::from_fn(|c| sheet::Weight::Bits(r.channels[c].weight.to_bits())),
             rounding: None,
+            reorder: Some(if r.reorder == 1 { Reorder::Once } else { Reorder::Each }),
             channels: self.coefficients(),
         };
         let run = crate::run::runs(&sheet).remove(0);

@@ -1,6 +1,9 @@
 //! The proved jobs on lent buffers: document 01, "Each lent buffer has (channels of the run) × W × H values", and a job of one channel is lent
 //! that channel's part.
-use crate::{probe::*, sheet};
+use crate::{
+    probe::*,
+    sheet::{self, Reorder},
+};
 
 /// plane, prior, gradient, across, down, saved
 pub type Buffers = [Vec<f32>; 6];
@@ -23,6 +26,7 @@ pub struct Lent {
     h: u32,
     iterations: u32,
     weight: f32,
+    reorder: u32,
     channels: Vec<Own>,
     pub buffers: Buffers,
 }
@@ -43,6 +47,7 @@ pub fn runs(sheet: &sheet::Sheet, fill: f32) -> Vec<Lent> {
         h: sheet.h,
         iterations: sheet.counts[c],
         weight: sheet.smoothing[c].value(),
+        reorder: u32::from(sheet.reorders() == Reorder::Once),
         buffers: [0; 6].map(|_| vec![fill; channels.len() * (sheet.w * sheet.h) as usize]),
         channels,
     };
@@ -84,8 +89,29 @@ impl Lent {
         match job {
             "start" => unsafe {
                 probe_start(
-                    plane, n, prior, n, gradient, n, across, n, down, n, saved, n, o.w, o.h, o.across, o.down, full_w,
-                    full_h, levels, levels_len, table, 64,
+                    plane,
+                    n,
+                    prior,
+                    n,
+                    gradient,
+                    n,
+                    across,
+                    n,
+                    down,
+                    n,
+                    saved,
+                    n,
+                    o.w,
+                    o.h,
+                    o.across,
+                    o.down,
+                    full_w,
+                    full_h,
+                    self.reorder,
+                    levels,
+                    levels_len,
+                    table,
+                    64,
                 );
             },
             "push" => unsafe { probe_push(plane, n, prior, n, w, h, iterations, weight, step) },

@@ -7,6 +7,7 @@ pub mod jobs;
 pub mod picture;
 pub mod probe;
 pub mod program;
+pub mod published;
 pub mod random;
 pub mod replay;
 pub mod run;

@@ -1,14 +1,15 @@
 //! The whole program: a sheet text to the lines of a picture, by the published `solve_cpu` and `finish` of lib.rs. The jobs of `run` find blown channels. The rounding of line
-//! `F n` (M-100) is written here, beside the published `finish`.
+//! `F n` (M-100) is written here, beside the published `finish`; for `A o` (M-102) `solve_cpu` is built with the one reordering.
 use crate::{
     floats::same,
-    run::{coefficient, runs},
-    sheet::{Rounding, Sheet, Weight, joined, read},
+    published::{each, once},
+    run::runs,
+    sheet::{Reorder, Rounding, Sheet, joined, read},
 };
 use artefact::{
-    AlignedF32, Artefact, ValueCollection,
+    AlignedF32,
     image::{Rgb, RgbImage},
-    pipeline::open::{Jpeg, finish, solve_cpu},
+    pipeline::open::finish,
 };
 
 /// What the program `smooth` prints for a text: "W and H above 32 are 2 there".
@@ -32,7 +33,7 @@ pub fn picture(sheet: &Sheet) -> Option<RgbImage> {
 }
 
 /// The planes of all channels; none where a channel is blown.
-pub fn planes(sheet: &Sheet) -> Option<Vec<AlignedF32>> {
+pub fn planes(sheet: &Sheet) -> Option<Vec<Vec<f32>>> {
     let mut planes: Vec<AlignedF32> = vec![];
     for mut run in runs(sheet) {
         while !run.is_done() {
@@ -44,21 +45,25 @@ pub fn planes(sheet: &Sheet) -> Option<Vec<AlignedF32>> {
         planes.extend(run.auxs.into_iter().map(|aux| aux.fdata));
     }
     let solved = solved(sheet);
-    let pairs = || solved.iter().flat_map(|p| p.iter()).zip(planes.iter().flat_map(|p| p.iter()));
-    assert!(pairs().all(|(x, y)| same(*x, *y)), "the jobs' planes differ from those of `solve_cpu`");
+    let mut pairs = solved.iter().flatten().zip(planes.iter().flat_map(|p| p.iter()));
+    assert!(pairs.all(|(x, y)| same(*x, *y)), "the jobs' planes differ from those of `solve_cpu`");
     Some(solved)
 }
 
 /// The published `solve_cpu`.
-pub fn solved(sheet: &Sheet) -> Vec<AlignedF32> {
-    solve_cpu(&settings(sheet), &jpeg(sheet), sheet.w, sheet.h)
+pub fn solved(sheet: &Sheet) -> Vec<Vec<f32>> {
+    match sheet.reorders() {
+        Reorder::Each => each::solve_cpu(sheet),
+        Reorder::Once => once::solve_cpu(sheet),
+    }
 }
 
 /// The published `finish`, or with `F n` its statements with another rounding. These are held against the published ones on every picture.
-pub fn drawn(sheet: &Sheet, planes: Vec<AlignedF32>) -> RgbImage {
+pub fn drawn(sheet: &Sheet, planes: Vec<Vec<f32>>) -> RgbImage {
     let own = |byte: fn(f32) -> u8| rounded(sheet, &planes, byte);
     let (truncated, nearest) = (own(|v| v as u8), own(nearest));
-    let published = finish(&settings(sheet), &jpeg(sheet), planes, sheet.w, sheet.h);
+    let planes = planes.into_iter().map(AlignedF32::from).collect();
+    let published = finish(&each::settings(sheet), &each::jpeg(sheet), planes, sheet.w, sheet.h);
     assert!(truncated.bytes == published.bytes, "the own statements differ from `finish`");
     match sheet.rounds() {
         Rounding::Truncate => published,
@@ -72,7 +77,7 @@ pub fn nearest(v: f32) -> u8 {
 }
 
 /// The statements of `finish`, with `byte` for the last `as u8`.
-fn rounded(sheet: &Sheet, planes: &[AlignedF32], byte: fn(f32) -> u8) -> RgbImage {
+fn rounded(sheet: &Sheet, planes: &[Vec<f32>], byte: fn(f32) -> u8) -> RgbImage {
     let shade = |v: f32| byte(v.clamp(0.0, 255.0));
     RgbImage::from_fn(sheet.picture_w, sheet.picture_h, |x, y| {
         let at = (y * sheet.w + x) as usize;
@@ -85,29 +90,13 @@ fn rounded(sheet: &Sheet, planes: &[AlignedF32], byte: fn(f32) -> u8) -> RgbImag
     })
 }
 
-fn settings(sheet: &Sheet) -> Artefact {
-    Artefact::default()
-        .weight(ValueCollection::ForEach(sheet.smoothing.map(Weight::value)))
-        .pweight(ValueCollection::ForEach(sheet.data.map(Weight::value)))
-        .iterations(ValueCollection::ForEach(sheet.counts.map(|n| n as usize)))
-        .separate_components(!sheet.joint)
-}
-
-fn jpeg(sheet: &Sheet) -> Jpeg {
-    Jpeg {
-        nchannel: sheet.channels.len() as u32,
-        real_px_w: sheet.picture_w,
-        real_px_h: sheet.picture_h,
-        coefs: sheet.channels.iter().map(coefficient).collect(),
-    }
-}
-
 #[cfg(test)]
 mod tests {
     use super::*;
     use crate::{
-        run::runs,
-        texts::{example, fixed_runs},
+        random::Random,
+        run::{Run, runs},
+        texts::{example, fixed_runs, legal},
     };
 
     #[test]
@@ -145,15 +134,39 @@ mod tests {
     }
 
     #[test]
-    fn start_is_reordered_repeatedly() {
+    fn start_is_reordered_repeatedly_or_once() {
         let mut sheet = read(&example(), 32).expect("legal");
         (sheet.w, sheet.channels[0].w) = (16, 16);
         sheet.channels[0].levels.extend([0; 64]);
         let v = 1.0 - 2.0_f32.powi(-24);
-        let (_, plane) = &runs(&sheet)[0].buffers(0)[0];
-        for (i, x) in plane.iter().enumerate() {
-            let (row, column) = (i / 16, i % 16);
-            assert_eq!(*x, if row % 2 == 0 && column < 8 { v } else { 0.0 });
+        for reorder in [None, Some(Reorder::Each), Some(Reorder::Once)] {
+            sheet.reorder = reorder;
+            let (_, plane) = &runs(&sheet)[0].buffers(0)[0];
+            for (i, x) in plane.iter().enumerate() {
+                let (row, column) = (i / 16, i % 16);
+                let bright = column < 8 && (row % 2 == 0 || reorder == Some(Reorder::Once));
+                assert_eq!(*x, if bright { v } else { 0.0 });
+            }
+        }
+    }
+
+    /// Own width 8 hides the letter.
+    #[test]
+    fn width_8_hides_line_a() {
+        let mut r = Random::new(3);
+        for _ in 0..300 {
+            let sheet = Sheet { reorder: None, ..legal(&mut r, 32, 2) };
+            let once = Sheet { reorder: Some(Reorder::Once), ..sheet.clone() };
+            let starts = |sheet: &Sheet| -> Vec<Vec<f32>> {
+                let plane = |run: &Run, c| run.buffers(c)[0].1.clone();
+                runs(sheet)
+                    .iter()
+                    .flat_map(|run| (0..run.channels()).map(|c| plane(run, c)).collect::<Vec<_>>())
+                    .collect()
+            };
+            for ((own, x), y) in sheet.channels.iter().zip(starts(&sheet)).zip(starts(&once)) {
+                assert!(own.w > 8 || x == y);
+            }
         }
     }
 }

@@ -74,6 +74,7 @@ mod probes {
             down_factor: usize,
             w: usize,
             h: usize,
+            reorder: u32,
             levels: *const i16,
             levels_len: usize,
             table: *const u16,
@@ -159,6 +160,9 @@ mod probes {
 }
 
 pub use probes::*;
+
+/// How many numbers a sheet's record has: the fields of line S, own sides and factors of three channels, then the settings F and A.
+pub const NUMBERS: usize = 29;
 
 pub fn measure(text: &[u8], limit: u32, levels: &mut usize, tables: &mut usize, line: &mut usize) -> u32 {
     unsafe { lend!(smoother_measure(read text, limit, levels, tables, line)) }

@@ -13,7 +13,7 @@ pub struct Calls<'a> {
 }
 
 /// A line, all its numbers in hexadecimal: `serve`; the digest; what all values of the six buffers are before; the lengths of plane, prior, gradient,
-/// across, down, saved, levels, tables, jobs, channels and answers; the record's 26 numbers; levels (modulo 2^16), quantisers, jobs and channels.
+/// across, down, saved, levels, tables, jobs, channels and answers; the record's 27 numbers; levels (modulo 2^16), quantisers, jobs and channels.
 pub fn line(digest: u64, fill: f32, x: &Lent, calls: &Calls) -> String {
     let lengths = x.buffers.iter().map(Vec::len).chain([x.levels.len(), x.tables.len()]);
     let lengths = lengths.chain([calls.jobs.len(), calls.channels.len(), calls.answers]);
@@ -36,9 +36,9 @@ pub fn digest(answer: u32, answers: &[u8], record: &Record, buffers: &Buffers) -
     told.chain(values).fold(0, |digest, n| (digest * 31 + u64::from(n)) % (1 << 32))
 }
 
-/// Whether the program has room for it.
+/// Whether the program has room for it, and a value for its letter: there the letter is no number.
 pub fn fits(x: &Lent, calls: &Calls) -> bool {
     let large = x.buffers.iter().map(Vec::len).chain([x.levels.len()]).max();
     let small = [x.tables.len(), calls.jobs.len(), calls.channels.len(), calls.answers].into_iter().max();
-    large <= Some(3072) && small <= Some(256)
+    large <= Some(3072) && small <= Some(256) && x.record.reorder <= 1
 }

@@ -1,28 +1,19 @@
 //! A sheet's runs, job by job: document 01, "Jobs and positions". The jobs call the published functions. What stands as loops inside the published
-//! `solve` and `solver_step` is copied here statement by statement, and `check` holds the planes against the published `solve`.
-use crate::{floats::same, macros::mul_add, sheet};
+//! `solve` and `solver_step` is copied here statement by statement, and `check` holds the planes against the published `solve`. The start with one reordering
+//! (M-102) is written here too, and held against the published `solve` built with it.
+use crate::{
+    floats::same,
+    macros::mul_add,
+    published::{each, once},
+    sheet::{self, Reorder},
+};
 use artefact::{
     AlignedF32, Aux,
     pipeline::open::{
-        Coefficient, SampleFactor, ScalarCoef, auxiliary::PixelDifference, dct_gradient, project_onto_box, solve,
-        tgv_gradient, tv_gradient,
+        Coefficient, ScalarCoef, auxiliary::PixelDifference, blocks::from_blocks, dct::idct8x8, dct_gradient,
+        project_onto_box, tgv_gradient, tv_gradient,
     },
 };
-
-pub fn coefficient(c: &sheet::Channel) -> Coefficient {
-    Coefficient {
-        rounded_px_w: c.w,
-        rounded_px_h: c.h,
-        rounded_px_count: c.w * c.h,
-        block_w: c.w / 8,
-        block_h: c.h / 8,
-        block_count: c.w * c.h / 64,
-        horizontal_samp_factor: SampleFactor(c.across as u8),
-        vertical_samp_factor: SampleFactor(c.down as u8),
-        dct_coefs: c.levels.iter().map(|level| *level as f32).collect(),
-        quant_table: std::array::from_fn(|i| c.table[i] as f32),
-    }
-}
 
 /// What the published conversion makes of a channel, but for the image of its levels, which start alone reads.
 fn without_image(c: &Coefficient) -> ScalarCoef {
@@ -38,6 +29,24 @@ fn without_image(c: &Coefficient) -> ScalarCoef {
         dct_coefs: c.dct_coefs.clone(),
         quant_table: c.quant_table,
         image_data: vec![],
+    }
+}
+
+/// "`o` dequantises and transforms all blocks, then reorders once" (M-102), each by the published function.
+fn image_once(c: &Coefficient) -> Vec<f32> {
+    let mut blocks: Vec<f32> = c.dct_coefs.iter().zip(c.quant_table.iter().cycle()).map(|(d, q)| d * q).collect();
+    blocks.chunks_mut(64).for_each(|block| idct8x8(block.try_into().expect("64 values")));
+    let mut image = vec![0.0; blocks.len()];
+    from_blocks(&blocks, &mut image, c.rounded_px_w, c.rounded_px_h, c.block_w, c.block_h);
+    image
+}
+
+/// What start makes of a channel.
+fn converted(own: &sheet::Channel, reorder: Reorder) -> ScalarCoef {
+    let given = each::coefficient(own);
+    match reorder {
+        Reorder::Each => given.into(),
+        Reorder::Once => ScalarCoef { image_data: image_once(&given), ..without_image(&given) },
     }
 }
 
@@ -58,7 +67,8 @@ pub struct Run {
     pub marks: Vec<bool>,
     pub auxs: Vec<Aux>,
     coefs: Vec<ScalarCoef>,
-    given: Vec<Coefficient>,
+    owns: Vec<sheet::Channel>,
+    reorder: Reorder,
     weight: f32,
     pweight: [f32; 3],
     term: f32,
@@ -67,11 +77,10 @@ pub struct Run {
 /// Joint mode: one run of all channels. Separate mode: a run of each, with its own smoothing weight and iteration count, but always the
 /// first data weight.
 pub fn runs(sheet: &sheet::Sheet) -> Vec<Run> {
-    let given: Vec<Coefficient> = sheet.channels.iter().map(coefficient).collect();
     if sheet.joint {
-        return vec![Run::start(sheet, given, 0)];
+        return vec![Run::start(sheet, &sheet.channels, 0)];
     }
-    given.into_iter().enumerate().map(|(c, one)| Run::start(sheet, vec![one], c)).collect()
+    (0..sheet.channels.len()).map(|c| Run::start(sheet, &sheet.channels[c..=c], c)).collect()
 }
 
 /// Statements of `solve` on one channel.
@@ -84,8 +93,9 @@ pub fn push(aux: &mut Aux, count: usize, factor: f32) {
 
 impl Run {
     /// The start of the run with the smoothing weight and iteration count at place `c`.
-    fn start(sheet: &sheet::Sheet, given: Vec<Coefficient>, c: usize) -> Self {
-        let coefs: Vec<ScalarCoef> = given.iter().cloned().map(Into::into).collect();
+    fn start(sheet: &sheet::Sheet, owns: &[sheet::Channel], c: usize) -> Self {
+        let reorder = sheet.reorders();
+        let coefs: Vec<ScalarCoef> = owns.iter().map(|own| converted(own, reorder)).collect();
         let (w, h) = (sheet.w, sheet.h);
         Self {
             w,
@@ -95,7 +105,8 @@ impl Run {
             marks: vec![false; coefs.len()],
             auxs: coefs.iter().map(|coef| Aux::init(w, h, (w * h) as usize, coef)).collect(),
             coefs,
-            given,
+            owns: owns.to_vec(),
+            reorder,
             weight: sheet.smoothing[c].value(),
             pweight: sheet.data.map(sheet::Weight::value),
             term: 1.0,
@@ -107,7 +118,7 @@ impl Run {
         w: u32,
         h: u32,
         iterations: usize,
-        given: Vec<Coefficient>,
+        owns: Vec<sheet::Channel>,
         weight: f32,
         pweight: [f32; 3],
         buffers: Vec<[Vec<f32>; 6]>,
@@ -123,11 +134,12 @@ impl Run {
             w,
             h,
             iterations,
-            positions: vec![0; given.len()],
-            marks: vec![false; given.len()],
+            positions: vec![0; owns.len()],
+            marks: vec![false; owns.len()],
             auxs: buffers.into_iter().map(aux).collect(),
-            coefs: given.iter().map(without_image).collect(),
-            given,
+            coefs: owns.iter().map(|own| without_image(&each::coefficient(own))).collect(),
+            owns,
+            reorder: Reorder::Each,
             weight,
             pweight,
             term: 1.0,
@@ -260,9 +272,12 @@ impl Run {
 
     /// Whether the planes of a run that is done are those of the published `solve`.
     pub fn check(&self) -> bool {
-        let (weight, pweight, iterations, count) = (self.weight, self.pweight, self.iterations, self.count());
-        let planes = solve(self.channels(), self.given.clone(), weight, pweight, iterations, self.w, self.h, count);
-        let equal = |(aux, plane): (&Aux, &AlignedF32)| aux.fdata.iter().zip(plane.iter()).all(|(x, y)| same(*x, *y));
+        let solve = match self.reorder {
+            Reorder::Each => each::solve,
+            Reorder::Once => once::solve,
+        };
+        let planes = solve(&self.owns, self.weight, self.pweight, self.iterations, [self.w, self.h]);
+        let equal = |(aux, plane): (&Aux, &Vec<f32>)| aux.fdata.iter().zip(plane).all(|(x, y)| same(*x, *y));
         self.auxs.iter().zip(&planes).all(equal)
     }
 }

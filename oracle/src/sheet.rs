@@ -34,6 +34,15 @@ pub enum Rounding {
     Nearest,
 }
 
+/// How the start's blocks are reordered: the letters of line `A` (M-102).
+#[derive(Clone, Copy, Debug, PartialEq)]
+pub enum Reorder {
+    /// `m`: after each block, as in the published Rust.
+    Each,
+    /// `o`: once, after all blocks.
+    Once,
+}
+
 #[derive(Clone, Debug, PartialEq)]
 pub struct Channel {
     pub w: u32,
@@ -56,6 +65,8 @@ pub struct Sheet {
     pub data: [Weight; 3],
     /// None where there is no line `F`.
     pub rounding: Option<Rounding>,
+    /// None where there is no line `A`.
+    pub reorder: Option<Reorder>,
     pub channels: Vec<Channel>,
 }
 
@@ -108,15 +119,13 @@ impl<'a> Lines<'a> {
         &self.rest[..end.unwrap_or(self.rest.len())] == tag
     }
 
-    fn rounding(&mut self) -> Result<Option<Rounding>, Fault> {
-        if !self.is_next(b"F") {
+    /// The setting that a line of this tag says by one of two letters; none where the next line has another tag.
+    fn setting<T: Copy>(&mut self, tag: &[u8], letters: [(&[u8], T); 2]) -> Result<Option<T>, Fault> {
+        if !self.is_next(tag) {
             return Ok(None);
         }
-        match self.next(b"F", 2)?.next().expect("counted") {
-            b"t" => Ok(Some(Rounding::Truncate)),
-            b"n" => Ok(Some(Rounding::Nearest)),
-            _ => Err(FORM),
-        }
+        let letter = self.next(tag, 2)?.next().expect("counted");
+        letters.iter().find(|(due, _)| *due == letter).map(|(_, meant)| Some(*meant)).ok_or(FORM)
     }
 
     fn sheet(&mut self, limit: u32) -> Result<Sheet, Fault> {
@@ -137,14 +146,15 @@ impl<'a> Lines<'a> {
         let counts = [count()?, count()?, count()?];
         let smoothing = [weight(field())?, weight(field())?, weight(field())?];
         let data = [weight(field())?, weight(field())?, weight(field())?];
-        let rounding = self.rounding()?;
+        let rounding = self.setting(b"F", [(b"t", Rounding::Truncate), (b"n", Rounding::Nearest)])?;
+        let reorder = self.setting(b"A", [(b"m", Reorder::Each), (b"o", Reorder::Once)])?;
         let channels = (0..channels).map(|_| self.channel(w, h)).collect::<Result<_, _>>()?;
         self.next(b"E", 1)?;
         if !self.rest.is_empty() {
             self.line += 1;
             return Err(CUT);
         }
-        Ok(Sheet { w, h, picture_w, picture_h, joint, counts, smoothing, data, rounding, channels })
+        Ok(Sheet { w, h, picture_w, picture_h, joint, counts, smoothing, data, rounding, reorder, channels })
     }
 
     fn channel(&mut self, full_w: u32, full_h: u32) -> Result<Channel, Fault> {
@@ -234,6 +244,11 @@ impl Sheet {
         self.rounding.unwrap_or(Rounding::Truncate)
     }
 
+    /// "`m`, also the meaning when it is absent"
+    pub fn reorders(&self) -> Reorder {
+        self.reorder.unwrap_or(Reorder::Each)
+    }
+
     pub fn text(&self) -> Vec<u8> {
         let spelled = self.weights().map(|weight| match weight {
             Weight::Bits(bits) => format!("h{bits:08x}"),
@@ -246,6 +261,11 @@ impl Sheet {
             None => "",
             Some(Rounding::Truncate) => "F\tt\n",
             Some(Rounding::Nearest) => "F\tn\n",
+        };
+        text += match self.reorder {
+            None => "",
+            Some(Reorder::Each) => "A\tm\n",
+            Some(Reorder::Once) => "A\to\n",
         };
         for c in &self.channels {
             text += &format!("C\t{}\t{}\n", joined([c.w, c.h, c.across, c.down], "\t"), joined(&c.table, "\t"));

@@ -1,7 +1,7 @@
 //! Sheet texts at random: legal ones, and ones damaged at each of document 01's rules; and fixed ones with their answers.
 use crate::{
     random::Random,
-    sheet::{Channel, Refusal, Rounding, Sheet, Weight, read},
+    sheet::{Channel, Refusal, Reorder, Rounding, Sheet, Weight, read},
 };
 use std::{fs, path::Path};
 
@@ -19,12 +19,16 @@ pub fn legal(r: &mut Random, limit: u32, steps: u32) -> Sheet {
         smoothing: [0; 3].map(|_| weight(r)),
         data: [0; 3].map(|_| weight(r)),
         rounding: None,
+        reorder: None,
         channels: (0..channels).map(|_| channel(r, w, h)).collect(),
     };
     // of two sheets in five none, of two in five `n`
     let letters = [None, None, Some(Rounding::Truncate), Some(Rounding::Nearest), Some(Rounding::Nearest)];
     let rounding = letters[(sheet.picture_w + 3 * sheet.picture_h + sheet.counts[0]) as usize % 5];
-    Sheet { rounding, ..sheet }
+    // of two sheets in five none, of two in five `o`
+    let letters = [None, Some(Reorder::Once), None, Some(Reorder::Each), Some(Reorder::Once)];
+    let reorder = letters[(2 * sheet.picture_w + sheet.picture_h + sheet.counts[1]) as usize % 5];
+    Sheet { rounding, reorder, ..sheet }
 }
 
 fn full_side(r: &mut Random, limit: u32) -> u32 {
@@ -100,7 +104,7 @@ pub const DAMAGES: [Damage; 11] = [
     }),
     ("cover", covered),
     ("tag", |r, text| {
-        fields(r, text, |r, line, _, _| line[0] = r.pick(&["S", "C", "B", "E", "", "b", "BB", "F", "G"]).into());
+        fields(r, text, |r, line, _, _| line[0] = r.pick(&["S", "C", "B", "E", "", "b", "BB", "F", "A", "G"]).into());
     }),
     ("field count", field_count),
     ("order of lines", order),
@@ -120,7 +124,7 @@ fn join(lines: &Lines) -> Vec<u8> {
 }
 
 fn tagged(r: &mut Random, lines: &Lines) -> usize {
-    let tag = r.pick(&["S", "S", "S", "S", "F", "C", "C", "C", "B", "B", "E"]).as_bytes();
+    let tag = r.pick(&["S", "S", "S", "S", "F", "A", "C", "C", "C", "B", "B", "E"]).as_bytes();
     let found: Vec<usize> = (0..lines.len()).filter(|i| lines[*i][0] == tag).collect();
     if found.is_empty() { r.below(lines.len()) } else { r.pick(&found) }
 }
@@ -152,6 +156,7 @@ fn edge(r: &mut Random, line: &[Vec<u8>], at: usize, [w, h]: [u32; 2]) -> Vec<u8
         (b"S", 7..=9) => n(r, &[0, 1, 999, 1_000, 1_001, 65_536, 999_999]),
         (b"S", 10..) => odd_weight(r),
         (b"F", 1) => r.pick(&["t", "n", "T", "N", "tn", "", "x", "0", "1"]).into(),
+        (b"A", 1) => r.pick(&["m", "o", "M", "O", "mo", "", "t", "n", "0", "1"]).into(),
         (b"C", 1 | 2) => n(r, &[0, 4, 8, 12, full, full + 8, 512, 520, 65_544, 999_992, 999_999]),
         (b"C", 3 | 4) => n(r, &[0, 1, 2, 3, 4, 5, 257, 999_999]),
         (b"C", 5..) => n(r, &[0, 1, 254, 255, 256, 257, 511, 65_537, 999_999]),
@@ -285,7 +290,7 @@ fn cut(r: &mut Random, text: &mut Vec<u8>) {
 
 fn bytes(r: &mut Random, text: &mut Vec<u8>) {
     let at = r.below(text.len().max(1));
-    let byte = r.pick(b"\t\n\r\0 -+0189wxhjsSCBE\xff\xc3");
+    let byte = r.pick(b"\t\n\r\0 -+0189wxhjsSFACBE\xff\xc3");
     match r.below(6) {
         0 => *text = String::from_utf8_lossy(text).replace('\n', r.pick(&["\r\n", "\r", "\n\n"])).into_bytes(),
         1 | 2 => text.insert(at.min(text.len()), byte),
@@ -457,11 +462,38 @@ pub fn fixed() -> Vec<(&'static str, Vec<u8>, Option<Refusal>)> {
         ("F, no letter", before(1, b"F\t\n"), Some((1, 2))),
         ("F, one field", before(1, b"F\n"), Some((1, 2))),
         ("F, three fields", before(1, b"F\tn\tn\n"), Some((1, 2))),
-        ("F, then A", before(1, b"F\tn\nA\tm\n"), Some((1, 3))),
         ("S, F and no more", [lines[0], b"F\tn\n"].concat(), Some((7, 3))),
         ("F unended", [lines[0], b"F\tn"].concat(), Some((7, 2))),
         ("F, then E", [lines[0], b"F\tn\n", lines[3]].concat(), Some((1, 3))),
         ("F, long", before(1, &[b"F\t".as_slice(), &[b'n'; 1023], b"\n"].concat()), Some((1, 2))),
+    ]);
+    // line `A`: only directly after `S` or `F`, once, with `m` or `o`
+    all.extend([
+        ("A m", before(1, b"A\tm\n"), None),
+        ("A o", before(1, b"A\to\n"), None),
+        ("F, then A", before(1, b"F\tn\nA\to\n"), None),
+        ("A, then F", before(1, b"A\to\nF\tn\n"), Some((1, 3))),
+        ("A twice", before(1, b"A\to\nA\to\n"), Some((1, 3))),
+        ("F, then A twice", before(1, b"F\tn\nA\to\nA\to\n"), Some((1, 4))),
+        ("F, A, then F", before(1, b"F\tn\nA\to\nF\tn\n"), Some((1, 4))),
+        ("A, then H", before(1, b"A\to\nH\t0\t0\t0\n"), Some((1, 3))),
+        ("A first", before(0, b"A\to\n"), Some((1, 1))),
+        ("A after C", before(2, b"A\to\n"), Some((1, 3))),
+        ("A after B", before(3, b"A\to\n"), Some((1, 4))),
+        ("A after E", before(4, b"A\to\n"), Some((7, 5))),
+        ("A t", before(1, b"A\tt\n"), Some((1, 2))),
+        ("A O", before(1, b"A\tO\n"), Some((1, 2))),
+        ("A mo", before(1, b"A\tmo\n"), Some((1, 2))),
+        ("A, no letter", before(1, b"A\t\n"), Some((1, 2))),
+        ("A, one field", before(1, b"A\n"), Some((1, 2))),
+        ("A, three fields", before(1, b"A\to\to\n"), Some((1, 2))),
+        ("F bad, then A bad", before(1, b"F\tx\nA\tx\n"), Some((1, 2))),
+        ("F, then A bad", before(1, b"F\tn\nA\tx\n"), Some((1, 3))),
+        ("S, A and no more", [lines[0], b"A\to\n"].concat(), Some((7, 3))),
+        ("S, F, A and no more", [lines[0], b"F\tn\nA\to\n"].concat(), Some((7, 4))),
+        ("A unended", [lines[0], b"A\to"].concat(), Some((7, 2))),
+        ("A, then E", [lines[0], b"A\to\n", lines[3]].concat(), Some((1, 3))),
+        ("A, long", before(1, &[b"A\t".as_slice(), &[b'o'; 1023], b"\n"].concat()), Some((1, 2))),
     ]);
     all.extend(edits.iter().map(|(edits, answer)| ("an edited field", edited(edits), *answer)));
     all
@@ -481,20 +513,21 @@ pub fn long() -> Vec<(Vec<u8>, Option<Refusal>)> {
         smoothing: weights,
         data: weights,
         rounding: Some(Rounding::Nearest),
+        reorder: Some(Reorder::Once),
         channels: vec![channel; 3],
     };
     let whole = sheet.text();
     let no_end = &whole[..whole.len() - 2];
     let then = |start: &[u8], bytes: usize, end: &str| [start, &vec![b'a'; bytes], end.as_bytes()].concat();
     vec![
-        (then(&whole, 1, ""), Some((7, 55))),
-        (then(&whole, 30_000, "\n"), Some((7, 55))),
-        (then(no_end, 0, ""), Some((7, 54))),
-        (then(no_end, 1024, ""), Some((7, 54))),
-        (then(no_end, 1025, ""), Some((1, 54))),
-        (then(no_end, 1024, "\n"), Some((1, 54))),
-        (then(no_end, 1025, "\n"), Some((1, 54))),
-        (then(no_end, 30_000, "\n"), Some((1, 54))),
+        (then(&whole, 1, ""), Some((7, 56))),
+        (then(&whole, 30_000, "\n"), Some((7, 56))),
+        (then(no_end, 0, ""), Some((7, 55))),
+        (then(no_end, 1024, ""), Some((7, 55))),
+        (then(no_end, 1025, ""), Some((1, 55))),
+        (then(no_end, 1024, "\n"), Some((1, 55))),
+        (then(no_end, 1025, "\n"), Some((1, 55))),
+        (then(no_end, 30_000, "\n"), Some((1, 55))),
         (then(b"", 30_000, ""), Some((1, 1))),
         (vec![b'\n'; 30_000], Some((1, 1))),
         (whole, None),

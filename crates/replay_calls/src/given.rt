@@ -1,9 +1,10 @@
 // A line's words, in hexadecimal: `serve`, the digest, what all values of the six buffers are before, the lengths of the six, of levels, tables, jobs, channels
-// and answers, the record's 26 numbers, the levels modulo 2^16, the quantisers, the jobs' numbers and the channels.
+// and answers, the record's 27 numbers, the levels modulo 2^16, the quantisers, the jobs' numbers and the channels.
 use crate::served;
 use float::bits::from_bits;
 use record::Channel;
 use record::Run;
+use start::coef::Reorder;
 use words::next_word;
 use words::number;
 use words::word_at;
@@ -103,6 +104,14 @@ fn length_of(s: &[u8], at: usize, k: usize, most: usize) -> usize
     most
 }
 
+// The letter of line A by its number.
+fn reorder_of(n: u32) -> Reorder {
+    if n == 1 {
+        return Reorder::Once;
+    }
+    Reorder::Each
+}
+
 // The channel whose seven numbers start at word k.
 fn read_channel(s: &[u8], at: usize, k: usize) -> Channel
     requires { ⌜ (at ≤ length (now s)) × (k ≤ 100) ⌝ }
@@ -121,15 +130,16 @@ fn read_channel(s: &[u8], at: usize, k: usize) -> Channel
 fn read_run(s: &[u8], at: usize) -> Run
     requires { ⌜ at ≤ length (now s) ⌝ }
 {
-    let a = read_channel(s, at, 19);
-    let b = read_channel(s, at, 26);
-    let c = read_channel(s, at, 33);
+    let a = read_channel(s, at, 20);
+    let b = read_channel(s, at, 27);
+    let c = read_channel(s, at, 34);
     Run {
         w: word(s, at, 14),
         h: word(s, at, 15),
         n: word(s, at, 16),
         smoothing: from_bits(word(s, at, 17)),
-        count: word(s, at, 18),
+        reorder: reorder_of(word(s, at, 18)),
+        count: word(s, at, 19),
         channels: [a, b, c],
     }
 }
@@ -208,7 +218,7 @@ pub fn same_line(s: &[u8], at: usize) -> bool
     let mut tables = [0u16; 256];
     let n = length_of(s, at, 9, 3072);
     let m = length_of(s, at, 10, 256);
-    let i = read_levels(s, word_at(s, at, 40), &mut levels, n);
+    let i = read_levels(s, word_at(s, at, 41), &mut levels, n);
     let j = read_tables(s, i, &mut tables, m);
     same_calls(s, at, j, &levels[0..n], &tables[0..m])
 }

@@ -3,6 +3,7 @@ use float::bits::to_bits;
 use record::Answer;
 use record::Channel;
 use record::Run;
+use start::coef::Reorder;
 ghost use Prim.Native.Nat.{_<_};
 
 // A digest with one more number.
@@ -48,6 +49,14 @@ fn mark_number(mark: bool) -> u32 {
     0
 }
 
+// The number of line A's letter.
+fn reorder_number(r: Reorder) -> u32 {
+    match r {
+        Reorder::Each => 0,
+        Reorder::Once => 1,
+    }
+}
+
 fn with_channel(digest: u64, c: Channel) -> u64
     requires { ⌜ digest < 4294967296 ⌝ }
     ensures { λ r. ⌜ r < 4294967296 ⌝ }
@@ -69,11 +78,12 @@ fn with_run(digest: u64, run: Run) -> u64
     let e = with(d, run.h);
     let f = with(e, run.n);
     let g = with(f, to_bits(run.smoothing));
-    let h = with(g, run.count);
+    let h = with(g, reorder_number(run.reorder));
+    let i = with(h, run.count);
     let cs = run.channels;
-    let i = with_channel(h, cs[0]);
-    let j = with_channel(i, cs[1]);
-    with_channel(j, cs[2])
+    let j = with_channel(i, cs[0]);
+    let k = with_channel(j, cs[1]);
+    with_channel(k, cs[2])
 }
 
 // A digest of the six.

@@ -163,7 +163,7 @@ fn damage_record(r: &mut Random, record: &mut Record) {
     const SIDES: [u32; 14] = [0, 1, 4, 7, 8, 9, 12, 16, 512, 516, 520, 1 << 16, 1 << 31, u32::MAX - 7];
     let c = if r.one_in(6) { 2 } else { r.below(record.count.clamp(1, 3) as usize) };
     let own = &mut record.channels[c];
-    match r.below(16) {
+    match r.below(17) {
         0 => record.w = r.pick(&SIDES),
         1 => record.h = r.pick(&SIDES),
         2 => record.n = r.pick(&[0, 1, 2, 1000, 1001, 1 << 30, u32::MAX]),
@@ -179,6 +179,7 @@ fn damage_record(r: &mut Random, record: &mut Record) {
                 r.pick(&[0, own.position.wrapping_add(5), own.position ^ 1, 5 * record.n.min(1000) + 1, u32::MAX])
         }
         13 => own.position = r.between(0, 5 * i64::from(record.n.min(1000))) as u32,
+        14 => record.reorder = r.pick(&[0, 1, 2, 109, 111, 1 << 8, 1 << 31, u32::MAX]),
         _ => own.mark = !own.mark,
     }
 }
@@ -197,10 +198,11 @@ enum Fault {
     Sign,
     Rest,
     Refused,
+    Letter,
     ServeByte,
 }
 
-const FAULTS: [Fault; 9] = [
+const FAULTS: [Fault; 10] = [
     Fault::Answer,
     Fault::Blown,
     Fault::Position,
@@ -209,6 +211,7 @@ const FAULTS: [Fault; 9] = [
     Fault::Sign,
     Fault::Rest,
     Fault::Refused,
+    Fault::Letter,
     Fault::ServeByte,
 ];
 
@@ -254,7 +257,7 @@ impl Compare {
         let answer = mine.call(job, c);
         let mut other = proved(theirs, job, c);
         self.calls += 1;
-        let rare = matches!(self.fault, Fault::Blown | Fault::Mark);
+        let rare = matches!(self.fault, Fault::Blown | Fault::Mark | Fault::Letter);
         if self.fault != Fault::None && (rare || self.calls % 1009 > 1000) {
             self.plant(theirs, &mut other, job, c);
         }
@@ -311,6 +314,14 @@ impl Compare {
                     *x = if *x == 1.0 { 2.0 } else { 1.0 };
                     true
                 }
+            }
+            Fault::Letter if accepted && job == Job::Start => {
+                let mut other = theirs.clone();
+                other.record.reorder ^= 1;
+                other.call(Job::Start, 0);
+                let shows = difference(&other, theirs).1.is_some();
+                theirs.buffers = other.buffers;
+                shows
             }
             Fault::Refused if !accepted => value.is_some_and(|x| {
                 *x = if *x == 1.0 { 2.0 } else { 1.0 };

@@ -30,13 +30,14 @@ fn bytes(r: &mut Random) -> Vec<u8> {
     let most = r.pick(&[4, 40, 400, 4_000]);
     let length = r.below(most + 1);
     let alphabet: &[u8] =
-        r.pick(&[b"".as_slice(), b"\t\n", b"0123456789\t\n-", b"SFCBEtnjswh0123456789abcdef\t\n- \r"]);
+        r.pick(&[b"".as_slice(), b"\t\n", b"0123456789\t\n-", b"SFACBEtnmojswh0123456789abcdef\t\n- \r"]);
     (0..length).map(|_| if alphabet.is_empty() { r.word() as u8 } else { r.pick(alphabet) }).collect()
 }
 
-const TOKENS: [&str; 44] = [
+const TOKENS: [&str; 48] = [
     "S",
     "F",
+    "A",
     "C",
     "B",
     "E",
@@ -48,12 +49,15 @@ const TOKENS: [&str; 44] = [
     "E\n",
     "S\t",
     "F\t",
+    "A\t",
     "C\t",
     "B\t",
     "j",
     "s",
     "t",
     "n",
+    "m",
+    "o",
     "w0",
     "w1",
     "w255",
@@ -89,7 +93,7 @@ fn tokens(r: &mut Random) -> Vec<u8> {
 /// Lines with the right tags and field counts, and fields that are mostly right, in an order that is mostly right.
 fn lines(r: &mut Random) -> Vec<u8> {
     let odd = r.pick(&[20, 100, 1_000]);
-    let mut field = |words: &[&'static str]| if r.one_in(odd) { r.pick(&TOKENS[15..]) } else { r.pick(words) };
+    let mut field = |words: &[&'static str]| if r.one_in(odd) { r.pick(&TOKENS[17..]) } else { r.pick(words) };
     let (full, sides) = (["16", "16", "32"], ["8", "8", "16"]);
     let factors = ["1", "1", "2"];
     let channels = field(&["1", "3"]);
@@ -97,7 +101,9 @@ fn lines(r: &mut Random) -> Vec<u8> {
         vec!["S", field(&full), field(&full), field(&["1", "8"]), field(&["1", "8"]), channels, field(&["j", "s"])];
     text.extend([0; 3].map(|_| field(&["0", "1", "3"])));
     text.extend([0; 6].map(|_| field(&["w0", "w1", "w255", "h3f800000", "h00000001", "h7f7fffff"])));
-    text.extend(field(&["", "\nF\tt", "\nF\tn", "\nF\tn", "\nF"]).split('\t').filter(|word| !word.is_empty()));
+    for line in [["", "\nF\tt", "\nF\tn", "\nF\tn", "\nF"], ["", "\nA\tm", "\nA\to", "\nA\to", "\nA"]] {
+        text.extend(field(&line).split('\t').filter(|word| !word.is_empty()));
+    }
     for _ in 0..channels.parse().unwrap_or(1).min(3) {
         let (w, h) = (field(&sides), field(&["8"]));
         text.extend(["\n", "C", w, h, field(&factors), field(&factors)]);

@@ -1,14 +1,14 @@
 //! The proved jobs beside the published ones: all six buffers and the condition of job 5 after start and after each job, bit for bit.
 //!
 //!     jobs [SEED [COUNT]]     COUNT sheets (2,400) of sides up to 64, job after job; as many with other values in the buffers before each
-//!                             job; and six of 512 by 512
+//!                             job; and eight of 512 by 512
 //!     jobs --faults           plants wrong values, in one buffer after another, and wrong marks, and fails unless each is reported
 use oracle::{
     floats::{any, at, bits, same, special, subnormal},
     jobs::{self, JOBS, Lent},
     random::Random,
     run::{Run, runs},
-    sheet::{Channel, Sheet, Weight},
+    sheet::{Channel, Reorder, Sheet, Weight},
     tally::Tally,
     texts::{WEIGHTS, legal},
 };
@@ -151,6 +151,8 @@ impl Compare {
             self.met("channels", 1);
             self.met("channels with a factor", (c.across * c.down > 1).into());
             self.met("channels covering a part", (c.w * c.across < sheet.w || c.h * c.down < sheet.h).into());
+            let once = sheet.reorders() == Reorder::Once && c.w > 8;
+            self.met("channels wider than 8, reordered once", once.into());
         }
         for (mut run, mut lent) in runs(sheet).into_iter().zip(jobs::runs(sheet, fill)) {
             for c in 0..run.channels() {
@@ -237,17 +239,21 @@ fn rust(run: &mut Run, job: &str, c: usize, step: usize) {
     }
 }
 
-/// 512 by 512: own side and factor by channel, mode, steps, weight.
-const LARGE: [(&[(u32, u32)], bool, u32, Weight); 6] = [
-    (&[(512, 1)], false, 3, Weight::Whole(1)),
-    (&[(512, 1), (512, 1), (512, 1)], true, 2, Weight::Whole(1)),
-    (&[(512, 1), (256, 2), (256, 2)], true, 3, Weight::Bits(0x3e99_999a)),
-    (&[(512, 1), (128, 4), (168, 3)], false, 2, Weight::Whole(255)),
-    (&[(128, 3), (120, 4), (240, 2)], true, 3, Weight::Bits(0x0000_0001)),
-    (&[(256, 2)], true, 2, Weight::Bits(0x7f00_0000)),
+/// 512 by 512: own side and factor by channel, mode, steps, weight, how start reorders.
+type Large = (&'static [(u32, u32)], bool, u32, Weight, Reorder);
+
+const LARGE: [Large; 8] = [
+    (&[(512, 1)], false, 3, Weight::Whole(1), Reorder::Each),
+    (&[(512, 1), (512, 1), (512, 1)], true, 2, Weight::Whole(1), Reorder::Each),
+    (&[(512, 1), (256, 2), (256, 2)], true, 3, Weight::Bits(0x3e99_999a), Reorder::Each),
+    (&[(512, 1), (128, 4), (168, 3)], false, 2, Weight::Whole(255), Reorder::Each),
+    (&[(128, 3), (120, 4), (240, 2)], true, 3, Weight::Bits(0x0000_0001), Reorder::Once),
+    (&[(256, 2)], true, 2, Weight::Bits(0x7f00_0000), Reorder::Each),
+    (&[(512, 1), (256, 2), (256, 2)], true, 2, Weight::Bits(0x3e99_999a), Reorder::Once),
+    (&[(512, 1), (128, 4), (168, 3)], false, 1, Weight::Whole(1), Reorder::Once),
 ];
 
-fn large(r: &mut Random, (owns, joint, count, weight): (&[(u32, u32)], bool, u32, Weight)) -> Sheet {
+fn large(r: &mut Random, (owns, joint, count, weight, reorder): Large) -> Sheet {
     let mut channel = |&(side, factor): &(u32, u32)| Channel {
         w: side,
         h: side,
@@ -268,6 +274,7 @@ fn large(r: &mut Random, (owns, joint, count, weight): (&[(u32, u32)], bool, u32
         smoothing: weights,
         data: weights,
         rounding: None,
+        reorder: Some(reorder),
         channels,
     }
 }

@@ -1,19 +1,18 @@
 //! The whole run and the picture of the proved library beside the published `solve_cpu` and `finish`, bit for bit.
 //!
-//!     planes [N [SEED]]       N sheets at random (20,000), and fixed ones
+//!     planes [N [SEED]]       N sheets at random (34,000), and fixed ones
 //!     planes --faults         plants faults, one kind after another, and fails unless each is reported
 //!     planes --bench [N]      times `solve_cpu` and `smoother_solve` on 32 by 32, three channels, N iterations (1,000), in both modes
 //!
 //! A sheet is written as text, read by the proved reader, solved by its numbers, and finished. Some of what is lent is damaged first, in a length, a number,
 //! a quantiser or a level, or in two of these: the answer is then document 01's, and a refusal leaves all buffers as they were.
-use artefact::AlignedF32;
 use oracle::{
     bench::best,
     floats::{any, same},
     picture::{drawn, nearest, planes, solved},
     probe,
     random::Random,
-    sheet::{Channel, Rounding, Sheet, Weight},
+    sheet::{Channel, Reorder, Rounding, Sheet, Weight},
     tally::Tally,
     texts::{fixed_runs, legal},
 };
@@ -27,7 +26,7 @@ fn main() -> ExitCode {
         Some("--bench") => bench(number(1, 1000) as u32),
         _ => {
             println!("seed {}", number(1, 1));
-            let (tally, answers) = compare(number(0, 20_000), number(1, 1), "");
+            let (tally, answers) = compare(number(0, 34_000), number(1, 1), "");
             println!("answers of solve, and how often: {answers:?}");
             tally.close()
         }
@@ -48,7 +47,7 @@ impl Lent {
     fn read(r: &mut Random, text: &[u8]) -> Self {
         let (mut n, mut m, mut line) = (0, 0, 0);
         let measured = probe::measure(text, 512, &mut n, &mut m, &mut line);
-        let (mut levels, mut tables, mut numbers) = (vec![0; n], vec![0; m], vec![0; 28]);
+        let (mut levels, mut tables, mut numbers) = (vec![0; n], vec![0; m], vec![0; probe::NUMBERS]);
         let read = probe::read(text, 512, &mut levels, &mut tables, &mut numbers, &mut line);
         assert_eq!((measured, read), (0, 0), "a legal text");
         let all = (numbers[4] * numbers[0] * numbers[1]) as usize;
@@ -64,10 +63,10 @@ impl Lent {
     /// By document 01 and docs/DECISIONS.md, in order: no record (8), no legal record (13), lengths (8), quantisers (4), levels (5).
     fn refusal(&self) -> u32 {
         let n = &self.numbers;
-        if n.len() != 28 {
+        if n.len() != probe::NUMBERS {
             return 8;
         }
-        if !(n[5] <= 1 && self.is_legal()) {
+        if !(n[5] <= 1 && n[28] <= 1 && self.is_legal()) {
             return 13;
         }
         let count = n[4] as usize;
@@ -123,6 +122,7 @@ impl Lent {
             smoothing: weights(9),
             data: weights(12),
             rounding: Some(if n[27] == 1 { Rounding::Nearest } else { Rounding::Truncate }),
+            reorder: Some(if n[28] == 1 { Reorder::Once } else { Reorder::Each }),
             channels: (0..n[4] as usize).map(channel).collect(),
         }
     }
@@ -155,7 +155,7 @@ fn damage(r: &mut Random, x: &mut Lent) {
         u32::MAX,
     ];
     match r.below(10) {
-        0 => x.numbers.resize(r.pick(&[0, 1, 27, 29, 56]), 1),
+        0 => x.numbers.resize(r.pick(&[0, 1, 27, 28, 30, 58]), 1),
         1 => x.levels.resize(longer(r, x.levels.len()), 0),
         2 => x.tables.resize(longer(r, x.tables.len()), 1),
         3 => {
@@ -186,8 +186,10 @@ fn longer(r: &mut Random, length: usize) -> usize {
 /// The sheets, each with its kind; the largest only where `large`.
 fn sheets(r: &mut Random, count: u64, large: bool) -> impl Iterator<Item = (&'static str, Sheet)> {
     let fixed = fixed_runs().into_iter().map(|(_, sheet, _)| ("fixed sheet", sheet));
-    let modes = if large { &[true, false][..] } else { &[] };
-    let large: Vec<_> = modes.iter().map(|joint| ("512 by 512, three channels", full(r, 512, *joint, 1))).collect();
+    let ways = [(true, Reorder::Each), (false, Reorder::Each), (true, Reorder::Once), (false, Reorder::Once)];
+    let whole = |(joint, reorder)| Sheet { reorder: Some(reorder), ..full(r, 512, joint, 1) };
+    let large: Vec<_> = ways.into_iter().filter(|_| large).map(whole).collect();
+    let large = large.into_iter().map(|sheet| ("512 by 512, three channels", sheet));
     fixed.chain(large).chain(
         (0..count).map(
             move |i| {
@@ -219,12 +221,14 @@ fn full(r: &mut Random, side: u32, joint: bool, steps: u32) -> Sheet {
         smoothing: [300, 700, 1100].map(weight),
         data: [5, 1, 2].map(weight),
         rounding: Some(Rounding::Nearest),
+        reorder: None,
         channels,
     }
 }
 
-const FAULTS: [&str; 10] = [
+const FAULTS: [&str; 11] = [
     "the other mode",
+    "the other start",
     "the second data weight for the first",
     "one step less",
     "the lowest bit of the last value",
@@ -262,7 +266,12 @@ fn compare(count: u64, seed: u64, fault: &str) -> (Tally, BTreeMap<u32, u64>) {
                 solved_as(&mut tally, &mut answers, "damaged, but legal", &sheet, x, fault);
             }
         }
-        let plane = solved_as(&mut tally, &mut answers, kind, &sheet, whole, fault);
+        let letter = match sheet.reorder {
+            None => "",
+            Some(Reorder::Each) => ", A m",
+            Some(Reorder::Once) => ", A o",
+        };
+        let plane = solved_as(&mut tally, &mut answers, &format!("{kind}{letter}"), &sheet, whole, fault);
         finished(&mut tally, &mut r, &sheet, plane, fault);
     }
     if fault.is_empty() {
@@ -312,6 +321,7 @@ fn solved_as(
 ) -> Option<Vec<f32>> {
     match fault {
         "the other mode" => x.numbers[5] ^= 1,
+        "the other start" => x.numbers[28] ^= 1,
         "the second data weight for the first" => x.numbers[12] = x.numbers[13],
         "one step less" => x.numbers[6] = x.numbers[6].saturating_sub(1),
         _ => (),
@@ -329,7 +339,7 @@ fn solved_as(
     let due = planes(sheet);
     let equal = match &due {
         None => answer == 255,
-        Some(due) => answer == 0 && equal(&plane, &due.iter().flat_map(|p| p.iter().copied()).collect::<Vec<_>>()),
+        Some(due) => answer == 0 && equal(&plane, &due.concat()),
     };
     tally.count_in(kind, equal, || format!("answer {answer}, blown {}, numbers {:?}", due.is_none(), x.numbers));
     (answer == 0).then_some(plane)
@@ -352,7 +362,7 @@ fn finished(tally: &mut Tally, r: &mut Random, sheet: &Sheet, plane: Option<Vec<
     if fault == "a byte of the picture" {
         rgb[0] ^= 1;
     }
-    let parts = plane.chunks((sheet.w * sheet.h) as usize).map(|part| AlignedF32::from(part.to_vec()));
+    let parts = plane.chunks((sheet.w * sheet.h) as usize).map(<[f32]>::to_vec);
     let due = drawn(sheet, parts.collect()).bytes;
     tally.count_in(kind, answer == 0 && rgb == due, || format!("answer {answer}, sizes {sizes:?}"));
 
@@ -410,8 +420,7 @@ fn bench(steps: u32) -> ExitCode {
         let mut x = Lent::read(&mut r, &sheet.text());
         let rust = best(3, 1, || solved(&sheet)) / 1e9;
         let proved = best(3, 1, || x.solve()) / 1e9;
-        let due: Vec<f32> = solved(&sheet).iter().flat_map(|p| p.iter().copied()).collect();
-        assert!(equal(&x.six[0], &due), "the planes differ");
+        assert!(equal(&x.six[0], &solved(&sheet).concat()), "the planes differ");
         let mode = if joint { "joint" } else { "separate" };
         println!(
             "{mode}: published {rust:.2} s, proved {proved:.2} s, ratio {:.1}; the planes are equal",

@@ -1,8 +1,8 @@
 //! Runs of small sheets for replay by `replay_calls`. Answers, positions, marks and buffers are those of the trace of the published Rust (`src/run.rs`);
 //! the oracle's own model of the calls has to agree.
 //!
-//!     runs [N [SEED]]     the sheets of SHEETS and FORMS call by call: a line for each call, that of the list which ends with it; lists that are refused whole;
-//!                         and the whole runs of N sheets (60) of one block, up to 20 steps
+//!     runs [N [SEED]]     the sheets of SHEETS and FORMS, and some with `A o`, call by call: a line for each call, that of the list which ends with it;
+//!                         lists that are refused whole; and the whole runs of N sheets (60) of one block, up to 20 steps
 //!
 //! After its last step each run has calls that are refused: 10 where a channel is marked, 11, 9 and 12.
 use oracle::{
@@ -11,8 +11,8 @@ use oracle::{
     random::Random,
     replay::{Calls, digest, fits, line},
     run::{Run, runs},
-    sheet::{Channel, Sheet, Weight, read},
-    texts::WEIGHTS,
+    sheet::{Channel, Reorder, Sheet, Weight, read},
+    texts::{WEIGHTS, example},
 };
 
 /// A channel's own sides, factors, largest quantiser, and largest level either way; one level in `zeros` is other than 0.
@@ -89,6 +89,7 @@ fn sheet(r: &mut Random, ([w, h], steps, joint, smoothing, data, owns): &Form) -
         smoothing: weights(smoothing),
         data: weights(data),
         rounding: None,
+        reorder: None,
         channels: owns.iter().map(channel).collect(),
     }
 }
@@ -212,6 +213,17 @@ fn refused(before: &Lent, fill: f32) {
     }
 }
 
+/// Document 01's start of 16 by 8 with either letter of line `A`; then two lines of blocks, and three channels apart, with `o`.
+fn reordered(sheets: &[Sheet]) -> Vec<Sheet> {
+    let mut wide = read(&example(), 32).expect("legal");
+    (wide.w, wide.channels[0].w) = (16, 16);
+    wide.channels[0].levels.extend([0; 64]);
+    let with = |sheet: &Sheet, letter| Sheet { reorder: Some(letter), ..sheet.clone() };
+    let lines = sheets.iter().find(|sheet| sheet.channels[0].w > 8 && sheet.channels[0].h > 8).expect("one of FORMS");
+    let apart = sheets.iter().find(|sheet| !sheet.joint).expect("one of FORMS");
+    vec![with(&wide, Reorder::Each), with(&wide, Reorder::Once), with(lines, Reorder::Once), with(apart, Reorder::Once)]
+}
+
 /// One block, large and small levels and quantisers, and weights at the ends of what is legal.
 fn block(r: &mut Random, i: usize) -> Sheet {
     let most = 2047 >> (i % 11);
@@ -227,6 +239,7 @@ fn block(r: &mut Random, i: usize) -> Sheet {
         smoothing: [r.pick(&WEIGHTS); 3],
         data: [r.pick(&WEIGHTS); 3],
         rounding: None,
+        reorder: None,
         channels: vec![Channel { w: 8, h: 8, across: 1, down: 1, table, levels }],
     }
 }
@@ -237,7 +250,8 @@ fn main() {
     let mut r = Random::new(number(2, 1));
     let fills = [0.0, f32::NAN, -0.0, 1.0];
     let fixed = SHEETS.iter().map(|text| read(text.as_bytes(), 32).expect("a legal sheet"));
-    let sheets: Vec<Sheet> = fixed.chain(FORMS.iter().map(|form| sheet(&mut r, form))).collect();
+    let mut sheets: Vec<Sheet> = fixed.chain(FORMS.iter().map(|form| sheet(&mut r, form))).collect();
+    sheets.extend(reordered(&sheets));
     for (sheet, fill) in sheets.iter().zip(fills.into_iter().cycle()) {
         for (c, run) in runs(sheet).into_iter().enumerate() {
             walk(run, lent(sheet, c, fill), fill, true);

@@ -10,7 +10,7 @@ use oracle::{
     bench::best,
     probe,
     random::Random,
-    sheet::{Channel, Refusal, Rounding, Sheet, Weight, joined, read},
+    sheet::{Channel, Refusal, Reorder, Rounding, Sheet, Weight, joined, read},
     tally::Tally,
     texts,
 };
@@ -38,7 +38,7 @@ fn main() -> ExitCode {
     ExitCode::SUCCESS
 }
 
-/// What a reader gives: the refusal, or levels, tables and the record's 28 numbers.
+/// What a reader gives: the refusal, or levels, tables and the record's numbers.
 #[derive(Debug, PartialEq)]
 enum Given {
     Refused(u32, usize),
@@ -54,11 +54,11 @@ fn expected(text: &[u8], limit: u32) -> Given {
     let sides = [sheet.w, sheet.h, sheet.picture_w, sheet.picture_h, c.len() as u32, u32::from(sheet.joint)];
     let weights = sheet.weights().map(|weight| weight.value().to_bits());
     let owns = c.iter().flat_map(|c| [c.w, c.h, c.across, c.down]).chain([0; 8]).take(12);
-    let rounding = u32::from(sheet.rounds() == Rounding::Nearest);
+    let settings = [u32::from(sheet.rounds() == Rounding::Nearest), u32::from(sheet.reorders() == Reorder::Once)];
     Given::Sheet(
         c.iter().flat_map(|c| &c.levels).map(|level| *level as i16).collect(),
         c.iter().flat_map(|c| &c.table).map(|quantiser| *quantiser as u16).collect(),
-        sides.into_iter().chain(sheet.counts).chain(weights).chain(owns).chain([rounding]).collect(),
+        sides.into_iter().chain(sheet.counts).chain(weights).chain(owns).chain(settings).collect(),
     )
 }
 
@@ -73,7 +73,7 @@ fn proved(text: &[u8], limit: u32, spare: (usize, usize, usize)) -> Given {
     }
     let mut levels = vec![7i16; n + spare.0];
     let mut tables = vec![7u16; m + spare.1];
-    let mut header = vec![7u32; 28 + spare.2];
+    let mut header = vec![7u32; probe::NUMBERS + spare.2];
     let number = probe::read(text, limit, &mut levels, &mut tables, &mut header, &mut line);
     if number == 0 {
         assert_eq!((measured, line), (0, 0), "measuring accepts what reading accepts");
@@ -118,12 +118,13 @@ struct Faults {
     planted: u64,
 }
 
-const FAULTS: [&str; 7] = [
+const FAULTS: [&str; 8] = [
     "another refusal",
     "another line",
     "the last level",
     "the last quantiser",
     "the lowest bit of a weight",
+    "the other letter of A",
     "a sheet refused",
     "another length taken",
 ];
@@ -149,6 +150,10 @@ impl Faults {
             }),
             (Given::Sheet(_, _, header), "the lowest bit of a weight") => {
                 header[14] ^= 1;
+                true
+            }
+            (Given::Sheet(_, _, header), "the other letter of A") => {
+                header[28] ^= 1;
                 true
             }
             (Given::Sheet(..), "a sheet refused") => {
@@ -283,6 +288,7 @@ fn bench(rounds: usize) {
         smoothing: weights,
         data: weights,
         rounding: None,
+        reorder: None,
         channels,
     };
     let text = sheet.text();
@@ -291,7 +297,7 @@ fn bench(rounds: usize) {
     let each = |time: f64| format!("{:.2} ms, {:.2} ns a byte", time / 1e6, time / text.len() as f64);
     println!("{} bytes read in {} by the oracle", text.len(), each(time));
     let (mut levels, mut tables) = (vec![0i16; 3 * 512 * 512], vec![0u16; 192]);
-    let (mut header, mut line) = ([0u32; 28], 0);
+    let (mut header, mut line) = ([0u32; probe::NUMBERS], 0);
     let time = best(rounds, 1, || probe::read(&text, 512, &mut levels, &mut tables, &mut header, &mut line));
     println!("{} by the proved reader", each(time));
 }
