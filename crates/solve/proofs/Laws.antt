@@ -17,7 +17,7 @@ use Rattle.calls.specs.Calls.{lengths, allSix}
 use Rattle.demand.specs.Solver.{jobs}
 use Rattle.record.specs.Model.{ownOf, sheetOf}
 use Rattle.rounds.specs.Whole.{runBlows, last, runOf}
-use Rattle.solve.specs.Solve.{joint, alone, jointGiven, aloneGiven, levelsFor, tablesFor, separately, solveRefusal}
+use Rattle.solve.specs.Solve.{reorderOf, joint, alone, jointGiven, aloneGiven, levelsFor, tablesFor, separately, solveRefusal}
 use Rattle.solve.proofs.Alone.{levels-long, tables-long}
 
 -- "N = 0 gives the unprojected start", and nothing is blown.
@@ -41,6 +41,7 @@ module _ (S : Sheet) (levels : List ℤ) (tables : List ℕ) (B : Buffers) (acce
         H = S .header .height;
         N = S .header .iterations0;
         smoothing = valueOf (S .header .smoothing0);
+        reorder = reorderOf (S .settings .start);
         count = n;
         owns = map ownOf (take n (joint S .channels));
       })

@@ -8,9 +8,13 @@ use lib.Ieee.{Float}
 use Rattle.fold.specs.Part.{part}
 use Rattle.contents.specs.declared.Weight.{Weight}
 use Rattle.contents.specs.Weights.{valueOf}
+use Rattle.contents.specs.declared.Choice.{Choice}
+use Rattle.contents.specs.declared.Choice.the-variants as choice
 use Rattle.contents.specs.declared.Sheet.{Sheet}
 use Rattle.contents.specs.declared.Channel as Line
 use Rattle.contents.specs.Sheets.{channelAt}
+use Rattle.start.specs.declared.coef.Reorder.{Reorder}
+use Rattle.start.specs.declared.coef.Reorder.the-variants.{Each, Once}
 use Rattle.start.specs.Buffers.{Buffers}
 use Rattle.calls.specs.Run.{Given, levelsBefore, every, among, legal}
 use Rattle.calls.specs.Buffers.{joined}
@@ -28,6 +32,12 @@ abbrev pub runChannel : Line.Channel → Weight → Channel
 runChannel x w =
     record { width = x .width; height = x .height; across = x .across; down = x .down; weight = valueOf w; position = 0; mark = false }
 
+-- M-102's letter: "`m`, also the meaning when it is absent, is the start of document 01. `o` dequantises and transforms all blocks, then reorders once"
+abbrev pub reorderOf : Choice → Reorder
+reorderOf choice.Unsaid = Each
+reorderOf choice.First = Each
+reorderOf choice.Second = Once
+
 -- "Joint mode uses the first smoothing weight, the first iteration count and each channel's data weight."
 unfoldable pub joint : Sheet → Run
 joint S =
@@ -37,6 +47,7 @@ joint S =
       h = h .height;
       n = h .iterations0;
       smoothing = valueOf (h .smoothing0);
+      reorder = reorderOf (S .settings .start);
       count = h .channels;
       channels = runChannel (S .first) (h .data0) ∷ runChannel (S .second) (h .data1) ∷ runChannel (S .third) (h .data2) ∷ [];
     }
@@ -49,7 +60,7 @@ abbrev pub smoothingAt : Sheet → ℕ → Weight
 smoothingAt S c = cond (eqb c 0) (S .header .smoothing0) (cond (eqb c 1) (S .header .smoothing1) (S .header .smoothing2))
 
 -- "Separate mode, as `solve_cpu`: channel c alone, with its own smoothing weight and iteration count, but always the first of the three data
--- weights." A run of one channel, the first of three places; no call reads the other two.
+-- weights." A run of one channel, the first of three places; no call reads the other two. The letter is the sheet's in both modes.
 unfoldable pub alone : Sheet → ℕ → Run
 alone S c =
     let x = runChannel (channelAt S c) (S .header .data0) in
@@ -58,6 +69,7 @@ alone S c =
       h = S .header .height;
       n = iterationsAt S c;
       smoothing = valueOf (smoothingAt S c);
+      reorder = reorderOf (S .settings .start);
       count = 1;
       channels = x ∷ x ∷ x ∷ [];
     }

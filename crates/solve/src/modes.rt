@@ -1,4 +1,5 @@
 // The runs of a sheet in both modes, and what solve refuses.
+use contents::Choice;
 use contents::Header;
 use contents::Sheet;
 use contents::Weight;
@@ -6,9 +7,10 @@ use contents::weight_value;
 use fold::flags::both;
 use record::Run;
 use record::legal::legal;
+use start::coef::Reorder;
 ghost use mathlib.Core.Path.{_≡_};
 ghost use Rattle.contents.specs.Sheets.{channelAt};
-ghost use Rattle.solve.specs.Solve.{runChannel, joint, alone, iterationsAt, smoothingAt, allLegal, solveRefusal};
+ghost use Rattle.solve.specs.Solve.{runChannel, reorderOf, joint, alone, iterationsAt, smoothingAt, allLegal, solveRefusal};
 
 // A channel line as a channel of a fresh run, with this data weight.
 fn run_channel(x: contents::Channel, weight: Weight) -> record::Channel
@@ -25,6 +27,17 @@ fn run_channel(x: contents::Channel, weight: Weight) -> record::Channel
     }
 }
 
+// When a sheet's images are reordered: once where line A has o, else after each block.
+fn reorder_of(letter: Choice) -> Reorder
+    ensures { λ r. ⌜ r ≡ reorderOf letter ⌝ }
+{
+    match letter {
+        Choice::Unsaid => Reorder::Each,
+        Choice::First => Reorder::Each,
+        Choice::Second => Reorder::Once,
+    }
+}
+
 // The run of all channels: the first smoothing weight, the first iteration count and each channel's data weight.
 pub fn joint_of(s: Sheet) -> Run
     ensures { λ r. ⌜ r ≡ joint s ⌝ }
@@ -37,6 +50,9 @@ pub fn joint_of(s: Sheet) -> Run
     let first = s.first;
     let second = s.second;
     let third = s.third;
+    let settings = s.settings;
+    let start = settings.start;
+    let letter = reorder_of(start);
     let a = run_channel(first, d0);
     let b = run_channel(second, d1);
     let c = run_channel(third, d2);
@@ -45,6 +61,7 @@ pub fn joint_of(s: Sheet) -> Run
         h: h.height,
         n: h.iterations0,
         smoothing: weight_value(smoothing),
+        reorder: letter,
         count: h.channels,
         channels: [a, b, c],
     }
@@ -97,12 +114,16 @@ pub fn alone_of(s: Sheet, c: u32) -> Run
 {
     let h = s.header;
     let d0 = h.data0;
+    let settings = s.settings;
+    let start = settings.start;
+    let reorder = reorder_of(start);
     let x = run_channel(line_at(s, c), d0);
     Run {
         w: h.width,
         h: h.height,
         n: iterations_at(s, c),
         smoothing: weight_value(smoothing_at(s, c)),
+        reorder,
         count: 1,
         channels: [x, x, x],
     }
