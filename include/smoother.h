@@ -42,7 +42,7 @@ enum smoother_answer {
     SMOOTHER_BLOWN = 10,   /* the channel, or for blend any channel, is marked */
     SMOOTHER_DONE = 11,    /* the channel, or for blend any channel, has had all its steps */
     SMOOTHER_CHANNEL = 12, /* there is no such channel */
-    SMOOTHER_RECORD = 13,  /* sizes, factors, weights, iterations, positions or marks of no legal record */
+    SMOOTHER_RECORD = 13,  /* sizes, factors, weights, iterations, letter, positions or marks of no legal record */
     SMOOTHER_SEGMENT = 19,   /* a DQT segment with a wrong marker or stated length, or with fewer than 64 bytes left for a table */
     SMOOTHER_PRECISION = 20, /* a table of a DQT segment with a precision other than 0 or a destination above 3 */
     SMOOTHER_NOW_BLOWN = 255 /* project: done, and the channel is now marked blown; smoother_solve: a channel blew */
@@ -72,7 +72,8 @@ enum smoother_header {
     SMOOTHER_AT_DATA = 12,      /* three weights, as the bits of their f32 */
     SMOOTHER_AT_OWN = 15,       /* per channel own width, own height, across factor, down factor; 0 where there is no such channel */
     SMOOTHER_AT_ROUNDING = 27,  /* 0 truncated, 1 nearest (line F) */
-    SMOOTHER_NUMBERS = 28
+    SMOOTHER_AT_REORDER = 28,   /* 0 after each block, 1 once (line A) */
+    SMOOTHER_NUMBERS = 29
 };
 
 /* Reads a text. `levels` and `tables` have the measured lengths, `header` has SMOOTHER_NUMBERS places.
@@ -96,13 +97,14 @@ struct smoother_channel {
 
 /* The run's record. Joint mode is one run of all channels, with the sheet's first iteration count and first smoothing weight, and
  * each channel's data weight. In separate mode each channel is a run of its own, with its own iteration count and smoothing weight,
- * but always the first data weight. The places past `count` are not looked at. */
+ * but always the first data weight. The letter of line A is the sheet's in both. The places past `count` are not looked at. */
 struct smoother_run {
     uint32_t w; /* W and H: multiples of 8, 8 to 512 */
     uint32_t h;
     uint32_t n;      /* N: steps, 0 to 1,000 */
     float smoothing; /* smoothing weight: finite, sign bit clear */
-    uint32_t count;  /* channels: 1 or 3 */
+    uint32_t reorder; /* line A, which start looks at: its image is reordered 0 after each block (m), 1 once (o); every call refuses (13) any other */
+    uint32_t count;   /* channels: 1 or 3 */
     struct smoother_channel channels[3];
 };
 
@@ -159,7 +161,8 @@ uint32_t smoother_serve(struct smoother_run *run, const uint8_t *jobs, size_t jo
  * does not matter. Fields that no run of the sheet uses are not looked at.
  * 0: the six hold each channel's after its last job, channel after channel; plane the planes.
  * 255: a channel is blown; the contents of the six are not promised.
- * 8 for another count of numbers, 13 for a mode that is not 0 or 1 and for numbers of no legal sheet, 8, 4, 5: all six are unchanged. */
+ * 8 for another count of numbers, 13 for a mode or a reordering that is not 0 or 1 and for numbers of no legal sheet, 8, 4, 5: all six are
+ * unchanged. */
 uint32_t smoother_solve(const uint32_t *header, size_t header_len, const int16_t *levels, size_t levels_len, const uint16_t *tables,
                         size_t tables_len, float *plane, size_t plane_len, float *prior, size_t prior_len, float *gradient,
                         size_t gradient_len, float *across, size_t across_len, float *down, size_t down_len, float *saved,

@@ -1,9 +1,9 @@
 #!/usr/bin/env python3
 """Writes the proofs of the exported calls that are lent the run's record (`scripts/thin-calls` is the command). Such a thin call is
 
-    fn FN(run: &mut Run, ..) -> u32 { let p = CALLEE(*run, ..); *run = p.run; p.answer }
+    fn FN(run: &mut LentRun, ..) -> u32 { let p = CALLEE(*run, ..); *run = p.run; p.answer }
 
-where CALLEE is a covered function, fn(run: Run, ..) -> RESULT with struct RESULT { answer: u32, run: Run }, and where the clauses of
+where CALLEE is a covered function, fn(run: LentRun, ..) -> RESULT with struct RESULT { answer: u32, run: LentRun }, and where the clauses of
 FN are those of CALLEE with `r` for `r .answer`, `now (run .exit)` for `r .run` and `now (run .entry)` for `run`. Then no line of
 the proof depends on the contract: the walk is fixed by the parameters' types alone.
 
@@ -12,17 +12,14 @@ the proof depends on the contract: the walk is fixed by the parameters' types al
     call(FN, CALLEE, PARAMS)     proofs/MODULE/FN/Proof.antt; a PARAM is a number type, bool, or mut:T or shr:T for a `&mut [T]` or a `&[T]`
 """
 
-CRATE = 'smoother'  # has the calls, the covered functions and RESULT
+CRATE = 'smoother'  # has the record, the calls, the covered functions and RESULT
 MODULE = 'runs'  # where the calls and the covered functions are
-OF = 'record'  # the crate that declares the record
-RECORD = 'Run'
+RECORD = 'LentRun'
 RESULT = 'Numbered'
 ANSWER = 'u32'
 
 PROOFS = f'Rattle.{CRATE}.proofs.'
 SPECS = f'Rattle.{CRATE}.specs.declared.'
-OF_PROOFS = f'Rattle.{OF}.proofs.'
-OF_SPECS = f'Rattle.{OF}.specs.declared.'
 
 W = {'u8': 'w8', 'u16': 'w16', 'u32': 'w32', 'u64': 'w64', 'usize': 'w64', 'i8': 'w8', 'i16': 'w16', 'i32': 'w32', 'i64': 'w64', 'isize': 'w64'}
 F = {'f32': 'binary32', 'f64': 'binary64'}
@@ -128,10 +125,10 @@ use denote.Plain.{{{kind}-vals, {kind}-lawful, {kind}-makes}}
 use denote.Builtin.{{{ANSWER}}}
 use denote.Steps.{{only}}
 use mir.Syntax.{{{width}}}
-use {OF_SPECS}{RECORD}.{{{RECORD}}}
+use {SPECS}{RECORD}.{{{RECORD}}}
 use {SPECS}{RESULT}.{{{RESULT}}}
-use {OF_PROOFS}{RECORD} as T
-use {OF_PROOFS}{RECORD}.Laws as T′
+use {PROOFS}{RECORD} as T
+use {PROOFS}{RECORD}.Laws as T′
 use {PROOFS}{RESULT} as P
 use {PROOFS}{RESULT}.Laws as P′
 
@@ -205,10 +202,10 @@ def call(fn, callee, params):
     e(f'use {PROOFS}Walk.{{{", ".join(logic)}}}')
     e(f'use {PROOFS}Thin.{{tail, gives, gives-fit, gives-go, opens-record, closes-record, passes-on, returned, hands-back, by-walk}}')
     e(f'use {PROOFS}Lent.{{mach, answer, answer-is, run-is, result-told, run-typed, result-typed, answer-typed, answer-makes}}')
-    e(f'use {OF_SPECS}{RECORD}.{{{RECORD}}}')
+    e(f'use {SPECS}{RECORD}.{{{RECORD}}}')
     e(f'use {SPECS}{RESULT}.{{{RESULT}}}')
-    e(f'use {OF_PROOFS}{RECORD} as T')
-    e(f'use {OF_PROOFS}{RECORD}.Laws as T′')
+    e(f'use {PROOFS}{RECORD} as T')
+    e(f'use {PROOFS}{RECORD}.Laws as T′')
     e(f'use {PROOFS}{RESULT} as P')
     e(f'use {PROOFS}{RESULT}.Laws as P′')
     e(f"""use {PROOFS}{MODULE}.{callee} as g

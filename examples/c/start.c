@@ -70,6 +70,7 @@ static struct smoother_run run_of(const uint32_t *s)
                                .h = s[SMOOTHER_AT_H],
                                .n = s[SMOOTHER_AT_ITERATIONS],
                                .smoothing = value(s[SMOOTHER_AT_SMOOTHING]),
+                               .reorder = s[SMOOTHER_AT_REORDER],
                                .count = s[SMOOTHER_AT_JOINT] ? s[SMOOTHER_AT_CHANNELS] : 1};
     for (uint32_t c = 0; c < run.count; c++) {
         const uint32_t *own = s + SMOOTHER_AT_OWN + 4 * c;

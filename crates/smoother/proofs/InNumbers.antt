@@ -1,30 +1,104 @@
--- An answer as its number: what a call gives by value, it gives in numbers.
-use mathlib.Core.Path.{_≡_, refl, ap}
+-- C's record and a call's answer in numbers: what a call gives by value, it gives in numbers, and 13 where C's record has no letter.
+use mathlib.Core.Path.{_≡_, refl, sym, ap, _∙_, subst}
+use mathlib.Core.Bool.{true≢false}
 use mathlib.Core.List.{List}
-use Prim.Native.Nat.{ℕ}
+use Prim.Native.Nat.{ℕ, zero, suc, _≤_, _<_}
+use native.Mathlib.Omega.{arith}
 use lib.IntN.{ℤ}
+use borrow.Author.Tests.{le-leb, lt-leb}
+use Rattle.start.specs.declared.coef.Reorder.{Reorder}
+use Rattle.start.specs.declared.coef.Reorder.the-variants.{Each, Once}
 use Rattle.start.specs.Buffers.{Buffers}
 use Rattle.record.specs.declared.Run.{Run}
 use Rattle.record.specs.declared.Answered.{Answered}
 use Rattle.record.specs.Model.{answerOf}
 use Rattle.run.specs.Public.{Result, gave}
-use Rattle.serve.specs.Serve.{byteOf, GaveNumber, ServeIs}
-use Rattle.serve.proofs.Listed.{in-number}
+use Rattle.serve.specs.Serve.{byteOf, GaveNumber, ServeIs, serveRefusalOf}
+use Rattle.smoother.specs.declared.LentRun.{LentRun}
 use Rattle.smoother.specs.declared.Numbered.{Numbered}
-use Rattle.smoother.specs.Numbers.{inNumbers, ServeNumbers}
+use Rattle.smoother.specs.Numbers.{reorderFrom, reorderNumber, runFrom, lentFrom, inNumbers, GaveLent, listRefusal, ServeNumbers}
 
-pub with-number : (a : Answered) (k : ℕ) → k ≡ byteOf (answerOf (a .answer)) → _≡_ {A = Numbered} (record { answer = k; run = a .run }) (inNumbers a)
-with-number a k e = rw e
+-- ---- the letter and the record, there and back
 
-module _ (a : Answered) {n : Numbered} (e : n ≡ inNumbers a) where
-  pub in-numbers : {x : Result} {B : Buffers} → x ≡ gave (a .answer) (a .run) B → GaveNumber x (n .answer) (n .run) B
-  in-numbers h = rw e (in-number (a .answer) h refl)
+letter-back : (R : Reorder) → reorderFrom (reorderNumber R) ≡ R
+letter-back Each = refl
+letter-back Once = refl
 
-  pub serve-numbers : (r : Run) (js cs bytes : List ℕ) (levels : List ℤ) (tables : List ℕ) (B : Buffers) {bytes′ : List ℕ} {B′ : Buffers}
-      → ServeIs r js cs bytes levels tables B (a .answer) (a .run) bytes′ B′ → ServeNumbers r js cs bytes levels tables B (n .answer) (n .run) bytes′ B′
-  serve-numbers r js cs bytes levels tables B h =
+some-letter : (R : Reorder) → reorderNumber R ≤ 1
+some-letter Each = omega arith
+some-letter Once = omega arith
+
+number-back : (n : ℕ) → n ≤ 1 → reorderNumber (reorderFrom n) ≡ n
+number-back zero l = refl
+number-back (suc zero) l = refl
+number-back (suc (suc n)) l = absurd (omega arith)
+
+run-back : (r : Run) → runFrom (lentFrom r) ≡ r
+run-back r =
+    λ i.
+    record { w = r .w; h = r .h; n = r .n; smoothing = r .smoothing; reorder = letter-back (r .reorder) i; count = r .count; channels = r .channels }
+
+lent-back : (x : LentRun) → x .reorder ≤ 1 → lentFrom (runFrom x) ≡ x
+lent-back x l =
+    λ i.
+    record { w = x .w; h = x .h; n = x .n; smoothing = x .smoothing; reorder = number-back (x .reorder) l i; count = x .count; channels = x .channels }
+
+-- ---- one call
+
+pub with-number : (a : Answered) (k : ℕ) (x : LentRun) → k ≡ byteOf (answerOf (a .answer)) → x ≡ lentFrom (a .run) → _≡_ {A = Numbered} (record { answer = k; run = x }) (inNumbers a)
+with-number a k x e q = rw (e, q)
+
+module _ {x : LentRun} {B : Buffers} {f : Run → Result} where
+  pub no-letter : 1 < x .reorder → GaveLent x B f 13 x B
+  no-letter l = record { no-letter = λ e. (refl, refl, refl); a-letter = λ e. absurd (true≢false (sym e ∙ lt-leb (x .reorder) 1 l)) }
+
+  pub in-numbers : x .reorder ≤ 1 → (r : Run) → r ≡ runFrom x → (a : Answered) (n : Numbered) → n ≡ inNumbers a → {B′ : Buffers} → f r ≡ gave (a .answer) (a .run) B′
+      → GaveLent x B f (n .answer) (n .run) B′
+  in-numbers l r q a n e h =
+      let given = ap f (sym q) ∙ h in
+      record {
+        no-letter = λ w. absurd (true≢false (sym (le-leb (x .reorder) 1 l) ∙ w));
+        a-letter = λ w. (
+          ap (λ (m : Numbered). m .answer) e ∙ ap (λ (o : Result). byteOf (o .answer)) (sym given),
+          ap (λ (m : Numbered). m .run) e ∙ ap (λ (o : Result). lentFrom (o .run)) (sym given),
+          ap (λ (o : Result). o .buffers) (sym given),
+        );
+      }
+
+-- a call that was lent the numbers of a record: what it gave
+pub made-of : (r : Run) {B : Buffers} {f : Run → Result} {k : ℕ} {r′ : Run} {B′ : Buffers} → GaveLent (lentFrom r) B f k (lentFrom r′) B′ → GaveNumber (f r) k r′ B′
+made-of r {B} {f} {k} {r′} h =
+    let b = run-back r in
+    let y = h .a-letter (le-leb (reorderNumber (r .reorder)) 1 (some-letter (r .reorder))) in
+    record {
+      number = y .0 ∙ ap (λ (z : Run). byteOf (f z .answer)) b;
+      run = sym (run-back r′) ∙ ap runFrom (y .1) ∙ run-back (f (runFrom (lentFrom r)) .run) ∙ ap (λ (z : Run). f z .run) b;
+      buffers = y .2 ∙ ap (λ (z : Run). f z .buffers) b;
+    }
+
+-- ---- a list of calls
+
+module _ (x : LentRun) (js cs bytes : List ℕ) (levels : List ℤ) (tables : List ℕ) (B : Buffers) where
+  pub no-letter-list : 1 < x .reorder → ServeNumbers x js cs bytes levels tables B 13 x bytes B
+  unfolding listRefusal
+  no-letter-list l =
+      let e : listRefusal x js cs bytes levels tables B ≡ 13 = rw (lt-leb (x .reorder) 1 l) in
+      record {
+        if-refused = λ w. (sym e, refl, refl, refl);
+        if-done = λ z. absurd (let q : _≡_ {A = ℕ} 13 0 = sym e ∙ z in omega arith);
+      }
+
+  lettered-list : x .reorder ≤ 1 → listRefusal x js cs bytes levels tables B ≡ serveRefusalOf (runFrom x) js cs bytes levels tables B
+  unfolding listRefusal
+  lettered-list l = rw (le-leb (x .reorder) 1 l)
+
+  pub serve-numbers : x .reorder ≤ 1 → (r : Run) → r ≡ runFrom x → (a : Answered) (n : Numbered) → n ≡ inNumbers a → {bytes′ : List ℕ} {B′ : Buffers}
+      → ServeIs r js cs bytes levels tables B (a .answer) (a .run) bytes′ B′ → ServeNumbers x js cs bytes levels tables B (n .answer) (n .run) bytes′ B′
+  serve-numbers l r q a n e {bytes′} {B′} h =
+      let s = lettered-list l in
+      let served = subst (λ (z : Run). ServeIs z js cs bytes levels tables B (a .answer) (a .run) bytes′ B′) q h in
       rw e
       (record {
-        if-refused = λ w. let x = h .if-refused w in (ap byteOf (x .0), x .1, x .2, x .3);
-        if-done = λ z. (ap byteOf (h .if-done z .0), h .if-done z .1);
+        if-refused = λ w. let y = served .if-refused (λ z. w (s ∙ z)) in (ap byteOf (y .0) ∙ sym s, ap lentFrom (y .1) ∙ lent-back x l, y .2, y .3);
+        if-done = λ z. let y = served .if-done (sym s ∙ z) in (ap byteOf (y .0), (a .run, refl, y .1));
       })

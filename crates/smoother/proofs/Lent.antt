@@ -1,4 +1,4 @@
--- What the walks of the thin calls share of the types: the record `Run`, which is lent, and `Numbered`, the answer and the record that each covered function returns.
+-- What the walks of the thin calls share of the types: the record `LentRun`, which is lent, and `Numbered`, the answer and the record that each covered function returns.
 --     mach, answer     the machine values of a record and of an answer
 --     answer-is, run-is        what whoever holds a result knows of its fields
 --     run-typed, result-typed, answer-typed    that a machine value has its MIR type.        result-told      a result's machine value, spelled out.        answer-makes     what an answer owns is had for nothing
@@ -17,14 +17,14 @@ use denote.Plain.{uint-vals, uint-lawful, uint-makes}
 use denote.Builtin.{u32}
 use denote.Steps.{only}
 use mir.Syntax.{w32}
-use Rattle.record.specs.declared.Run.{Run}
+use Rattle.smoother.specs.declared.LentRun.{LentRun}
 use Rattle.smoother.specs.declared.Numbered.{Numbered}
-use Rattle.record.proofs.Run as T
-use Rattle.record.proofs.Run.Laws as T′
+use Rattle.smoother.proofs.LentRun as T
+use Rattle.smoother.proofs.LentRun.Laws as T′
 use Rattle.smoother.proofs.Numbered as P
 use Rattle.smoother.proofs.Numbered.Laws as P′
 
-abbrev pub mach : Run → Val
+abbrev pub mach : LentRun → Val
 mach h = LL.val T.the-type T′.the-laws h
 
 abbrev pub answer : ℕ → Val
@@ -40,7 +40,7 @@ pub result-told : (r : Numbered) (w : Val) → Is P.the-row r (w ∷ []) → w �
 result-told r w is = ap only (LL.tells P.the-type P′.the-laws r _ is)
 
 module _ {M : Type 1} (𝓤 : URA M) (H : Heap 𝓤) (A : Atoms 𝓤) (W : Given 𝓤 H A) where
-  pub run-typed : (h : Run) → Is T.the-row h (mach h ∷ []) → Typed (T.the-row .mir) (mach h ∷ [])
+  pub run-typed : (h : LentRun) → Is T.the-row h (mach h ∷ []) → Typed (T.the-row .mir) (mach h ∷ [])
   run-typed h is = LL.lawful T.the-type T′.the-laws 𝓤 H A W .typed h _ is
 
   pub result-typed : (r : Numbered) (w : Val) → Is P.the-row r (w ∷ []) → Typed (P.the-row .mir) (w ∷ [])

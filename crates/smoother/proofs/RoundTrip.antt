@@ -13,6 +13,8 @@ use Rattle.contents.specs.declared.Weight.{Weight}
 use Rattle.contents.specs.declared.Weight.the-variants as weight
 use Rattle.contents.specs.Weights.{valueOf}
 use Rattle.contents.specs.declared.Sheet.{Sheet}
+use Rattle.contents.specs.declared.Choice.{Choice}
+use Rattle.contents.specs.declared.Choice.the-variants as choice
 use Rattle.fold.specs.Part.{part}
 use Rattle.start.specs.Buffers.{Buffers}
 use Rattle.calls.specs.Run.{Given, levelsBefore, every, among}
@@ -22,9 +24,9 @@ use Rattle.serve.specs.Serve.{byteOf}
 use Rattle.record.specs.declared.Run.{Run}
 use Rattle.record.specs.Model.{sheetOf, placesOf, givenOf}
 use Rattle.rounds.specs.Whole.{runBlows, Whole, last, runOf, Ends}
-use Rattle.solve.specs.Solve.{joint, alone, tablesFor, separately, wholeOf, isLegal, allLegal, solveRefusal}
-use Rattle.smoother.specs.Sheets.{numbersOf, weightBits}
-use Rattle.smoother.specs.Whole.{sheetOfNumbers, numbersRefusal, SolveNumbers}
+use Rattle.solve.specs.Solve.{reorderOf, joint, alone, tablesFor, separately, wholeOf, isLegal, allLegal, solveRefusal}
+use Rattle.smoother.specs.Sheets.{choiceNumber, numbersOf, weightBits}
+use Rattle.smoother.specs.Whole.{choiceFrom, sheetOfNumbers, numbersRefusal, SolveNumbers}
 
 value-fits : (w : Weight) → T (fits binary32 (valueOf w))
 unfolding valueOf
@@ -45,9 +47,20 @@ same-mode : (b : Bool) → eqb (cond b 1 0) 1 ≡ b
 same-mode true = refl
 same-mode false = refl
 
-a-mode : (b : Bool) → leb (cond b 1 0) 1 ≡ true
-a-mode true = refl
-a-mode false = refl
+-- the letter of line A
+same-letter : (c : Choice) → reorderOf (choiceFrom (choiceNumber c)) ≡ reorderOf c
+same-letter choice.Unsaid = refl
+same-letter choice.First = refl
+same-letter choice.Second = refl
+
+a-letter : (c : Choice) → leb (choiceNumber c) 1 ≡ true
+a-letter choice.Unsaid = refl
+a-letter choice.First = refl
+a-letter choice.Second = refl
+
+both-letters : (b : Bool) (c : Choice) → (leb (cond b 1 0) 1 && leb (choiceNumber c) 1) ≡ true
+both-letters true c = a-letter c
+both-letters false c = a-letter c
 
 -- ---- what a sheet's whole run is made of: its mode, its channel count and its runs
 module _ (levels : List ℤ) (tables : List ℕ) where
@@ -76,12 +89,12 @@ module _ (S : Sheet) where
 
   same-joint : joint S′ ≡ joint S
   unfolding sheetOfNumbers numbersOf joint
-  same-joint = rw (same-value (S .header .smoothing0), same-value (S .header .data0), same-value (S .header .data1), same-value (S .header .data2))
+  same-joint = rw (same-letter (S .settings .start), same-value (S .header .smoothing0), same-value (S .header .data0), same-value (S .header .data1), same-value (S .header .data2))
 
   same-alone : (c : ℕ) → alone S′ c ≡ alone S c
   unfolding sheetOfNumbers numbersOf alone
   same-alone c =
-      rw (same-value (S .header .data0), same-choice (eqb c 0) (eqb c 1) (S .header .smoothing0) (S .header .smoothing1) (S .header .smoothing2))
+      rw (same-letter (S .settings .start), same-value (S .header .data0), same-choice (eqb c 0) (eqb c 1) (S .header .smoothing0) (S .header .smoothing1) (S .header .smoothing2))
 
   module _ (levels : List ℤ) (tables : List ℕ) where
     pub same-refusal : (ls : List ℕ) → solveRefusal S′ levels tables ls ≡ solveRefusal S levels tables ls
@@ -94,7 +107,7 @@ module _ (S : Sheet) where
 
     same-numbers : (ls : List ℕ) → numbersRefusal (numbersOf S) levels tables ls ≡ solveRefusal S levels tables ls
     unfolding numbersRefusal numbersOf
-    same-numbers ls = ap (λ (b : Bool). cond b (solveRefusal S′ levels tables ls) 13) (a-mode (S .header .joint)) ∙ same-refusal ls
+    same-numbers ls = ap (λ (b : Bool). cond b (solveRefusal S′ levels tables ls) 13) (both-letters (S .header .joint) (S .settings .start)) ∙ same-refusal ls
 
     -- the exported call, lent the numbers of a sheet, does what `solve` does of the sheet
     pub as-of-sheet : (B : Buffers) (k : ℕ) (B′ : Buffers)

@@ -3,8 +3,7 @@ use mathlib.Core.Path.{_≡_, refl, sym, ap, _∙_, subst}
 use Prim.Native.Nat.{ℕ, zero, suc, _≤_, _<_}
 use mathlib.Core.Bool.{Bool, true, false, cond}
 use mathlib.Core.List.{List}
-use lib.ListN.{length, getD}
-use lib.Dec.{leb}
+use lib.ListN.{length}
 use lib.IntN.{ℤ}
 use lib.Ieee.{Float}
 use borrow.Author.Tests.{eq-eqb, ne-eqb, le-leb, lt-leb}
@@ -21,7 +20,7 @@ use Rattle.picture.specs.declared.Answer as drawn
 use Rattle.picture.specs.declared.Rounding.{Rounding}
 use Rattle.picture.specs.Finish.{Finished, verdict, finishing}
 use Rattle.smoother.specs.Sheets.{recordCount}
-use Rattle.smoother.specs.Whole.{sheetOfNumbers, numbersRefusal, SolveNumbers, verdictNumber, roundingFrom, finishingBy, FinishNumbers}
+use Rattle.smoother.specs.Whole.{sheetOfNumbers, lettersOk, numbersRefusal, SolveNumbers, verdictNumber, roundingFrom, finishingBy, FinishNumbers}
 
 module _ (ns : List ℕ) (levels : List ℤ) (tables : List ℕ) (B : Buffers) where
   abbrev S : Sheet
@@ -36,20 +35,20 @@ module _ (ns : List ℕ) (levels : List ℤ) (tables : List ℕ) (B : Buffers) w
 
   pub no-record : (length ns ≡ recordCount → ⊥) → SolveNumbers ns levels tables B 8 B
   unfolding numbersRefusal
-  no-record h = subst (λ (b : Bool). End (cond b (cond (leb (getD ns 5 0) 1) R 13) 8) 8 B) (sym (ne-eqb (length ns) recordCount h)) (Calls.refused 8, refl, (refl, refl))
+  no-record h = subst (λ (b : Bool). End (cond b (cond (lettersOk ns) R 13) 8) 8 B) (sym (ne-eqb (length ns) recordCount h)) (Calls.refused 8, refl, (refl, refl))
 
-  with-record : (k : ℕ) (B′ : Buffers) → length ns ≡ recordCount → End (cond (leb (getD ns 5 0) 1) R 13) k B′ → SolveNumbers ns levels tables B k B′
+  with-record : (k : ℕ) (B′ : Buffers) → length ns ≡ recordCount → End (cond (lettersOk ns) R 13) k B′ → SolveNumbers ns levels tables B k B′
   unfolding numbersRefusal
-  with-record k B′ h e = subst (λ (b : Bool). End (cond b (cond (leb (getD ns 5 0) 1) R 13) 8) k B′) (sym (eq-eqb (length ns) recordCount h)) e
+  with-record k B′ h e = subst (λ (b : Bool). End (cond b (cond (lettersOk ns) R 13) 8) k B′) (sym (eq-eqb (length ns) recordCount h)) e
 
-  pub no-mode : length ns ≡ recordCount → 1 < getD ns 5 0 → SolveNumbers ns levels tables B 13 B
-  no-mode h m = with-record 13 B h (subst (λ (b : Bool). End (cond b R 13) 13 B) (sym (lt-leb (getD ns 5 0) 1 m)) (Calls.refused 13, refl, (refl, refl)))
+  pub no-letters : length ns ≡ recordCount → lettersOk ns ≡ false → SolveNumbers ns levels tables B 13 B
+  no-letters h m = with-record 13 B h (subst (λ (b : Bool). End (cond b R 13) 13 B) (sym m) (Calls.refused 13, refl, (refl, refl)))
 
-  pub solved : (s : Sheet) (a : Answer) (k : ℕ) (B′ : Buffers) → length ns ≡ recordCount → getD ns 5 0 ≤ 1 → s ≡ S → SolveIs s levels tables B a B′ → k ≡ byteOf (answerOf a)
+  pub solved : (s : Sheet) (a : Answer) (k : ℕ) (B′ : Buffers) → length ns ≡ recordCount → lettersOk ns ≡ true → s ≡ S → SolveIs s levels tables B a B′ → k ≡ byteOf (answerOf a)
       → SolveNumbers ns levels tables B k B′
   solved s a k B′ h m p e q =
       with-record k B′ h
-      (subst (λ (b : Bool). End (cond b R 13) k B′) (sym (le-leb (getD ns 5 0) 1 m))
+      (subst (λ (b : Bool). End (cond b R 13) k B′) (sym m)
       (answerOf a, q, subst (λ (z : Sheet). SolveIs z levels tables B a B′) p e))
 
 -- ---- the picture

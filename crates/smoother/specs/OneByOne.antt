@@ -12,21 +12,22 @@ use Rattle.record.specs.Model.{givenOf}
 use Rattle.run.specs.Public.{forPush, forData, forBlend, forMove, forProject}
 use Rattle.serve.specs.Serve.{Served}
 use Rattle.serve.specs.Made.{Made, callsOf, bytesOf, lastRun, lastBuffers}
-use Rattle.smoother.specs.Numbers.{StartNumbers, PushNumbers, DataNumbers, BlendNumbers, MoveNumbers, ProjectNumbers}
+use Rattle.smoother.specs.Numbers.{lentFrom, StartNumbers, PushNumbers, DataNumbers, BlendNumbers, MoveNumbers, ProjectNumbers}
 
--- A call made from the record r and the buffers B, by its contract: its answer's number, the record and the buffers that it left. What it is not lent stays.
+-- A call made from the record r and the buffers B, by its contract: its answer's number, the record and the buffers that it left, both records in numbers.
+-- What it is not lent stays.
 pub data Makes (levels : List ℤ) (tables : List ℕ) (r : Run) (B : Buffers) : Call → ℕ → Run → Buffers → Type 0 where
   pushes : {c k : ℕ} {r′ : Run} {plane prior : List Float}
-      → PushNumbers r c (B .plane) (B .prior) k r′ plane prior → Makes levels tables r B (on push c) k r′ (forPush B plane prior)
+      → PushNumbers (lentFrom r) c (B .plane) (B .prior) k (lentFrom r′) plane prior → Makes levels tables r B (on push c) k r′ (forPush B plane prior)
   fits : {c k : ℕ} {r′ : Run} {gradient : List Float}
-      → DataNumbers r c levels tables (B .gradient) (B .saved) k r′ gradient → Makes levels tables r B (on fidelity c) k r′ (forData B gradient (B .saved))
+      → DataNumbers (lentFrom r) c levels tables (B .gradient) (B .saved) k (lentFrom r′) gradient → Makes levels tables r B (on fidelity c) k r′ (forData B gradient (B .saved))
   blends : {k : ℕ} {r′ : Run} {gradient across down : List Float}
-      → BlendNumbers r (B .plane) (B .gradient) (B .across) (B .down) k r′ gradient across down
+      → BlendNumbers (lentFrom r) (B .plane) (B .gradient) (B .across) (B .down) k (lentFrom r′) gradient across down
       → Makes levels tables r B blend k r′ (forBlend B (B .plane) gradient across down)
   moves : {c k : ℕ} {r′ : Run} {plane : List Float}
-      → MoveNumbers r c (B .plane) (B .gradient) k r′ plane → Makes levels tables r B (on move c) k r′ (forMove B plane (B .gradient))
+      → MoveNumbers (lentFrom r) c (B .plane) (B .gradient) k (lentFrom r′) plane → Makes levels tables r B (on move c) k r′ (forMove B plane (B .gradient))
   projects : {c k : ℕ} {r′ : Run} {plane across down saved : List Float}
-      → ProjectNumbers r c levels tables (B .plane) (B .across) (B .down) (B .saved) k r′ plane across down saved
+      → ProjectNumbers (lentFrom r) c levels tables (B .plane) (B .across) (B .down) (B .saved) k (lentFrom r′) plane across down saved
       → Makes levels tables r B (on project c) k r′ (forProject B plane across down saved)
 
 abbrev pub MakesAll : List ℤ → List ℕ → Run → Buffers → List Made → Type 0
@@ -36,6 +37,6 @@ MakesAll levels tables r B (m ∷ ms) = Makes levels tables r B (m .call) (m .nu
 -- "For every list of the calls push, data, blend, move and project from a fresh run": a start that answers 0, and calls after it, have demand 3.
 abbrev pub OneByOneServed : List ℤ → List ℕ → Type 0
 OneByOneServed levels tables =
-    (r : Run) (B : Buffers) (r₁ : Run) (B₁ : Buffers) → StartNumbers r levels tables B 0 r₁ B₁ → (ms : List Made) → MakesAll levels tables r₁ B₁ ms
+    (r : Run) (B : Buffers) (r₁ : Run) (B₁ : Buffers) → StartNumbers (lentFrom r) levels tables B 0 (lentFrom r₁) B₁ → (ms : List Made) → MakesAll levels tables r₁ B₁ ms
     → let G = givenOf r levels tables in
     Served G (callsOf ms) r (plainPlaces jobs G (callsOf ms) (noneYet G)) (bytesOf ms) (lastRun r₁ ms) (lastBuffers B₁ ms)

@@ -46,7 +46,7 @@ pub record Measures (o : Outcome Lengths) (n₀ n m₀ m l r : ℕ) : Type 0 whe
 
 -- A sheet's record as numbers: the header's fields in the order of the S line, 1 for joint mode and 0 for separate, weights as
 -- the bits of their f32; then own sides and factors of three channels, zeros where there is none;
--- then the settings by their meaning: the rounding, 0 for `t` and 1 for `n`.
+-- then the settings by their meaning: the rounding, 0 for `t` and 1 for `n`, and when the image is reordered, 0 for `m` and 1 for `o`.
 abbrev pub weightBits : Weight → ℕ
 weightBits w = toBits binary32 (valueOf w)
 
@@ -61,13 +61,13 @@ headerNumbers h =
     ∷ weightBits (h .data0) ∷ weightBits (h .data1) ∷ weightBits (h .data2)
     ∷ []
 
-abbrev pub roundingNumber : Choice → ℕ
-roundingNumber choice.Unsaid = 0
-roundingNumber choice.First = 0
-roundingNumber choice.Second = 1
+abbrev pub choiceNumber : Choice → ℕ
+choiceNumber choice.Unsaid = 0
+choiceNumber choice.First = 0
+choiceNumber choice.Second = 1
 
 abbrev pub settingNumbers : Settings → List ℕ
-settingNumbers x = roundingNumber (x .rounding) ∷ []
+settingNumbers x = choiceNumber (x .rounding) ∷ choiceNumber (x .start) ∷ []
 
 unfoldable pub numbersOf : Sheet → List ℕ
 numbersOf s =
@@ -75,7 +75,7 @@ numbersOf s =
 
 -- how many these are, of every sheet
 abbrev pub recordCount : ℕ
-recordCount = 28
+recordCount = 29
 
 -- "a lent buffer's length differs" (8), last: the record's numbers have a buffer too
 abbrev pub withRecord : ℕ → Outcome Contents → Outcome Contents

@@ -4,9 +4,9 @@ use mathlib.Core.Bool.{Bool}
 use mathlib.Core.List.{List, [], _∷_}
 use lib.Ieee.{Float}
 use lib.ListN.{length}
-use Rattle.record.specs.declared.Run.{Run}
 use Rattle.record.specs.declared.Channel.{Channel}
 use Rattle.record.specs.Model.{noChannel}
+use Rattle.smoother.specs.declared.LentRun.{LentRun}
 
 -- C's layout of these fields, one after the other: four bytes for a u32 or an f32, one for a bool, and the struct ends at a multiple of four
 abbrev pub structBytes : List ℕ → List Float → List Bool → ℕ
@@ -16,5 +16,5 @@ abbrev pub channelBytes : Channel → ℕ
 channelBytes x = structBytes (x .width ∷ x .height ∷ x .across ∷ x .down ∷ x .position ∷ []) (x .weight ∷ []) (x .mark ∷ [])
 
 -- the record's own fields, and three channels
-abbrev pub runBytes : Run → ℕ
-runBytes r = structBytes (r .w ∷ r .h ∷ r .n ∷ r .count ∷ []) (r .smoothing ∷ []) [] + 3 * channelBytes noChannel
+abbrev pub runBytes : LentRun → ℕ
+runBytes r = structBytes (r .w ∷ r .h ∷ r .n ∷ r .reorder ∷ r .count ∷ []) (r .smoothing ∷ []) [] + 3 * channelBytes noChannel

@@ -2,7 +2,7 @@
 -- answer as a number.
 use Prim.Native.Nat.{ℕ, zero, suc, _+_}
 use mathlib.Core.Path.{_≡_}
-use mathlib.Core.Bool.{cond}
+use mathlib.Core.Bool.{Bool, cond, _&&_}
 use mathlib.Core.List.{List}
 use lib.ListN.{length, getD}
 use lib.Dec.{eqb, leb}
@@ -27,7 +27,7 @@ use Rattle.picture.specs.Finish.{Verdict, done, refused, Finished, finishing}
 
 -- ---- the record
 
--- The sheet of a record's numbers, in the order of `numbersOf`: 1 is joint mode, a weight is its f32's bits, 1 is the rounding `n`.
+-- The sheet of a record's numbers, in the order of `numbersOf`: 1 is joint mode, a weight is its f32's bits, 1 is the rounding `n` and the start `o`.
 abbrev pub headerFrom : List ℕ → Header
 headerFrom ns =
     record {
@@ -57,7 +57,7 @@ abbrev pub choiceFrom : ℕ → Choice
 choiceFrom n = cond (eqb n 1) choice.Second choice.First
 
 abbrev pub settingsFrom : List ℕ → Settings
-settingsFrom ns = record { rounding = choiceFrom (getD ns 27 0); start = choice.Unsaid }
+settingsFrom ns = record { rounding = choiceFrom (getD ns 27 0); start = choiceFrom (getD ns 28 0) }
 
 unfoldable pub sheetOfNumbers : List ℕ → Sheet
 sheetOfNumbers ns =
@@ -65,10 +65,14 @@ sheetOfNumbers ns =
 
 -- ---- solve
 
--- "a lent buffer's length differs" (8), first: with fewer or more numbers there is no record; then 13 for a mode that is neither 0 nor 1, and then what `solve` refuses
+-- the mode's and line `A`'s letter are there: each number is 0 or 1
+abbrev pub lettersOk : List ℕ → Bool
+lettersOk ns = leb (getD ns 5 0) 1 && leb (getD ns 28 0) 1
+
+-- "a lent buffer's length differs" (8), first: with fewer or more numbers there is no record; then 13 for a mode or a letter of line `A` that is neither 0 nor 1, and then what `solve` refuses
 unfoldable pub numbersRefusal : List ℕ → List ℤ → List ℕ → List ℕ → ℕ
 numbersRefusal ns levels tables ls =
-    cond (eqb (length ns) recordCount) (cond (leb (getD ns 5 0) 1) (solveRefusal (sheetOfNumbers ns) levels tables ls) 13) 8
+    cond (eqb (length ns) recordCount) (cond (lettersOk ns) (solveRefusal (sheetOfNumbers ns) levels tables ls) 13) 8
 
 -- `SolveIs` of the record's sheet, by the answer's number
 abbrev pub SolveNumbers : List ℕ → List ℤ → List ℕ → Buffers → ℕ → Buffers → Type 0

@@ -9,7 +9,7 @@ use contents::Choice;
 use contents::Limits;
 use contents::Sheet;
 use contents::Weight;
-use record::Run;
+use record::Channel;
 use sheet::Answer;
 use sheet::Measured;
 ghost use mathlib.Core.Path.{_≡_};
@@ -17,15 +17,27 @@ ghost use mathlib.Core.Bool.{cond};
 ghost use lib.ListN.{length};
 ghost use Rattle.contents.specs.Sheets.{held};
 ghost use Rattle.sheet.specs.Calls.{measuring, reading};
-ghost use Rattle.smoother.specs.Sheets.{Measures, ReadsNumbers, numbersOf, recordCount, roundingNumber, weightBits, withRecord};
+ghost use Rattle.smoother.specs.Sheets.{Measures, ReadsNumbers, choiceNumber, numbersOf, recordCount, weightBits, withRecord};
 
 // How many numbers a sheet's record has.
-pub const NUMBERS: usize = 28;
+pub const NUMBERS: usize = 29;
+
+// The run's record as C has it: that of `record`, but for the letter of line A, which is a number here: 0 for m, 1 for o.
+#[repr(C)]
+pub struct LentRun {
+    pub w: u32,
+    pub h: u32,
+    pub n: u32,
+    pub smoothing: f32,
+    pub reorder: u32,
+    pub count: u32,
+    pub channels: [Channel; 3],
+}
 
 // A call's answer as a number, with the record as it is afterwards.
 pub struct Numbered {
     pub answer: u32,
-    pub run: Run,
+    pub run: LentRun,
 }
 
 // The lengths of the levels and tables buffers that a text needs, or its refusal with the line. A refusal leaves both lengths as they are.
@@ -74,9 +86,9 @@ fn mode_number(joint: bool) -> u32
     0
 }
 
-// 1 for the rounding n, 0 for t.
-fn rounding_number(c: Choice) -> u32
-    ensures { λ r. ⌜ r ≡ roundingNumber c ⌝ }
+// A setting's letter by its meaning: 1 for the second, 0 for the first and for no line.
+fn choice_number(c: Choice) -> u32
+    ensures { λ r. ⌜ r ≡ choiceNumber c ⌝ }
 {
     match c {
         Choice::Unsaid => 0,
@@ -101,6 +113,7 @@ pub fn numbers(s: Sheet) -> [u32; NUMBERS]
     let d2 = h.data2;
     let settings = s.settings;
     let rounding = settings.rounding;
+    let start = settings.start;
     [
         h.width,
         h.height,
@@ -129,7 +142,8 @@ pub fn numbers(s: Sheet) -> [u32; NUMBERS]
         c.height,
         c.across,
         c.down,
-        rounding_number(rounding),
+        choice_number(rounding),
+        choice_number(start),
     ]
 }
 

@@ -1,13 +1,15 @@
 // The public calls on a run as C functions. Each is lent the record, and answers a number: 0 for done, the table's number for a refusal, and 255
-// for done with the channel now marked blown.
+// for done with the channel now marked blown. A record whose letter's number is neither 0 nor 1 is 13, before anything else.
+use crate::LentRun;
 use crate::Numbered;
 use record::Answer;
 use record::Answered;
 use record::Run;
+use start::coef::Reorder;
 ghost use mathlib.Core.Path.{_≡_};
 ghost use Rattle.record.specs.Model.{answerOf};
 ghost use Rattle.serve.specs.Serve.{byteOf};
-ghost use Rattle.smoother.specs.Numbers.{inNumbers, StartNumbers, PushNumbers, DataNumbers, BlendNumbers, MoveNumbers, ProjectNumbers, ServeNumbers};
+ghost use Rattle.smoother.specs.Numbers.{reorderFrom, reorderNumber, runFrom, lentFrom, inNumbers, StartNumbers, PushNumbers, DataNumbers, BlendNumbers, MoveNumbers, ProjectNumbers, ServeNumbers};
 
 // An answer's number. Ruled out: 0 for a project that marks its channel; 255 for a refusal.
 pub fn number_of(a: Answer) -> u32
@@ -20,18 +22,73 @@ pub fn number_of(a: Answer) -> u32
     }
 }
 
-// A call's answer and record, the answer as its number.
+// The letter by its number: 1 is o.
+fn reorder_from(n: u32) -> Reorder
+    ensures { λ r. ⌜ r ≡ reorderFrom n ⌝ }
+{
+    if n == 1 {
+        return Reorder::Once;
+    }
+    Reorder::Each
+}
+
+fn reorder_number(x: Reorder) -> u32
+    ensures { λ r. ⌜ r ≡ reorderNumber x ⌝ }
+{
+    match x {
+        Reorder::Each => 0,
+        Reorder::Once => 1,
+    }
+}
+
+// The record that C's record says.
+fn run_from(x: LentRun) -> Run
+    ensures { λ r. ⌜ r ≡ runFrom x ⌝ }
+{
+    let reorder = reorder_from(x.reorder);
+    let channels = x.channels;
+    Run {
+        w: x.w,
+        h: x.h,
+        n: x.n,
+        smoothing: x.smoothing,
+        reorder,
+        count: x.count,
+        channels,
+    }
+}
+
+// And back.
+fn lent_from(r: Run) -> LentRun
+    ensures { λ x. ⌜ x ≡ lentFrom r ⌝ }
+{
+    let letter = r.reorder;
+    let reorder = reorder_number(letter);
+    let channels = r.channels;
+    LentRun {
+        w: r.w,
+        h: r.h,
+        n: r.n,
+        smoothing: r.smoothing,
+        reorder,
+        count: r.count,
+        channels,
+    }
+}
+
+// A call's answer and record, both in numbers.
 fn in_numbers(p: Answered) -> Numbered
     ensures { λ r. ⌜ r ≡ inNumbers p ⌝ }
 {
     let a = p.answer;
     let k = number_of(a);
     let r = p.run;
-    Numbered { answer: k, run: r }
+    let run = lent_from(r);
+    Numbered { answer: k, run }
 }
 
 pub fn start_number(
-    run: Run,
+    run: LentRun,
     levels: &[i16],
     tables: &[u16],
     plane: &mut [f32],
@@ -46,8 +103,12 @@ pub fn start_number(
         (r .answer) (r .run)
         (record { plane = now (plane .exit); prior = now (prior .exit); gradient = now (gradient .exit); across = now (across .exit); down = now (down .exit); saved = now (saved .exit) }) ⌝ }
 {
+    if 1 < run.reorder {
+        return Numbered { answer: 13, run };
+    }
+    let r = run_from(run);
     let p = run::values::start_value(
-        run,
+        r,
         levels,
         tables,
         plane,
@@ -60,10 +121,10 @@ pub fn start_number(
     in_numbers(p)
 }
 
-// Start. Ruled out: a record at positions that are not 0, or marked, afterwards; a prior that is not the plane.
+// Start. Ruled out: a record at positions that are not 0, or marked, afterwards; a prior that is not the plane; the start of m for a letter's number 2 (13).
 #[no_mangle]
 pub extern "C" fn smoother_start(
-    run: &mut Run,
+    run: &mut LentRun,
     levels: &[i16],
     tables: &[u16],
     plane: &mut [f32],
@@ -93,16 +154,25 @@ pub extern "C" fn smoother_start(
     p.answer
 }
 
-pub fn push_number(run: Run, c: u32, plane: &mut [f32], prior: &mut [f32]) -> Numbered
+pub fn push_number(run: LentRun, c: u32, plane: &mut [f32], prior: &mut [f32]) -> Numbered
     ensures { λ r. ⌜ PushNumbers run c (now (plane .entry)) (now (prior .entry)) (r .answer) (r .run) (now (plane .exit)) (now (prior .exit)) ⌝ }
 {
-    let p = run::values::push_value(run, c, plane, prior);
+    if 1 < run.reorder {
+        return Numbered { answer: 13, run };
+    }
+    let r = run_from(run);
+    let p = run::values::push_value(r, c, plane, prior);
     in_numbers(p)
 }
 
 // Push. Ruled out: the record's position counted up where the answer is a refusal; the plane of another channel written.
 #[no_mangle]
-pub extern "C" fn smoother_push(run: &mut Run, c: u32, plane: &mut [f32], prior: &mut [f32]) -> u32
+pub extern "C" fn smoother_push(
+    run: &mut LentRun,
+    c: u32,
+    plane: &mut [f32],
+    prior: &mut [f32],
+) -> u32
     ensures { λ r. ⌜ PushNumbers (now (run .entry)) c (now (plane .entry)) (now (prior .entry)) r (now (run .exit)) (now (plane .exit)) (now (prior .exit)) ⌝ }
 {
     let p = push_number(*run, c, plane, prior);
@@ -111,7 +181,7 @@ pub extern "C" fn smoother_push(run: &mut Run, c: u32, plane: &mut [f32], prior:
 }
 
 pub fn data_number(
-    run: Run,
+    run: LentRun,
     c: u32,
     levels: &[i16],
     tables: &[u16],
@@ -120,14 +190,18 @@ pub fn data_number(
 ) -> Numbered
     ensures { λ r. ⌜ DataNumbers run c (now (levels .entry)) (now (tables .entry)) (now (gradient .entry)) (now (saved .entry)) (r .answer) (r .run) (now (gradient .exit)) ⌝ }
 {
-    let p = run::values::data_value(run, c, levels, tables, gradient, saved);
+    if 1 < run.reorder {
+        return Numbered { answer: 13, run };
+    }
+    let r = run_from(run);
+    let p = run::values::data_value(r, c, levels, tables, gradient, saved);
     in_numbers(p)
 }
 
 // Data. Ruled out: 9 where the level of another channel is beyond its range (5); a gradient added to what stood there.
 #[no_mangle]
 pub extern "C" fn smoother_data(
-    run: &mut Run,
+    run: &mut LentRun,
     c: u32,
     levels: &[i16],
     tables: &[u16],
@@ -142,7 +216,7 @@ pub extern "C" fn smoother_data(
 }
 
 pub fn blend_number(
-    run: Run,
+    run: LentRun,
     plane: &[f32],
     gradient: &mut [f32],
     across: &mut [f32],
@@ -151,14 +225,18 @@ pub fn blend_number(
     ensures { λ r. ⌜ BlendNumbers run (now (plane .entry)) (now (gradient .entry)) (now (across .entry)) (now (down .entry))
         (r .answer) (r .run) (now (gradient .exit)) (now (across .exit)) (now (down .exit)) ⌝ }
 {
-    let p = run::values::blend_value(run, plane, gradient, across, down);
+    if 1 < run.reorder {
+        return Numbered { answer: 13, run };
+    }
+    let r = run_from(run);
+    let p = run::values::blend_value(r, plane, gradient, across, down);
     in_numbers(p)
 }
 
 // Blend. Ruled out: done where a channel's data is still to come; the position of the first channel alone counted up.
 #[no_mangle]
 pub extern "C" fn smoother_blend(
-    run: &mut Run,
+    run: &mut LentRun,
     plane: &[f32],
     gradient: &mut [f32],
     across: &mut [f32],
@@ -172,16 +250,25 @@ pub extern "C" fn smoother_blend(
     p.answer
 }
 
-pub fn move_number(run: Run, c: u32, plane: &mut [f32], gradient: &[f32]) -> Numbered
+pub fn move_number(run: LentRun, c: u32, plane: &mut [f32], gradient: &[f32]) -> Numbered
     ensures { λ r. ⌜ MoveNumbers run c (now (plane .entry)) (now (gradient .entry)) (r .answer) (r .run) (now (plane .exit)) ⌝ }
 {
-    let p = run::values::move_value(run, c, plane, gradient);
+    if 1 < run.reorder {
+        return Numbered { answer: 13, run };
+    }
+    let r = run_from(run);
+    let p = run::values::move_value(r, c, plane, gradient);
     in_numbers(p)
 }
 
 // Move. Ruled out: a plane moved twice by two calls in a row; 11 given before the last step's project.
 #[no_mangle]
-pub extern "C" fn smoother_move(run: &mut Run, c: u32, plane: &mut [f32], gradient: &[f32]) -> u32
+pub extern "C" fn smoother_move(
+    run: &mut LentRun,
+    c: u32,
+    plane: &mut [f32],
+    gradient: &[f32],
+) -> u32
     ensures { λ r. ⌜ MoveNumbers (now (run .entry)) c (now (plane .entry)) (now (gradient .entry)) r (now (run .exit)) (now (plane .exit)) ⌝ }
 {
     let p = move_number(*run, c, plane, gradient);
@@ -190,7 +277,7 @@ pub extern "C" fn smoother_move(run: &mut Run, c: u32, plane: &mut [f32], gradie
 }
 
 pub fn project_number(
-    run: Run,
+    run: LentRun,
     c: u32,
     levels: &[i16],
     tables: &[u16],
@@ -202,14 +289,18 @@ pub fn project_number(
     ensures { λ r. ⌜ ProjectNumbers run c (now (levels .entry)) (now (tables .entry)) (now (plane .entry)) (now (across .entry)) (now (down .entry)) (now (saved .entry))
         (r .answer) (r .run) (now (plane .exit)) (now (across .exit)) (now (down .exit)) (now (saved .exit)) ⌝ }
 {
-    let p = run::values::project_value(run, c, levels, tables, plane, across, down, saved);
+    if 1 < run.reorder {
+        return Numbered { answer: 13, run };
+    }
+    let r = run_from(run);
+    let p = run::values::project_value(r, c, levels, tables, plane, across, down, saved);
     in_numbers(p)
 }
 
 // Project. Ruled out: 255 for a plane that was blown before, in a step of another channel; a mark with the answer 0.
 #[no_mangle]
 pub extern "C" fn smoother_project(
-    run: &mut Run,
+    run: &mut LentRun,
     c: u32,
     levels: &[i16],
     tables: &[u16],
@@ -227,7 +318,7 @@ pub extern "C" fn smoother_project(
 }
 
 pub fn serve_number(
-    run: Run,
+    run: LentRun,
     jobs: &[u8],
     channels: &[u32],
     answers: &mut [u8],
@@ -245,8 +336,12 @@ pub fn serve_number(
         (r .answer) (r .run) (now (answers .exit))
         (record { plane = now (plane .exit); prior = now (prior .exit); gradient = now (gradient .exit); across = now (across .exit); down = now (down .exit); saved = now (saved .exit) }) ⌝ }
 {
+    if 1 < run.reorder {
+        return Numbered { answer: 13, run };
+    }
+    let r = run_from(run);
     let p = serve::serve_value(
-        run,
+        r,
         jobs,
         channels,
         answers,
@@ -266,7 +361,7 @@ pub fn serve_number(
 // the answer of a call given for the one before.
 #[no_mangle]
 pub extern "C" fn smoother_serve(
-    run: &mut Run,
+    run: &mut LentRun,
     jobs: &[u8],
     channels: &[u32],
     answers: &mut [u8],

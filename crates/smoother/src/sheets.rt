@@ -7,6 +7,7 @@ use contents::Header;
 use contents::Settings;
 use contents::Sheet;
 use contents::Weight;
+use fold::flags::both;
 use picture::Rounding;
 ghost use mathlib.Core.Path.{_≡_};
 ghost use Prim.Native.Nat.{_+_, _<_};
@@ -64,10 +65,8 @@ fn settings_from(numbers: &[u32]) -> Settings
     ensures { λ r. ⌜ r ≡ settingsFrom (now (numbers .entry)) ⌝ }
 {
     let rounding = choice_from(numbers[27]);
-    Settings {
-        rounding,
-        start: Choice::Unsaid,
-    }
+    let start = choice_from(numbers[28]);
+    Settings { rounding, start }
 }
 
 // The sheet that a record's numbers say.
@@ -85,7 +84,7 @@ fn sheet_of(numbers: &[u32]) -> Sheet
     }
 }
 
-// The whole run of a sheet, by the numbers that `smoother_read` lends out. 8 for another count of them, 13 for a mode that is neither 0 nor 1, and
+// The whole run of a sheet, by the numbers that `smoother_read` lends out. 8 for another count of them, 13 for a mode or a letter of line A that is neither 0 nor 1, and
 // else what `solve` answers. Ruled out: the planes of separate mode for a record whose mode is 1; 8 for six good buffers where a weight is infinite (13).
 #[no_mangle]
 pub extern "C" fn smoother_solve(
@@ -106,7 +105,9 @@ pub extern "C" fn smoother_solve(
     if numbers.len() != NUMBERS {
         return 8;
     }
-    if 1 < numbers[5] {
+    let mode = numbers[5] <= 1;
+    let letter = numbers[28] <= 1;
+    if !both(mode, letter) {
         return 13;
     }
     let s = sheet_of(numbers);

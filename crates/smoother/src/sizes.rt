@@ -2,17 +2,17 @@
 use crate::NUMBERS;
 ghost use mathlib.Core.Path.{_≡_};
 ghost use lib.ListN.{length};
-ghost use Rattle.record.specs.declared.Run.{Run};
 ghost use Rattle.contents.specs.declared.Sheet.{Sheet};
+ghost use Rattle.smoother.specs.declared.LentRun.{LentRun};
 ghost use Rattle.smoother.specs.Sheets.{numbersOf};
 ghost use Rattle.smoother.specs.Sizes.{runBytes};
 
-// The bytes of the run's record, which each call on a run is lent. Ruled out: 95, of channels that end with their mark's byte; 48, of one channel for three.
+// The bytes of the run's record, which each call on a run is lent. Ruled out: 99, of channels that end with their mark's byte; 52, of one channel for three.
 #[no_mangle]
 pub extern "C" fn smoother_run_bytes() -> u32
-    ensures { λ r. ⌜ ((x : Run) → r ≡ runBytes x) ⌝ }
+    ensures { λ r. ⌜ ((x : LentRun) → r ≡ runBytes x) ⌝ }
 {
-    104
+    108
 }
 
 // The count of the sheet's numbers, which `smoother_read` lends out and `smoother_solve` takes. Ruled out: 15, the header's alone; 19, with one channel's.

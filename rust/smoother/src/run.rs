@@ -21,6 +21,17 @@ pub struct Channel {
     pub mark: bool,
 }
 
+/// When start reorders a channel's image.
+#[derive(Clone, Copy, Debug, Default, PartialEq, Eq)]
+#[repr(u32)]
+pub enum Reorder {
+    /// After each block, as in the published Rust: `m`.
+    #[default]
+    Each,
+    /// Once, after the last block, as T.81 places blocks: `o`.
+    Once,
+}
+
 /// The run's record; the layout is the library's. `Sheet::joint_run` and `Sheet::separate_run` make one.
 #[repr(C)]
 #[derive(Clone, Copy, Debug, Default, PartialEq)]
@@ -31,6 +42,8 @@ pub struct Run {
     pub n: u32,
     /// Smoothing weight.
     pub smoothing: f32,
+    /// Line `A`: only `start` looks at it.
+    pub reorder: Reorder,
     /// Channels, 1 or 3: the first of `channels`.
     pub count: u32,
     pub channels: [Channel; 3],

@@ -1,6 +1,6 @@
 //! Sheet texts: measured, and read into a sheet.
 use crate::{
-    Buffers, Channel, Error, Fault, Outcome, Run,
+    Buffers, Channel, Error, Fault, Outcome, Reorder, Run,
     ffi::{lend, *},
     refusal::done,
     run::told,
@@ -37,6 +37,8 @@ pub struct Sheet {
     pub data: [f32; 3],
     /// Line `F`: truncated where there is none.
     pub rounding: Rounding,
+    /// Line `A`: after each block where there is none.
+    pub reorder: Reorder,
     /// Zeros past `count`.
     pub own: [Own; 3],
     pub levels: Vec<i16>,
@@ -54,7 +56,7 @@ pub enum Rounding {
 }
 
 /// Numbers of a sheet's record.
-pub const NUMBERS: usize = 28;
+pub const NUMBERS: usize = 29;
 
 fn at(line: usize) -> impl FnOnce(Error) -> Fault {
     move |error| Fault { error, line }
@@ -69,7 +71,7 @@ pub fn measure(text: &[u8], limit: u32) -> Result<Lengths, Fault> {
 }
 
 /// Reads a text into lent buffers: `levels` and `tables` of the measured lengths, and `header` of `NUMBERS` places, for the fields of line `S` (mode 1
-/// joint, 0 separate; weights as f32 bits), own sides and factors of three channels, then the rounding (0 truncated, 1 nearest).
+/// joint, 0 separate; weights as f32 bits), own sides and factors of three channels, then the rounding (0 truncated, 1 nearest) and the reordering (0 after each block, 1 once).
 pub fn read_into(
     text: &[u8],
     limit: u32,
@@ -101,6 +103,7 @@ pub fn read(text: &[u8], limit: u32) -> Result<Sheet, Fault> {
         smoothing: three(9).map(f32::from_bits),
         data: three(12).map(f32::from_bits),
         rounding: if n[27] == 1 { Rounding::Nearest } else { Rounding::Truncate },
+        reorder: if n[28] == 1 { Reorder::Once } else { Reorder::Each },
         own: [own(15), own(19), own(23)],
         levels,
         tables,
@@ -135,7 +138,15 @@ impl Sheet {
     }
 
     fn run(&self, c: usize, channels: [Channel; 3]) -> Run {
-        Run { w: self.width, h: self.height, n: self.iterations[c], smoothing: self.smoothing[c], count: 1, channels }
+        Run {
+            w: self.width,
+            h: self.height,
+            n: self.iterations[c],
+            smoothing: self.smoothing[c],
+            reorder: self.reorder,
+            count: 1,
+            channels,
+        }
     }
 
     /// Levels of channel `c`.
@@ -173,6 +184,7 @@ impl Sheet {
             n[at..at + 4].copy_from_slice(&[own.width, own.height, own.across, own.down]);
         }
         n[27] = self.rounding as u32;
+        n[28] = self.reorder as u32;
         n
     }
 

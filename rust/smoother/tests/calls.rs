@@ -90,6 +90,7 @@ fn whole_example_read_and_started() {
         smoothing: [0.0; 3],
         data: [0.0; 3],
         rounding: Rounding::Truncate,
+        reorder: Reorder::Each,
         own: [own, Own::default(), Own::default()],
         levels,
         tables: vec![8; 64],
@@ -107,13 +108,19 @@ fn whole_example_read_and_started() {
 }
 
 #[test]
-fn start_is_reordered_repeatedly() {
+fn start_reordered_repeatedly_and_once() {
+    // line A, in both modes: v in the left half of even rows, or of all rows
     let level = |k, i| i32::from(k == 0 && i == 0);
-    let text = tabs("S 16 8 16 8 1 j 0 0 0 w0 w0 w0 w0 w0 w0") + &channel_lines(16, 8, 1, 1, |_| 8, level) + "E\n";
-    let (_, b) = started(&sheet_of(&text));
-    for (i, x) in b.plane.iter().enumerate() {
-        let (row, column) = (i / 16, i % 16);
-        assert_eq!(*x, if row % 2 == 0 && column < 8 { 1.0 - 2.0_f32.powi(-24) } else { 0.0 });
+    for (line, reorder, step) in [("", Reorder::Each, 2), ("A\tm\n", Reorder::Each, 2), ("A\to\n", Reorder::Once, 1)] {
+        for mode in ["j", "s"] {
+            let header = tabs(&format!("S 16 8 16 8 1 {mode} 0 0 0 w0 w0 w0 w0 w0 w0"));
+            let sheet = sheet_of(&(header + line + &channel_lines(16, 8, 1, 1, |_| 8, level) + "E\n"));
+            assert_eq!((sheet.reorder, sheet.numbers()[28]), (reorder, reorder as u32));
+            let due = |i: usize| if i / 16 % step == 0 && i % 16 < 8 { 1.0 - 2.0_f32.powi(-24) } else { 0.0 };
+            let due: Vec<f32> = (0..128).map(due).collect();
+            assert_eq!(started(&sheet).1.plane, due);
+            assert_eq!(sheet.solve().expect("legal"), Some(due));
+        }
     }
 }
 
@@ -144,7 +151,7 @@ fn texts_refused() {
 
 #[test]
 fn reading_into_wrong_lengths() {
-    for (n, m, k) in [(63, 64, 28), (64, 65, 28), (64, 64, 27), (0, 0, 0)] {
+    for (n, m, k) in [(63, 64, 29), (64, 65, 29), (64, 64, 28), (0, 0, 0)] {
         let (mut levels, mut tables, mut header) = (vec![7; n], vec![7; m], vec![7; k]);
         let due = Err(Fault { error: Refusal::Length.into(), line: 0 });
         assert_eq!(read_into(whole().as_bytes(), 512, &mut levels, &mut tables, &mut header), due);
@@ -375,10 +382,13 @@ fn solve_refuses() {
     let before = bits(&b);
     let mut numbers = sheet.numbers();
     numbers[6] = 1001;
+    let mut no_letter = sheet.numbers();
+    no_letter[28] = 2;
     for (numbers, levels, why) in [
         (&sheet.numbers()[1..], &sheet.levels[..], Refusal::Length),
         (&sheet.numbers(), &sheet.levels[1..], Refusal::Length),
         (&numbers, &sheet.levels, Refusal::Record),
+        (&no_letter, &sheet.levels, Refusal::Record),
     ] {
         assert_eq!(solve_into(numbers, levels, &sheet.tables, &mut b), Err(why.into()));
     }

@@ -6,7 +6,7 @@ use Rattle.smoother.proofs.numbers.Reads as reads
 use Rattle.smoother.proofs.numbers.Lts as lts
 use Rattle.smoother.proofs.mode_number.Reads as mode-number-reads
 use Rattle.smoother.proofs.weight_bits.Reads as weight-bits-reads
-use Rattle.smoother.proofs.rounding_number.Reads as rounding-number-reads
+use Rattle.smoother.proofs.choice_number.Reads as choice-number-reads
 
 mode-number-requires : tie.Need-mode-number-requires
 mode-number-requires c κs = search needs
@@ -29,13 +29,16 @@ weight-bits-requires-5 c κs = search needs
 weight-bits-requires-6 : tie.Need-weight-bits-requires-6
 weight-bits-requires-6 c κs = search needs
 
-rounding-number-requires : tie.Need-rounding-number-requires
-rounding-number-requires c κs = search needs
+choice-number-requires : tie.Need-choice-number-requires
+choice-number-requires c κs = search needs
+
+choice-number-requires-2 : tie.Need-choice-number-requires-2
+choice-number-requires-2 c κs = search needs
 
 returns : tie.Need-returns
 unfolding numbersOf
 returns c =
-    rw (c .before .before .before .before .before .before .before .mode-number .ensures, c .before .before .before .before .before .before .weight-bits .ensures, c .before .before .before .before .before .weight-bits2 .ensures, c .before .before .before .before .weight-bits3 .ensures, c .before .before .before .weight-bits4 .ensures, c .before .before .weight-bits5 .ensures, c .before .weight-bits6 .ensures, c .rounding-number .ensures)
+    rw (c .before .before .before .before .before .before .before .before .mode-number .ensures, c .before .before .before .before .before .before .before .weight-bits .ensures, c .before .before .before .before .before .before .weight-bits2 .ensures, c .before .before .before .before .before .weight-bits3 .ensures, c .before .before .before .before .weight-bits4 .ensures, c .before .before .before .weight-bits5 .ensures, c .before .before .weight-bits6 .ensures, c .before .choice-number .ensures, c .choice-number2 .ensures)
 
 pub numbers-spec : {M : Type 1} → statement M
 numbers-spec =
@@ -48,5 +51,6 @@ numbers-spec =
     weight-bits-requires-4
     weight-bits-requires-5
     weight-bits-requires-6
-    rounding-number-requires
+    choice-number-requires
+    choice-number-requires-2
     returns)

@@ -1,13 +1,17 @@
--- `serve_number`: what `serve_value` gives, its answer as a number.
+-- `serve_number`: 13 for no letter, or what `serve_value` gives of the record, in numbers.
 use borrow.Author.Needs.{needs}
-use Rattle.smoother.proofs.InNumbers.{serve-numbers}
+use Rattle.smoother.proofs.InNumbers.{no-letter-list, serve-numbers}
 use Rattle.smoother.proofs.runs.serve_number.Statement.{statement}
 use Rattle.smoother.proofs.runs.serve_number.Tie as tie
 
 returns : tie.Need-returns
-returns c =
+returns c = no-letter-list (c .before .before .before .before .before .before .before .before .before .before .before .before .args .run) _ _ _ _ _ _ (c .if1 .taken)
+
+returns-2 : tie.Need-returns-2
+returns-2 c =
+    let f = c .before .before .before .before .before .before .before .before .before .before .before .before .before .before .before .before .before .before .before .before .before .before .before .run-from in
     let p = c .before .before .before .before .before .before .before .before .before .before .before .before .before .before .before .serve-value in
-    serve-numbers (p .result) (c .in-numbers .ensures) _ _ _ _ _ _ _ (p .ensures)
+    serve-numbers (c .before .before .before .before .before .before .before .before .before .before .before .before .before .before .before .before .before .before .before .before .before .before .before .before .before .before .before .before .before .before .before .before .before .before .before .before .args .run) _ _ _ _ _ _ (c .before .before .before .before .before .before .before .before .before .before .before .before .before .before .before .before .before .before .before .before .before .before .before .before .if1 .left) (f .result) (f .ensures) (p .result) (c .in-numbers .result) (c .in-numbers .ensures) (p .ensures)
 
 pub serve-number-spec : {M : Type 1} → statement M
-serve-number-spec = tie.close (tie.spec (λ c κs. search needs) (λ c κs. search needs) (λ c. search needs) (λ c. search needs) (λ c. search needs) (λ c. search needs) (λ c. search needs) (λ c. search needs) (λ c. search needs) returns)
+serve-number-spec = tie.close (tie.spec returns (λ c κs. search needs) (λ c κs. search needs) (λ c κs. search needs) (λ c. search needs) (λ c. search needs) (λ c. search needs) (λ c. search needs) (λ c. search needs) (λ c. search needs) (λ c. search needs) returns-2)

@@ -4,10 +4,10 @@
 use Rattle.smoother.proofs.Walk.{ℕ, refl, List, [], _∷_, URA, fullShare, Val, vptr, SProp, ent, sep, via, GName, Lft, Share, fat, flft, fobs, fbor, Memory, Routine, Heap, Calls, Loops, WpFn, Tables, Atoms, Fun, Lfts, Shares, givenOf, tables, tablesOf, Given, ‵, raw, _⊛_, ⋆, _$_, _∵_, !, qed, by, move, keep, drop, use3, split, rewrite, fsplit, fsplit3, look, look-raw, init, forget, store-raw, stop, hop, fld, from, load, addr, of-opd, and-then, no-more, assigns, land, returns, enter, alloc1, alloc0, params1, pass1, pass0, free1, free0, agg, whole, sub, look-in, Body, FmC, fmOf, RattleType, Denots, Valss, owns, flat, mirs, Is, Ises, Are, Spells, valss, Tellss, Lawfuls, Typed, all-typed, shows, mem, RefT, ptr-vals, mut-tells, plain, typesAt, slice-vals, mut-slice-tells, mut-slice-lawful, shr-slice-tells, shr-slice-lawful, u8, u16, u32, i16, f32, peeks, named, Contract, Triple, calls-at, Lasts, lasts, atExit, lastsOf, alive, onEntry, Meets, tripleOf, entered, cited, Stays, stay-ref, walkOf, goes-ref, ends-at}
 use Rattle.smoother.proofs.Thin.{tail, gives, gives-fit, gives-go, opens-record, closes-record, passes-on, returned, hands-back, by-walk}
 use Rattle.smoother.proofs.Lent.{mach, answer, answer-is, run-is, result-told, run-typed, result-typed, answer-typed, answer-makes}
-use Rattle.record.specs.declared.Run.{Run}
+use Rattle.smoother.specs.declared.LentRun.{LentRun}
 use Rattle.smoother.specs.declared.Numbered.{Numbered}
-use Rattle.record.proofs.Run as T
-use Rattle.record.proofs.Run.Laws as T′
+use Rattle.smoother.proofs.LentRun as T
+use Rattle.smoother.proofs.LentRun.Laws as T′
 use Rattle.smoother.proofs.Numbered as P
 use Rattle.smoother.proofs.Numbered.Laws as P′
 use Rattle.smoother.proofs.runs.serve_number as g
@@ -46,11 +46,11 @@ module _ {M : Type 1} (𝓤 : URA M) (H : Heap 𝓤) (A : Atoms 𝓤) (W : Given
   abbrev tokens : SProp 𝓤
   tokens = alive 𝓤 H A g.signature κs′ qs′
 
-  module _ (b o : ℕ) (γ : GName) (h : Run) (a′ : Denots Os) where
+  module _ (b o : ℕ) (γ : GName) (h : LentRun) (a′ : Denots Os) where
     abbrev vals′ : Valss Os
     vals′ = valss Os (spells κ κs′) a′
 
-    abbrev x : RefT Run × Denots Os
+    abbrev x : RefT LentRun × Denots Os
     x = (record { ptr = (b, o); name = γ; now = h }, a′)
 
     abbrev at : List Val × Valss Os

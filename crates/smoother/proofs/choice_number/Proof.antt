@@ -1,7 +1,7 @@
--- `rounding_number` meets its contract, letter by letter.
+-- `choice_number` meets its contract, letter by letter.
 use borrow.Author.Needs.{needs}
-use Rattle.smoother.proofs.rounding_number.Statement.{statement}
-use Rattle.smoother.proofs.rounding_number.Tie as tie
+use Rattle.smoother.proofs.choice_number.Statement.{statement}
+use Rattle.smoother.proofs.choice_number.Tie as tie
 
 enum-told : tie.Need-enum-told
 enum-told c = search needs
@@ -21,6 +21,6 @@ returns-2 c = search needs
 returns-3 : tie.Need-returns-3
 returns-3 c = search needs
 
-pub rounding-number-spec : {M : Type 1} → statement M
-rounding-number-spec =
+pub choice-number-spec : {M : Type 1} → statement M
+choice-number-spec =
     tie.close (tie.spec enum-told enum-told-2 enum-told-3 returns returns-2 returns-3)
