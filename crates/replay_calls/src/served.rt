@@ -78,7 +78,8 @@ fn with_run(digest: u64, run: Run) -> u64
     let e = with(d, run.h);
     let f = with(e, run.n);
     let g = with(f, to_bits(run.smoothing));
-    let h = with(g, reorder_number(run.reorder));
+    let letter = run.reorder;
+    let h = with(g, reorder_number(letter));
     let i = with(h, run.count);
     let cs = run.channels;
     let j = with_channel(i, cs[0]);
