@@ -2,6 +2,7 @@
 use Rattle.float.proofs.Examples as float
 use Rattle.interval.proofs.Examples as interval
 use Rattle.utils.proofs.Examples as utils
+use Rattle.start.proofs.Examples as start
 use Rattle.steps.proofs.Examples as steps
 use Rattle.gradients.proofs.Examples as gradients
 use Rattle.picture.proofs.Examples as picture
@@ -33,6 +34,8 @@ table = record {
   midpoint-tie = float.midpoint-tie;
   midpoint-largest = float.midpoint-largest;
   flat-block = utils.flat;
+  start-after-each = start.striped;
+  start-once = start.placed;
   push-gives = steps.push-example;
   first-order = gradients.first-example;
   second-order = gradients.second-example;

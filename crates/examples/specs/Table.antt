@@ -10,6 +10,9 @@ use Rattle.float.specs.Ops.{mulAdd, fused, midpoint, root, clamp}
 use Rattle.float.specs.Names.{f0, f1, float}
 use Rattle.interval.specs.Interval.{InInterval, lowEnd, highEnd, lowest, highest}
 use Rattle.utils.specs.Dct.{idct8x8}
+use Rattle.start.specs.declared.coef.Reorder.the-variants.{Each, Once}
+use Rattle.start.specs.Coef.{Coef, coef}
+use Rattle.start.specs.Auxiliary.{auxInit}
 use Rattle.steps.specs.Solve.{pushed}
 use Rattle.gradients.specs.Tv.{Terms, tvGradient}
 use Rattle.gradients.specs.Tgv.{tgvGradient}
@@ -35,6 +38,16 @@ rows f =
 -- the first-order term of the plane whose values are 2 × row, one channel, onto zeros
 abbrev pub slope : Terms
 slope = tvGradient 8 8 1 (rows (λ y. float (y * 2))) (record { gradient = replicate 64 f0; across = replicate 64 f0; down = replicate 64 f0 })
+
+-- 16 by 8, level 1 and quantiser 8 at the first place of block 0, block 1 zero; a row of the plane with v = 1 − 2⁻²⁴ in its left half, and a row of zeros
+abbrev pub wide : Coef
+wide = coef (record { width = 16; height = 8; horizontal = 1; vertical = 1 }) (pos 1 ∷ replicate 127 (pos 0)) (replicate 64 8)
+
+abbrev pub lit : List Float
+lit = replicate 8 (fin false 16777215 (negsuc 23)) ++ replicate 8 f0
+
+abbrev pub dark : List Float
+dark = replicate 16 f0
 
 -- The rows on intervals speak of the exact interval, whose ends are taken twice, and of the f32 ends, which the clamp uses.
 pub record Table : Type 0 where
@@ -69,6 +82,10 @@ pub record Table : Type 0 where
   pub midpoint-largest : midpoint largest largest ≡ largest
   -- "`idct8x8` of first value 8, rest 0: all 64 are v = 1 − 2⁻²⁴, not 1"
   pub flat-block : idct8x8 (fin false 1 (pos 3) ∷ replicate 63 (fin false 0 (pos 0))) ≡ replicate 64 (fin false 16777215 (negsuc 23))
+  -- "Width 16, height 8, block 0 first level 1, q 8, block 1 zero: the start has v in the left half of even rows, else 0": with `m`
+  pub start-after-each : auxInit Each wide 16 8 .plane ≡ lit ++ (dark ++ (lit ++ (dark ++ (lit ++ (dark ++ (lit ++ dark))))))
+  -- document 02, M-102, "reorders once as T.81 places blocks": with `o` v in all rows of the left half
+  pub start-once : auxInit Once wide 16 8 .plane ≡ lit ++ (lit ++ (lit ++ (lit ++ (lit ++ (lit ++ (lit ++ lit))))))
   -- "factor 0.5, plane 3, prior 1: push gives 4 and 3"
   pub push-gives : pushed (fin false 1 (negsuc 0)) (record { plane = float 3 ∷ []; prior = f1 ∷ [] }) ≡ record { plane = float 4 ∷ []; prior = float 3 ∷ [] }
   -- "8 by 8 plane, each value 2 × row, one channel: first-order gradient −1 in row 0, 1 in row 7, else 0. Second order with second-order

@@ -1,6 +1,7 @@
 // The solver's jobs on lent slices. A channel's own sides and factors are four numbers here.
 use gradients::grid::Grid;
 use start::coef::Own;
+use start::coef::Reorder;
 use steps::solve::step_constants;
 ghost use mathlib.Core.Path.{_≡_};
 ghost use mathlib.Core.Bool.{cond};
@@ -14,9 +15,18 @@ ghost use Rattle.projection.specs.Blown.{isBlown};
 ghost use Rattle.start.specs.Coef.{Covers, Lent, coef};
 ghost use Rattle.fidelity.specs.DctGradient.{dataGradient};
 ghost use Rattle.projection.specs.Projection.{projectOntoBox};
-ghost use Rattle.probe.specs.Jobs.{own};
+ghost use Rattle.probe.specs.Jobs.{own, reorderFrom};
 
-// Start of one channel: own sides `width` and `height`, factors fx across and fy down, full sides w and h.
+fn reorder_from(n: u32) -> Reorder
+    ensures { λ r. ⌜ r ≡ reorderFrom n ⌝ }
+{
+    if n == 1 {
+        return Reorder::Once;
+    }
+    Reorder::Each
+}
+
+// Start of one channel: own sides `width` and `height`, factors fx across and fy down, full sides w and h, and reordered once where `reorder` is 1.
 #[no_mangle]
 pub extern "C" fn probe_start(
     plane: &mut [f32],
@@ -31,6 +41,7 @@ pub extern "C" fn probe_start(
     fy: usize,
     w: usize,
     h: usize,
+    reorder: u32,
     levels: &[i16],
     table: &[u16],
 )
@@ -46,7 +57,7 @@ pub extern "C" fn probe_start(
       down = now (down .exit);
       saved = now (saved .exit);
     }
-        ≡ auxInit (coef (own width height fx fy) (now (levels .entry)) (now (table .entry))) w h ⌝ }
+        ≡ auxInit (reorderFrom reorder) (coef (own width height fx fy) (now (levels .entry)) (now (table .entry))) w h ⌝ }
 {
     let o = Own {
         width: width,
@@ -54,6 +65,7 @@ pub extern "C" fn probe_start(
         horizontal: fx,
         vertical: fy,
     };
+    let r = reorder_from(reorder);
     start::auxiliary::start(
         plane,
         prior,
@@ -64,6 +76,7 @@ pub extern "C" fn probe_start(
         o,
         w,
         h,
+        r,
         levels,
         table,
     );

@@ -1,0 +1,13 @@
+-- `reorder_from` meets its contract.
+use borrow.Author.Tests.{eq-eqb, ne-eqb}
+use Rattle.probe.proofs.jobs.reorder_from.Statement.{statement}
+use Rattle.probe.proofs.jobs.reorder_from.Tie as tie
+
+returns : tie.Need-returns
+returns c = rw (eq-eqb _ _ (c .if1 .taken))
+
+returns-2 : tie.Need-returns-2
+returns-2 c = rw (ne-eqb _ _ (c .if1 .left))
+
+pub reorder-from-spec : {M : Type 1} → statement M
+reorder-from-spec = tie.close (tie.spec returns returns-2)
