@@ -36,6 +36,7 @@ LegalLevel (negsuc n) = n ≤ 2046
 -- What a caller may allow
 pub record LegalLimits (limits : Limits) : Type 0 where
   pub side : LegalSide 512 (limits .side)
+  pub iterations : limits .iterations ≤ 1000
 
 pub record LegalHeader (limits : Limits) (h : Header) : Type 0 where
   pub width : LegalSide (limits .side) (h .width)
@@ -43,9 +44,9 @@ pub record LegalHeader (limits : Limits) (h : Header) : Type 0 where
   pub shown-width : Between 1 (h .width) (h .«picture_width»)
   pub shown-height : Between 1 (h .height) (h .«picture_height»)
   pub channels : (h .channels ≡ 1) ⊎ (h .channels ≡ 3)
-  pub iterations0 : h .iterations0 ≤ 1000
-  pub iterations1 : h .iterations1 ≤ 1000
-  pub iterations2 : h .iterations2 ≤ 1000
+  pub iterations0 : h .iterations0 ≤ limits .iterations
+  pub iterations1 : h .iterations1 ≤ limits .iterations
+  pub iterations2 : h .iterations2 ≤ limits .iterations
   pub smoothing0 : LegalWeight (h .smoothing0)
   pub smoothing1 : LegalWeight (h .smoothing1)
   pub smoothing2 : LegalWeight (h .smoothing2)

@@ -8,9 +8,10 @@ pub enum Weight {
     Whole(u8),
 }
 
-// What a caller allows: the largest full side.
+// What a caller allows: the largest full side and the most iterations.
 pub struct Limits {
     pub side: u32,
+    pub iterations: u32,
 }
 
 // A header line: full sides, picture sides, channels, mode, and three each of iterations, smoothing and data weights.

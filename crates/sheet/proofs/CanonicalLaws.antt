@@ -20,7 +20,7 @@ use Rattle.digits.specs.Written.{decimal, joined}
 use Rattle.text.proofs.GoodLaws.{quantiser-good, level-good}
 use Rattle.text.proofs.JoinLaws.{ended-split}
 use Rattle.digits.proofs.Both.{both-left, both-right}
-use Rattle.text.proofs.SizeLaws.{tag-as, range-as, side-as, channels-as, letters-as, weight-as, quantiser-as, level-as}
+use Rattle.text.proofs.SizeLaws.{tag-as, range-as, count-as, side-as, channels-as, letters-as, weight-as, quantiser-as, level-as}
 use Rattle.contents.specs.declared.Limits.{Limits}
 use Rattle.contents.specs.declared.Header.{Header}
 use Rattle.contents.specs.declared.Channel.{Channel}
@@ -54,9 +54,9 @@ header-as limits fs n e =
     (field-at fs 4 _ _ (omega arith) (range-as (getD fs 4 []) 2 1 (numberAt fs 2) (at 4 (omega arith)))
     (field-at fs 5 _ _ (omega arith) (channels-as (getD fs 5 []) (at 5 (omega arith)))
     (field-at fs 6 _ _ (omega arith) (letters-as (getD fs 6 []) 106 115 (at 6 (omega arith)))
-    (field-at fs 7 _ _ (omega arith) (range-as (getD fs 7 []) 2 0 1000 (at 7 (omega arith)))
-    (field-at fs 8 _ _ (omega arith) (range-as (getD fs 8 []) 2 0 1000 (at 8 (omega arith)))
-    (field-at fs 9 _ _ (omega arith) (range-as (getD fs 9 []) 2 0 1000 (at 9 (omega arith)))
+    (field-at fs 7 _ _ (omega arith) (count-as (getD fs 7 []) (limits .iterations) (at 7 (omega arith)))
+    (field-at fs 8 _ _ (omega arith) (count-as (getD fs 8 []) (limits .iterations) (at 8 (omega arith)))
+    (field-at fs 9 _ _ (omega arith) (count-as (getD fs 9 []) (limits .iterations) (at 9 (omega arith)))
     (field-at fs 10 _ _ (omega arith) (weight-as (getD fs 10 []) (at 10 (omega arith)))
     (field-at fs 11 _ _ (omega arith) (weight-as (getD fs 11 []) (at 11 (omega arith)))
     (field-at fs 12 _ _ (omega arith) (weight-as (getD fs 12 []) (at 12 (omega arith)))

@@ -66,9 +66,9 @@ abbrev answerOf : Outcome Contents → ℕ × ℕ
 answerOf (Gives c) = (0, 0)
 answerOf (Refused k line) = (k, line)
 
--- at a side limit
+-- at a side limit, and 1,000 iterations
 abbrev at : ℕ → Limits
-at side = record { side = side }
+at side = record { side = side; iterations = 1000 }
 
 unfoldable answer : ℕ → List ℕ → ℕ × ℕ
 unfolding readText blank lineTag takenOf recordOf headerOf channelOf lineFault fieldsFault rulesOf numberAt weightAt numberOf bitForm weightOf levelOf fieldOf
@@ -207,6 +207,17 @@ starting : answers 32 (
     ≡ (0, 0) ∷ (0, 0) ∷ (1, 3) ∷ (1, 3) ∷ (1, 1) ∷ (1, 3) ∷ (1, 2) ∷ (1, 2) ∷ (1, 2) ∷ (7, 3) ∷ (1, 3) ∷ []
 unfolding answer
 starting = refl
+
+-- M-106: on a page of 50 iterations; spelling 1, above 1,000 2, above the limit 15, then the next field; spare counts too;
+-- a limit above 1,000 is 2 at line 0, before the text is read
+unfoldable paged : ℕ → List ℕ → ℕ × ℕ
+unfolding readText blank lineTag takenOf recordOf headerOf channelOf lineFault fieldsFault rulesOf numberAt weightAt numberOf bitForm weightOf levelOf fieldOf
+paged most t = answerOf (readText (record { side = 32; iterations = most }) t)
+
+page : (paged 50 (one 0 7 "50") ≡ (0, 0)) × (paged 50 (one 0 7 "51") ≡ (15, 1)) × (paged 50 (one 0 7 "1001") ≡ (2, 1)) × (paged 50 (two 0 7 "51" 0 8 "x") ≡ (15, 1)) × (paged 50 (one 0 9 "51") ≡ (15, 1)) × (paged 1001 (b "x") ≡ (2, 0))
+    × (paged 65586 (b "x") ≡ (2, 0)) × (paged 0 (text whole) ≡ (0, 0))
+unfolding paged
+page = (refl, refl, refl, refl, refl, refl, refl, refl)
 
 -- measuring gives both lengths; reading refuses other lengths, last
 unfoldable measured : ℕ → List ℕ → Outcome Lengths

@@ -17,9 +17,9 @@ use Rattle.text.specs.declared.field.Rule.the-variants as rule
 use Rattle.text.specs.Pieces.{split}
 use Rattle.text.specs.Numbers.{numberAt}
 use Rattle.text.specs.Weights.{weightAt}
-use Rattle.text.specs.Fields.{fieldOf, faultIn}
+use Rattle.text.specs.Fields.{isSide, fieldOf, faultIn}
 use Rattle.contents.specs.Legal.{Between, LegalSide, LegalLimits, LegalHeader, LegalChannel, LegalQuantisers, LegalLevels, LegalSheet}
-use Rattle.text.proofs.GoodLaws.{side-is, range-good, side-good, channels-good, weight-good}
+use Rattle.text.proofs.GoodLaws.{side-is, range-good, count-good, side-good, channels-good, weight-good}
 use Rattle.digits.proofs.Both.{both-left, both-right}
 use Rattle.contents.specs.declared.Limits.{Limits}
 use Rattle.contents.specs.declared.Header.{Header}
@@ -49,9 +49,9 @@ header-is-legal limits fs n e =
       shown-width = range-good (getD fs 3 []) 2 1 (numberAt fs 1) (at 3 (omega arith));
       shown-height = range-good (getD fs 4 []) 2 1 (numberAt fs 2) (at 4 (omega arith));
       channels = channels-good (getD fs 5 []) (at 5 (omega arith));
-      iterations0 = range-good (getD fs 7 []) 2 0 1000 (at 7 (omega arith)) .top;
-      iterations1 = range-good (getD fs 8 []) 2 0 1000 (at 8 (omega arith)) .top;
-      iterations2 = range-good (getD fs 9 []) 2 0 1000 (at 9 (omega arith)) .top;
+      iterations0 = count-good (getD fs 7 []) (limits .iterations) (at 7 (omega arith)) .2;
+      iterations1 = count-good (getD fs 8 []) (limits .iterations) (at 8 (omega arith)) .2;
+      iterations2 = count-good (getD fs 9 []) (limits .iterations) (at 9 (omega arith)) .2;
       smoothing0 = weight-good (getD fs 10 []) (at 10 (omega arith));
       smoothing1 = weight-good (getD fs 11 []) (at 11 (omega arith));
       smoothing2 = weight-good (getD fs 12 []) (at 12 (omega arith));
@@ -62,6 +62,12 @@ header-is-legal limits fs n e =
   where
     at : (i : ℕ) → i < 16 → faultIn (fieldOf (getD (headerRules limits fs) i (rule.Tag 0)) (getD fs i [])) ≡ none
     at i h = fault-at (headerRules limits fs) fs i e h (omega arith)
+
+pub allowed-is : (limits : Limits) → allowed limits ≡ true → LegalLimits limits
+allowed-is limits e =
+    let a = isSide 512 (limits .side) in
+    let b = leb (limits .iterations) 1000 in
+    record { side = side-is 512 (limits .side) (both-left a b e); iterations = leb-true (limits .iterations) 1000 (both-right a b e) }
 
 pub own-side : (a f m : ℕ) → 1 ≤ f → a * f ≤ m → a ≤ m
 own-side a f m h k = omega (arith, mul-le-mul-left a h)
@@ -388,5 +394,5 @@ legal limits text s H e = two (allowed limits) refl e
     by m (p ∷ rest) o = first-line limits m p rest C (legal-from limits m rest C) 1 o
 
     two : (b : Bool) → allowed limits ≡ b → cond b (readFrom limits blank (held [] []) 1 (split 10 text)) (Refused 2 0) ≡ Gives C → LegalSheet limits s H
-    two true p o = by (record { side = side-is 512 (limits .side) p }) (split 10 text) o
+    two true p o = by (allowed-is limits p) (split 10 text) o
     two false p o = refusal 2 0 C o

@@ -138,14 +138,14 @@ module _ (limits : Limits) (fs : List (List ℕ)) (i : ℕ) where
   pub header-mode : i ≡ 6 → mode ≡ getD (headerRules limits fs) i (rule.Tag 0)
   header-mode e = rw e
 
-  pub header-count : 2 < i → (i ≡ 3 → ⊥) → (i ≡ 4 → ⊥) → (i ≡ 5 → ⊥) → (i ≡ 6 → ⊥) → i ≤ 9 → count ≡ getD (headerRules limits fs) i (rule.Tag 0)
+  pub header-count : 2 < i → (i ≡ 3 → ⊥) → (i ≡ 4 → ⊥) → (i ≡ 5 → ⊥) → (i ≡ 6 → ⊥) → i ≤ 9 → count limits ≡ getD (headerRules limits fs) i (rule.Tag 0)
   header-count l n3 n4 n5 n6 k =
       let h : 7 ≤ i = omega arith in
-      let e : getD (headerRules limits fs) i (rule.Tag 0) ≡ getD (count ∷ count ∷ count ∷ replicate 6 rule.Weight) (i - 7) (rule.Tag 0) =
-      past (take 7 (headerRules limits fs)) (count ∷ count ∷ count ∷ replicate 6 rule.Weight) i (rule.Tag 0) h in
+      let e : getD (headerRules limits fs) i (rule.Tag 0) ≡ getD (count limits ∷ count limits ∷ count limits ∷ replicate 6 rule.Weight) (i - 7) (rule.Tag 0) =
+      past (take 7 (headerRules limits fs)) (count limits ∷ count limits ∷ count limits ∷ replicate 6 rule.Weight) i (rule.Tag 0) h in
       rw e (three (i - 7) (omega arith))
     where
-      three : (j : ℕ) → j ≤ 2 → count ≡ getD (count ∷ count ∷ count ∷ replicate 6 rule.Weight) j (rule.Tag 0)
+      three : (j : ℕ) → j ≤ 2 → count limits ≡ getD (count limits ∷ count limits ∷ count limits ∷ replicate 6 rule.Weight) j (rule.Tag 0)
       three zero k = refl
       three (suc zero) k = refl
       three (suc (suc zero)) k = refl

@@ -18,11 +18,10 @@ use Rattle.text.specs.Numbers.{numberAt}
 use Rattle.text.specs.Fields.{fieldOf, faultIn}
 use Rattle.digits.specs.Written.{decimal, rowBytes}
 use Rattle.text.proofs.PieceLaws.{split-cut, split-whole, split-some}
-use Rattle.text.proofs.GoodLaws.{side-is}
 use Rattle.digits.proofs.Both.{both-left, both-right}
 use Rattle.digits.proofs.Lengths.{decimal-length}
 use Rattle.text.proofs.JoinLaws.{joined-split, joined-length, Within}
-use Rattle.text.proofs.SizeLaws.{tag-short, range-short, side-short, channels-short, letters-short, weight-short, quantiser-short, level-short}
+use Rattle.text.proofs.SizeLaws.{tag-short, range-short, count-short, side-short, channels-short, letters-short, weight-short, quantiser-short, level-short}
 use Rattle.contents.specs.declared.Limits.{Limits}
 use Rattle.contents.specs.declared.Header.{Header}
 use Rattle.contents.specs.declared.Settings.{Settings}
@@ -39,7 +38,7 @@ use Rattle.sheet.proofs.StateLaws.Stands.{Header-line, Setting-line, Bl
 use Rattle.sheet.proofs.WalkLaws.{line-long, split-head, not-last, some-after}
 use Rattle.sheet.proofs.GoodLines.{or-left, or-right, fault-at, fault-drop}
 use Rattle.sheet.proofs.SettingLaws.{placeOf, settingsLeft, said-line, now-said, setting-spent}
-use Rattle.sheet.proofs.LegalLaws.{header-is-legal, channel-is-legal, few, fields-count, line-fields, line-is, refusal, withSet}
+use Rattle.sheet.proofs.LegalLaws.{header-is-legal, allowed-is, channel-is-legal, few, fields-count, line-fields, line-is, refusal, withSet}
 
 -- The length of a good line
 
@@ -61,9 +60,6 @@ block-within (f ∷ fs) l e = (
   tag-short f 66 (or-left (faultIn (fieldOf (rule.Tag 66) f)) (firstFault (replicate 64 rule.Level) fs) e),
   same-rule rule.Level 5 (λ g q. level-short g q) 64 fs (omega arith) (or-right (faultIn (fieldOf (rule.Tag 66) f)) (firstFault (replicate 64 rule.Level) fs) e),
 )
-
-thousand : (f : List ℕ) → faultIn (fieldOf (rule.Range 2 0 1000) f) ≡ none → length f ≤ 4
-thousand f e = le-trans (range-short f 2 0 1000 1000 (omega arith) e) (decimal-length 3 1000 (omega arith))
 
 four : (f : List ℕ) → faultIn (fieldOf (rule.Range 3 1 4) f) ≡ none → length f ≤ 1
 four f e = le-trans (range-short f 3 1 4 4 (omega arith) e) (decimal-length 0 4 (omega arith))
@@ -90,9 +86,9 @@ module _ (limits : Limits) (most : limits .side ≤ 512) where
       (within-at fs 4 d _ (omega arith) (range-short (getD fs 4 []) 2 1 (numberAt fs 2) (limits .side) (l .height .top) (at 4 (omega arith)))
       (within-at fs 5 1 _ (omega arith) (channels-short (getD fs 5 []) (at 5 (omega arith)))
       (within-at fs 6 1 _ (omega arith) (letters-short (getD fs 6 []) 106 115 (at 6 (omega arith)))
-      (within-at fs 7 4 _ (omega arith) (thousand (getD fs 7 []) (at 7 (omega arith)))
-      (within-at fs 8 4 _ (omega arith) (thousand (getD fs 8 []) (at 8 (omega arith)))
-      (within-at fs 9 4 _ (omega arith) (thousand (getD fs 9 []) (at 9 (omega arith)))
+      (within-at fs 7 4 _ (omega arith) (count-short (getD fs 7 []) (limits .iterations) (at 7 (omega arith)))
+      (within-at fs 8 4 _ (omega arith) (count-short (getD fs 8 []) (limits .iterations) (at 8 (omega arith)))
+      (within-at fs 9 4 _ (omega arith) (count-short (getD fs 9 []) (limits .iterations) (at 9 (omega arith)))
       (within-at fs 10 9 _ (omega arith) (weight-short (getD fs 10 []) (at 10 (omega arith)))
       (within-at fs 11 9 _ (omega arith) (weight-short (getD fs 11 []) (at 11 (omega arith)))
       (within-at fs 12 9 _ (omega arith) (weight-short (getD fs 12 []) (at 12 (omega arith)))
@@ -372,7 +368,7 @@ decides limits text n h = two (allowed limits) refl
   where
     two : (b : Bool) → allowed limits ≡ b
         → cond b (readFrom limits blank (held [] []) 1 (split 10 (take n text))) (Refused 2 0) ≡ cond b (readFrom limits blank (held [] []) 1 (split 10 text)) (Refused 2 0)
-    two true e = decides-from limits (side-is 512 (limits .side) e .top) (length text) blank (held [] []) 1 text n (omega arith) (inl refl) (omega (arith, room-first limits))
+    two true e = decides-from limits (allowed-is limits e .side .top) (length text) blank (held [] []) 1 text n (omega arith) (inl refl) (omega (arith, room-first limits))
     two false e = refl
 
 -- No legal text is longer than `longest`
@@ -464,5 +460,5 @@ unfolding readText
 at-most limits text C e = two (allowed limits) refl e
   where
     two : (b : Bool) → allowed limits ≡ b → cond b (readFrom limits blank (held [] []) 1 (split 10 text)) (Refused 2 0) ≡ Gives C → length text ≤ longest (limits .side)
-    two true q o = omega (arith, short-from limits (side-is 512 (limits .side) q .top) (length text) blank (held [] []) 1 text C (omega arith) (inl refl) o, room-first limits)
+    two true q o = omega (arith, short-from limits (allowed-is limits q .side .top) (length text) blank (held [] []) 1 text C (omega arith) (inl refl) o, room-first limits)
     two false q o = refusal 2 0 C o

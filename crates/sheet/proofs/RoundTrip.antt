@@ -11,8 +11,8 @@ use lib.Seq.{length-take-le, take-add}
 use lib.IntN.{ℤ}
 use borrow.Author.Tests.{eq-eqb, lt-ltb, le-ltb, le-leb}
 use Rattle.text.specs.Pieces.{split}
-use Rattle.text.specs.Fields.{isSide, fieldOf}
-use Rattle.contents.specs.Legal.{LegalSide, LegalHeader, LegalChannel, LegalQuantisers, LegalLevels, LegalSheet}
+use Rattle.text.specs.Fields.{fieldOf}
+use Rattle.contents.specs.Legal.{LegalLimits, LegalHeader, LegalChannel, LegalQuantisers, LegalLevels, LegalSheet}
 use Rattle.text.specs.Written.{levelText}
 use Rattle.digits.specs.Written.{decimal, joined}
 use Rattle.text.proofs.JoinLaws.{free, allFree, split-joined, joined-free, split-ended}
@@ -29,7 +29,7 @@ use Rattle.sheet.specs.declared.state.State.{State}
 use Rattle.sheet.specs.declared.state.Taken.the-variants as taken
 use Rattle.sheet.specs.Lines.{headerRules, roundingRules, startRules, channelRules, blockRules, rulesOf, fieldCount, firstFault, holding, channelOf, recordOf}
 use Rattle.contents.specs.Sheets.{Held, held, levelsTo, channelsOf}
-use Rattle.sheet.specs.Reading.{contents, headed, blank, lastSaid, lineTag, withSetting, settled, placed, covers, takenOf, isLast, readFrom, readText}
+use Rattle.sheet.specs.Reading.{contents, headed, blank, lastSaid, lineTag, withSetting, settled, placed, covers, takenOf, isLast, readFrom, allowed, readText}
 use Rattle.sheet.specs.Reading.Outcome.{Refused}
 use Rattle.sheet.specs.Written.{headerFields, channelFields, blockFields, endFields, settingLine, settingLines, blockLines, channelLines, written}
 use Rattle.sheet.proofs.WalkLaws.{line-next, line-end}
@@ -183,7 +183,7 @@ unfolding lineTag rulesOf fieldCount
 read-end limits s j H k h =
     line-end limits (during s j 0) H k (69 ∷ []) ([] ∷ []) (readFrom limits (during s j 0) H k ((69 ∷ []) ∷ [] ∷ [])) refl 69 (rw (le-ltb j (s .header .channels) h)) (omega arith) refl refl end-good refl refl
 
-read-header : (limits : Limits) → limits .side ≤ 512 → (h : Header) → LegalHeader limits h → (rest : List (List ℕ)) → isLast rest ≡ false
+read-header : (limits : Limits) → LegalLimits limits → (h : Header) → LegalHeader limits h → (rest : List (List ℕ)) → isLast rest ≡ false
     → readFrom limits blank (held [] []) 1 (joined (headerFields h) ∷ rest) ≡ readFrom limits (during (headed h) 0 0) (held [] []) 2 rest
 unfolding blank lineTag rulesOf fieldCount recordOf takenOf
 read-header limits most h l rest e =
@@ -320,8 +320,8 @@ used limits s H l = by (l .header .channels)
           placed = refl;
         })
 
-side-test : (most n : ℕ) → LegalSide most n → isSide most n ≡ true
-side-test most n l = rw (eq-eqb _ _ (l .whole), le-leb _ _ (l .low), le-leb _ _ (l .top))
+allowed-true : (limits : Limits) → LegalLimits limits → allowed limits ≡ true
+allowed-true limits l = rw (eq-eqb _ _ (l .side .whole), le-leb _ _ (l .side .low), le-leb _ _ (l .side .top), le-leb _ _ (l .iterations))
 
 -- Reading what is written gives the sheet back
 pub round-trip : (limits : Limits) (s : Sheet) (H : Held) → LegalSheet limits s H → readText limits (written s H) ≡ contents s H
@@ -334,9 +334,9 @@ round-trip limits s H l =
     let r =
     read-channels limits end refl cs (opening s) 0 [] (H .levels) [] (H .tables) (f .0) (omega (arith, u .count)) (omega (arith, l .limits-legal .side .top, l .header .width .top), omega (arith, l .limits-legal .side .top, l .header .height .top)) (u .legal) (l .levels-count ∙ u .levels) (l .levels)
     (l .tables-count ∙ ap (λ (n : ℕ). 64 * n) (sym (u .count))) (l .tables) in
-    ap (λ (b : Bool). cond b (readFrom limits blank (held [] []) 1 (split 10 (written s H))) (Refused 2 0)) (side-test 512 (limits .side) (l .limits-legal .side))
+    ap (λ (b : Bool). cond b (readFrom limits blank (held [] []) 1 (split 10 (written s H))) (Refused 2 0)) (allowed-true limits (l .limits-legal))
     ∙ ap (λ (ps : List (List ℕ)). readFrom limits blank (held [] []) 1 ps) (written-lines s H)
-    ∙ read-header limits (l .limits-legal .side .top) (s .header) (l .header) (settingLines (s .settings) ++ (channelLines cs H ++ end)) (more-left (settingLines (s .settings)) (channelLines cs H ++ end) (more-left (channelLines cs H) end refl))
+    ∙ read-header limits (l .limits-legal) (s .header) (l .header) (settingLines (s .settings) ++ (channelLines cs H ++ end)) (more-left (settingLines (s .settings)) (channelLines cs H ++ end) (more-left (channelLines cs H) end refl))
     ∙ f .1
     ∙ r .1
     ∙ ap (λ (v : Sheet). readFrom limits (during v (0 + length cs) 0) H (r .0) end) (u .placed)

@@ -19,10 +19,10 @@ use Rattle.text.specs.declared.field.Field.the-variants as field
 use Rattle.text.specs.Numbers.{numberOf, numberValue, numberAt}
 use Rattle.text.specs.Weights.{weightOf, weightIn, weightAt}
 use Rattle.text.specs.Fields.{letter, fieldOf, faultIn}
-use Rattle.contents.specs.Legal.{Between, LegalSide, LegalWeight, LegalLevel, LegalHeader, LegalChannel, LegalQuantisers, LegalLevels}
+use Rattle.contents.specs.Legal.{Between, LegalSide, LegalWeight, LegalLevel, LegalLimits, LegalHeader, LegalChannel, LegalQuantisers, LegalLevels}
 use Rattle.text.specs.Written.{weightText, levelText}
 use Rattle.digits.specs.Written.{decimal, joined}
-use Rattle.text.proofs.FieldLaws.{range-in, side-in, channels-one, channels-three, quantiser-in, weight-is}
+use Rattle.text.proofs.FieldLaws.{range-in, count-in, side-in, channels-one, channels-three, quantiser-in, weight-is}
 use Rattle.text.proofs.DecimalLaws.{number-written}
 use Rattle.digits.proofs.Lengths.{decimal-length}
 use Rattle.text.proofs.SpellingLaws.{weight-written, level-written, weight-length, level-length}
@@ -87,12 +87,18 @@ mode-back : (j : Bool) → letter 106 (cond j 106 115 ∷ []) ≡ j
 mode-back true = refl
 mode-back false = refl
 
-module _ (limits : Limits) (most : limits .side ≤ 512) (h : Header) (l : LegalHeader limits h) where
+module _ (limits : Limits) (allowed : LegalLimits limits) (h : Header) (l : LegalHeader limits h) where
+  most : limits .side ≤ 512
+  most = allowed .side .top
+
+  page : limits .iterations ≤ 1000
+  page = allowed .iterations
+
   wide : h .width ≤ 999999
-  wide = omega (arith, l .width .top)
+  wide = omega (arith, most, l .width .top)
 
   high : h .height ≤ 999999
-  high = omega (arith, l .height .top)
+  high = omega (arith, most, l .height .top)
 
   few : h .channels ≤ 999999
   few = by (l .channels)
@@ -151,8 +157,8 @@ module _ (limits : Limits) (most : limits .side ≤ 512) (h : Header) (l : Legal
         ),
       )
     where
-      count-written : (n : ℕ) → n ≤ 1000 → faultIn (fieldOf count (decimal n)) ≡ none
-      count-written n k = range-written 2 0 1000 n (record { low = omega arith; top = k }) (omega arith)
+      count-written : (n : ℕ) → n ≤ limits .iterations → faultIn (fieldOf (count limits) (decimal n)) ≡ none
+      count-written n k = rw (← count-in (decimal n) (number.Is n) (limits .iterations) n (sym (number-written n (omega (arith, page)))) refl (omega (arith, page)) k)
 
   pub header-back : headerOf (headerFields h) ≡ h
   unfolding headerOf numberAt weightAt
@@ -164,9 +170,9 @@ module _ (limits : Limits) (most : limits .side ≤ 512) (h : Header) (l : Legal
         number-back (h .«picture_height») (omega (arith, l .shown-height .top, high)),
         number-back (h .channels) few,
         mode-back (h .joint),
-        number-back (h .iterations0) (omega (arith, l .iterations0)),
-        number-back (h .iterations1) (omega (arith, l .iterations1)),
-        number-back (h .iterations2) (omega (arith, l .iterations2)),
+        number-back (h .iterations0) (omega (arith, page, l .iterations0)),
+        number-back (h .iterations1) (omega (arith, page, l .iterations1)),
+        number-back (h .iterations2) (omega (arith, page, l .iterations2)),
         weight-back (h .smoothing0) (l .smoothing0),
         weight-back (h .smoothing1) (l .smoothing1),
         weight-back (h .smoothing2) (l .smoothing2),
@@ -308,7 +314,7 @@ all-low : (zs : List ℤ) → LegalLevels zs → Within (map levelText zs) (repl
 all-low [] l = tt
 all-low (z ∷ zs) l = (level-length z (l .0), all-low zs (l .1))
 
-pub header-short : (limits : Limits) → limits .side ≤ 512 → (h : Header) → LegalHeader limits h → length (joined (headerFields h)) ≤ 1024
+pub header-short : (limits : Limits) → LegalLimits limits → (h : Header) → LegalHeader limits h → length (joined (headerFields h)) ≤ 1024
 header-short limits most h l =
     let w = short-decimal (h .width) (wide limits most h l) in
     let v = short-decimal (h .height) (high limits most h l) in
@@ -329,11 +335,11 @@ header-short limits most h l =
                   (
                     omega arith,
                     (
-                      short-decimal (h .iterations0) (omega (arith, l .iterations0)),
+                      short-decimal (h .iterations0) (omega (arith, most .iterations, l .iterations0)),
                       (
-                        short-decimal (h .iterations1) (omega (arith, l .iterations1)),
+                        short-decimal (h .iterations1) (omega (arith, most .iterations, l .iterations1)),
                         (
-                          short-decimal (h .iterations2) (omega (arith, l .iterations2)),
+                          short-decimal (h .iterations2) (omega (arith, most .iterations, l .iterations2)),
                           (
                             weight-length (h .smoothing0) (l .smoothing0),
                             (

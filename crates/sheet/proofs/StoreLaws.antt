@@ -2,7 +2,7 @@
 use Prim.Native.Nat.{ℕ, _+_, _%_, _<_, _≤_}
 use mathlib.Core.Path.{_≡_, refl, sym}
 use mathlib.Core.List.{List, [], _∷_}
-use mathlib.Core.Bool.{false}
+use mathlib.Core.Bool.{false, _&&_}
 use mathlib.Core.Logic.{⊎-elim}
 use native.Mathlib.Omega.{arith}
 use lib.ListN.{length, set}
@@ -63,16 +63,19 @@ module _ (f : Field) (n : ℕ) where
 
 pub ruleset stores = (no-level, no-table, level-full, level-one, table-full, table-one)
 
--- The limit
+-- The limits
 
-module _ (n : ℕ) where
-  pub limit-odd : (n % 8 ≡ 0 → ⊥) → false ≡ isSide 512 n
+module _ (n m : ℕ) where
+  pub limit-odd : (n % 8 ≡ 0 → ⊥) → false ≡ (isSide 512 n && leb m 1000)
   limit-odd h = rw (ne-eqb _ _ h)
 
-  pub limit-low : n % 8 ≡ 0 → n < 8 → false ≡ isSide 512 n
+  pub limit-low : n % 8 ≡ 0 → n < 8 → false ≡ (isSide 512 n && leb m 1000)
   limit-low e h = rw (eq-eqb _ _ e, lt-leb _ _ h)
 
-  pub limit-is : n % 8 ≡ 0 → 8 ≤ n → leb n 512 ≡ isSide 512 n
-  limit-is e h = rw (eq-eqb _ _ e, le-leb _ _ h)
+  pub limit-high : n % 8 ≡ 0 → 8 ≤ n → 512 < n → false ≡ (isSide 512 n && leb m 1000)
+  limit-high e h k = rw (eq-eqb _ _ e, le-leb _ _ h, lt-leb _ _ k)
 
-pub ruleset limits = (limit-odd, limit-low, limit-is)
+  pub limit-is : n % 8 ≡ 0 → 8 ≤ n → n ≤ 512 → leb m 1000 ≡ (isSide 512 n && leb m 1000)
+  limit-is e h k = rw (eq-eqb _ _ e, le-leb _ _ h, le-leb _ _ k)
+
+pub ruleset limits = (limit-odd, limit-low, limit-high, limit-is)

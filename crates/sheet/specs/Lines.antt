@@ -22,9 +22,9 @@ use Rattle.sheet.specs.declared.line.Record.{Record}
 use Rattle.sheet.specs.declared.line.Record.the-variants as line
 use Rattle.contents.specs.Sheets.{Held, held}
 
--- "three iteration counts (0 to 1,000)", else 2
-abbrev pub count : Rule
-count = rule.Range 2 0 1000
+-- "three iteration counts (0 to 1,000)", by the caller's limit
+abbrev pub count : Limits → Rule
+count limits = rule.Count (limits .iterations)
 
 -- "across and down factors (1 to 4)", else 3
 abbrev pub factor : Rule
@@ -40,14 +40,15 @@ mode = rule.Letters 106 115
 
 -- "`S`, full width W, full height H (multiples of 8, 8 to 512), picture width and height (1 to W, 1 to H), channels (1 or 3),
 -- mode `j` joint or `s` separate, three iteration counts (0 to 1,000), three smoothing weights, three data weights." The
--- caller's side stands for 512. Spare fields have their rule too: "spare fields must be legal".
+-- caller's side stands for 512, and the caller's iterations limit all three counts (M-106). Spare fields have their rule too: "spare fields must
+-- be legal".
 abbrev pub headerRules : Limits → List (List ℕ) → List Rule
 headerRules limits fs =
     rule.Tag 83
     ∷ rule.Side (limits .side) ∷ rule.Side (limits .side)
     ∷ rule.Range 2 1 (numberAt fs 1) ∷ rule.Range 2 1 (numberAt fs 2)
     ∷ rule.Channels ∷ mode
-    ∷ count ∷ count ∷ count
+    ∷ count limits ∷ count limits ∷ count limits
     ∷ replicate 6 rule.Weight
 
 -- a setting with one of two letters

@@ -149,11 +149,11 @@ readFrom limits s h at (p ∷ rest) =
     (cond (nothingLeft rest) (contents (s .sheet) h) (Refused 7 (at + 1)))
     (onTaken (takenOf s (recordOf tag fs)) at (λ t. readFrom limits t (holding h rs fs) (at + 1) rest)))
 
--- What a caller may allow: a side limit that could be a side
+-- What a caller may allow: a side limit that could be a side, and a limit of iterations "from 0 to 1,000" (M-106)
 abbrev pub allowed : Limits → Bool
-allowed limits = isSide 512 (limits .side)
+allowed limits = isSide 512 (limits .side) && leb (limits .iterations) 1000
 
 -- A text at the caller's limits. The side limit is 512 in the library; "W and H above 32 are 2 there, at that field" in `smooth`.
--- Limits that no caller may set are 2 at line 0, before the text is read, as M-106 has it for a parameter of its own.
+-- "a parameter above 1,000 is 2, line 0, before the text is read", and so is a side limit that no caller may set.
 unfoldable pub readText : Limits → List ℕ → Outcome Contents
 readText limits text = cond (allowed limits) (readFrom limits blank (held [] []) 1 (split 10 text)) (Refused 2 0)

@@ -22,8 +22,8 @@ pub enum Answer {
     Refused { number: u8, line: usize },
 }
 
-// The lengths that reading needs, or the refusal that it gives. A side above the limit is refused, and so are limits
-// that no caller may set.
+// The lengths that reading needs, or the refusal that it gives. A side or an iteration count above its limit is refused, and so are
+// limits that no caller may set.
 // Ruled out: lengths for a text with a byte after E; a refusal at a later line than the first bad one.
 pub fn measure(text: &[u8], limits: Limits) -> Measured
     ensures { λ r. ⌜ measuredSays r ≡ measuring limits (now (text .entry)) ⌝ }

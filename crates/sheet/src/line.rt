@@ -83,11 +83,7 @@ fn header_rule(i: usize, limits: Limits, row: &[u8]) -> Rule
         return Rule::Letters(b'j', b's');
     }
     if i <= 9 {
-        return Rule::Range {
-            fault: 2,
-            low: 0,
-            high: 1000,
-        };
+        return Rule::Count(limits.iterations);
     }
     Rule::Weight
 }

@@ -37,7 +37,10 @@ fn are_allowed(limits: Limits) -> bool
     if limits.side < 8 {
         return false;
     }
-    limits.side <= 512
+    if 512 < limits.side {
+        return false;
+    }
+    limits.iterations <= 1000
 }
 
 // A level goes to its place, if there is room. Returns the next place.

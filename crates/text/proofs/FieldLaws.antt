@@ -57,6 +57,25 @@ module _ (f : List ℕ) (r : Number) (k low high n : ℕ) (e : r ≡ numberOf f)
   unfolding fieldOf
   range-in l u = rw (sym e ∙ p, le-leb _ _ l, le-leb _ _ u)
 
+-- Counts
+
+pub count-not : (f : List ℕ) (r : Number) (most : ℕ) → r ≡ numberOf f → r ≡ number.Not → field.Bad 1 ≡ fieldOf (rule.Count most) f
+unfolding fieldOf
+count-not f r most e p = rw (sym e ∙ p)
+
+module _ (f : List ℕ) (r : Number) (most n : ℕ) (e : r ≡ numberOf f) (p : r ≡ number.Is n) where
+  pub count-high : 1000 < n → field.Bad 2 ≡ fieldOf (rule.Count most) f
+  unfolding fieldOf
+  count-high u = rw (sym e ∙ p, lt-leb _ _ u)
+
+  pub count-page : n ≤ 1000 → most < n → field.Bad 15 ≡ fieldOf (rule.Count most) f
+  unfolding fieldOf
+  count-page l u = rw (sym e ∙ p, le-leb _ _ l, lt-leb _ _ u)
+
+  pub count-in : n ≤ 1000 → n ≤ most → field.Good ≡ fieldOf (rule.Count most) f
+  unfolding fieldOf
+  count-in l u = rw (sym e ∙ p, le-leb _ _ l, le-leb _ _ u)
+
 -- Sides
 
 pub side-not : (f : List ℕ) (r : Number) (high : ℕ) → r ≡ numberOf f → r ≡ number.Not → field.Bad 1 ≡ fieldOf (rule.Side high) f
@@ -151,4 +170,4 @@ module _ (f : List ℕ) (r : WeightField) (e : r ≡ weightOf f) where
   unfolding fieldOf
   weight-bad k p = rw (sym e ∙ p)
 
-pub ruleset fields = (range-not, range-low, range-high, range-in, side-not, side-odd, side-low, side-high, side-in, channels-not, channels-one, channels-three, channels-other, quantiser-not, quantiser-low, quantiser-high, quantiser-in, tag-is, tag-not, letters-first, letters-second, letters-not, weight-is, weight-bad)
+pub ruleset fields = (count-not, count-high, count-page, count-in, range-not, range-low, range-high, range-in, side-not, side-odd, side-low, side-high, side-in, channels-not, channels-one, channels-three, channels-other, quantiser-not, quantiser-low, quantiser-high, quantiser-in, tag-is, tag-not, letters-first, letters-second, letters-not, weight-is, weight-bad)

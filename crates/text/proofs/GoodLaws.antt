@@ -22,7 +22,7 @@ use Rattle.text.specs.Numbers.{numberOf, numberValue}
 use Rattle.text.specs.Weights.{bitForm, wholeWeight, orWhole, afterLetter, weightOf, weightIn}
 use Rattle.contents.specs.Legal.{Between, LegalSide, LegalWeight, LegalLevel}
 use Rattle.text.specs.Levels.{fromZero, belowZero, levelOf}
-use Rattle.text.specs.Fields.{letter, isSide, numberField, quantiserField, weightField, fieldOf, faultIn, levelsIn, tablesIn}
+use Rattle.text.specs.Fields.{letter, isSide, numberField, countField, quantiserField, weightField, fieldOf, faultIn, levelsIn, tablesIn}
 use Rattle.digits.proofs.Both.{both-left, both-right}
 
 -- Tests
@@ -61,6 +61,19 @@ module _ (f : List ℕ) where
       let n = numberValue (numberOf f) in
       let g : (leb low n && leb n high) ≡ true = number-good k (λ n. leb low n && leb n high) (numberOf f) e in
       record { low = leb-true low n (both-left (leb low n) (leb n high) g); top = leb-true n high (both-right (leb low n) (leb n high) g) }
+
+  pub count-good : (most : ℕ) → faultIn (fieldOf (rule.Count most) f) ≡ none → (numberOf f ≡ number.Is (numberValue (numberOf f))) × (numberValue (numberOf f) ≤ 1000) × (numberValue (numberOf f) ≤ most)
+  unfolding fieldOf
+  count-good most e = by (numberOf f) e
+    where
+      two : (n : ℕ) (a b : Bool) → leb n 1000 ≡ a → leb n most ≡ b → faultIn (cond a (cond b field.Good (field.Bad 15)) (field.Bad 2)) ≡ none → (n ≤ 1000) × (n ≤ most)
+      two n true true p q o = (leb-true n 1000 p, leb-true n most q)
+      two n true false p q o = never o
+      two n false b p q o = never o
+
+      by : (r : Number) → faultIn (countField most r) ≡ none → (r ≡ number.Is (numberValue r)) × (numberValue r ≤ 1000) × (numberValue r ≤ most)
+      by (number.Is n) o = let t = two n (leb n 1000) (leb n most) refl refl o in (refl, t .0, t .1)
+      by number.Not o = never o
 
   pub side-good : (most : ℕ) → faultIn (fieldOf (rule.Side most) f) ≡ none → LegalSide most (numberValue (numberOf f))
   unfolding fieldOf
@@ -163,6 +176,7 @@ level-good (b ∷ l) e = two (eqb b 45) e
 abbrev pub addsTable : Rule → Bool
 addsTable (rule.Tag t) = false
 addsTable (rule.Range k low high) = false
+addsTable (rule.Count most) = false
 addsTable (rule.Side most) = false
 addsTable rule.Channels = false
 addsTable (rule.Letters a b) = false
@@ -173,6 +187,7 @@ addsTable rule.Level = false
 abbrev pub addsLevel : Rule → Bool
 addsLevel (rule.Tag t) = false
 addsLevel (rule.Range k low high) = false
+addsLevel (rule.Count most) = false
 addsLevel (rule.Side most) = false
 addsLevel rule.Channels = false
 addsLevel (rule.Letters a b) = false
@@ -191,6 +206,14 @@ bare-cond false k = (refl, refl)
 bare-number : (k : ℕ) (ok : ℕ → Bool) (r : Number) → Bare (numberField k ok r)
 bare-number k ok (number.Is n) = bare-cond (ok n) k
 bare-number k ok number.Not = (refl, refl)
+
+bare-count : (most : ℕ) (r : Number) → Bare (countField most r)
+bare-count most (number.Is n) = two (leb n 1000) (leb n most)
+  where
+    two : (a b : Bool) → Bare (cond a (cond b field.Good (field.Bad 15)) (field.Bad 2))
+    two true b = bare-cond b 15
+    two false b = (refl, refl)
+bare-count most number.Not = (refl, refl)
 
 bare-weight : (r : WeightField) → Bare (weightField r)
 bare-weight (weight-field.Is w) = (refl, refl)
@@ -234,6 +257,7 @@ pub tables-none : (r : Rule) (f : List ℕ) → addsTable r ≡ false → tables
 unfolding fieldOf
 tables-none (rule.Tag t) f e = bare-cond (letter t f) 1 .0
 tables-none (rule.Range k low high) f e = bare-number k (λ n. leb low n && leb n high) (numberOf f) .0
+tables-none (rule.Count most) f e = bare-count most (numberOf f) .0
 tables-none (rule.Side most) f e = bare-number 2 (isSide most) (numberOf f) .0
 tables-none rule.Channels f e = bare-number 2 (λ n. eqb n 1 || eqb n 3) (numberOf f) .0
 tables-none (rule.Letters a b) f e = bare-cond (letter a f || letter b f) 1 .0
@@ -245,6 +269,7 @@ pub levels-none : (r : Rule) (f : List ℕ) → addsLevel r ≡ false → levels
 unfolding fieldOf
 levels-none (rule.Tag t) f e = bare-cond (letter t f) 1 .1
 levels-none (rule.Range k low high) f e = bare-number k (λ n. leb low n && leb n high) (numberOf f) .1
+levels-none (rule.Count most) f e = bare-count most (numberOf f) .1
 levels-none (rule.Side most) f e = bare-number 2 (isSide most) (numberOf f) .1
 levels-none rule.Channels f e = bare-number 2 (λ n. eqb n 1 || eqb n 3) (numberOf f) .1
 levels-none (rule.Letters a b) f e = bare-cond (letter a f || letter b f) 1 .1

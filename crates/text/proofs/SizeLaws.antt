@@ -22,7 +22,7 @@ use Rattle.text.specs.Weights.{weightOf, weightIn}
 use Rattle.text.specs.Fields.{letter, isSide, numberField, quantiserField, weightField, fieldOf, faultIn}
 use Rattle.text.specs.Written.{weightText, levelText}
 use Rattle.digits.specs.Written.{digitsOf, decimal}
-use Rattle.text.proofs.GoodLaws.{range-good, channels-good, quantiser-good, level-good, weight-good}
+use Rattle.text.proofs.GoodLaws.{range-good, count-good, channels-good, quantiser-good, level-good, weight-good}
 use Rattle.text.proofs.DecimalLaws.{number-canonical}
 use Rattle.digits.proofs.Lengths.{decimal-length}
 use Rattle.text.proofs.SpellingLaws.{weight-canonical, level-canonical, weight-length, level-length}
@@ -63,6 +63,12 @@ module _ (f : List ℕ) where
   -- a number from low to high is no longer than the number n, if high is not above it
   pub range-short : (k low high n : ℕ) → high ≤ n → faultIn (fieldOf (rule.Range k low high) f) ≡ none → length f ≤ length (decimal n)
   range-short k low high n h e = omega (arith, ap length (range-as k low high e), decimal-grow (numberValue (numberOf f)) n (omega (arith, range-good f k low high e .top)))
+
+  pub count-as : (most : ℕ) → faultIn (fieldOf (rule.Count most) f) ≡ none → decimal (numberValue (numberOf f)) ≡ f
+  count-as most e = as-written (count-good f most e .0)
+
+  pub count-short : (most : ℕ) → faultIn (fieldOf (rule.Count most) f) ≡ none → length f ≤ 4
+  count-short most e = omega (arith, ap length (count-as most e), decimal-length 3 (numberValue (numberOf f)) (omega (arith, count-good f most e .1)))
 
   pub side-as : (most : ℕ) → faultIn (fieldOf (rule.Side most) f) ≡ none → decimal (numberValue (numberOf f)) ≡ f
   unfolding fieldOf

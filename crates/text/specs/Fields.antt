@@ -38,6 +38,11 @@ abbrev pub quantiserField : Number → Field
 quantiserField (number.Is n) = cond (leb 1 n && leb n 255) (field.Quantiser n) (field.Bad 4)
 quantiserField number.Not = field.Bad 1
 
+-- "three iteration counts (0 to 1,000)", else 2; "15 .. an iteration count within 1,000 but above the caller's limit" (M-106)
+abbrev pub countField : ℕ → Number → Field
+countField most (number.Is n) = cond (leb n 1000) (cond (leb n most) field.Good (field.Bad 15)) (field.Bad 2)
+countField most number.Not = field.Bad 1
+
 abbrev pub weightField : WeightField → Field
 weightField (weight-field.Is w) = field.Good
 weightField (weight-field.Bad k) = field.Bad k
@@ -47,6 +52,7 @@ weightField (weight-field.Bad k) = field.Bad k
 unfoldable pub fieldOf : Rule → List ℕ → Field
 fieldOf (rule.Tag t) f = cond (letter t f) field.Good (field.Bad 1)
 fieldOf (rule.Range k low high) f = numberField k (λ n. leb low n && leb n high) (numberOf f)
+fieldOf (rule.Count most) f = countField most (numberOf f)
 fieldOf (rule.Side most) f = numberField 2 (isSide most) (numberOf f)
 fieldOf rule.Channels f = numberField 2 (λ n. eqb n 1 || eqb n 3) (numberOf f)
 fieldOf (rule.Letters a b) f = cond (letter a f || letter b f) field.Good (field.Bad 1)

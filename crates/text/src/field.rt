@@ -11,11 +11,12 @@ ghost use lib.ListN.{getD};
 ghost use Rattle.text.specs.Pieces.{split};
 ghost use Rattle.text.specs.Fields.{letter, fieldOf};
 
-// What a field must be: this one letter; a number from low to high, else this fault; a multiple of 8 from 8 to the most;
-// 1 or 3; one of two letters; a weight; a quantiser; a level.
+// What a field must be: this one letter; a number from low to high, else this fault; an iteration count up to the most; a
+// multiple of 8 from 8 to the most; 1 or 3; one of two letters; a weight; a quantiser; a level.
 pub enum Rule {
     Tag(u8),
     Range { fault: u8, low: u32, high: u32 },
+    Count(u32),
     Side(u32),
     Channels,
     Letters(u8, u8),
@@ -72,6 +73,21 @@ fn read_range(f: &[u8], fault: u8, low: u32, high: u32) -> Field
     }
     if high < n {
         return Field::Bad(fault);
+    }
+    Field::Good
+}
+
+fn read_count(f: &[u8], most: u32) -> Field
+    ensures { λ r. ⌜ r ≡ fieldOf (Rule.Count most) (now (f .entry)) ⌝ }
+{
+    let Number::Is(n) = number::read_number(f) else {
+        return Field::Bad(1);
+    };
+    if 1000 < n {
+        return Field::Bad(2);
+    }
+    if most < n {
+        return Field::Bad(15);
     }
     Field::Good
 }
@@ -152,6 +168,7 @@ pub fn read_field(rule: Rule, f: &[u8]) -> Field
     match rule {
         Rule::Tag(t) => read_tag(f, t),
         Rule::Range { fault, low, high } => read_range(f, fault, low, high),
+        Rule::Count(most) => read_count(f, most),
         Rule::Side(high) => read_side(f, high),
         Rule::Channels => read_channels(f),
         Rule::Letters(a, b) => read_letters(f, a, b),

@@ -5,4 +5,4 @@ use Rattle.sheet.proofs.walk.are_allowed.Tie as tie
 
 pub are-allowed-spec : {M : Type 1} → statement M
 are-allowed-spec = tie.close
-    (tie.spec (λ c. search limits) (λ c. search limits) (λ c. search limits))
+    (tie.spec (λ c. search limits) (λ c. search limits) (λ c. search limits) (λ c. search limits))

@@ -4,9 +4,9 @@ use Rattle.text.specs.Fields.{fieldOf}
 use Rattle.text.proofs.field.read_field.Statement.{statement}
 use Rattle.text.proofs.field.read_field.Tie as tie
 
-returns-8 : tie.Need-returns-8
+returns-9 : tie.Need-returns-9
 unfolding fieldOf
-returns-8 c = cc
+returns-9 c = cc
 
 pub read-field-spec : {M : Type 1} → statement M
 read-field-spec =
@@ -14,5 +14,5 @@ read-field-spec =
     (tie.spec (λ c. search needs) (λ c κs. search needs) (λ c. search needs) (λ c κs. search needs)
     (λ c. search needs) (λ c κs. search needs) (λ c. search needs) (λ c κs. search needs) (λ c. search needs)
     (λ c κs. search needs) (λ c. search needs) (λ c κs. search needs) (λ c. search needs) (λ c κs. search needs)
-    (λ c. search needs) (λ c κs. search needs) (λ c. cc) (λ c. cc) (λ c. cc) (λ c. cc) (λ c. cc) (λ c. cc)
-    (λ c. cc) returns-8)
+    (λ c. search needs) (λ c κs. search needs) (λ c. search needs) (λ c κs. search needs) (λ c. cc) (λ c. cc) (λ c. cc)
+    (λ c. cc) (λ c. cc) (λ c. cc) (λ c. cc) (λ c. cc) returns-9)
