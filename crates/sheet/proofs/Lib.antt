@@ -12,4 +12,5 @@ pub mod RoundTrip
 pub mod PrefixLaws
 pub mod BoundLaws
 pub mod CanonicalLaws
+pub mod PageLaws
 pub mod Examples

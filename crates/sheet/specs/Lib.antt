@@ -6,3 +6,4 @@ pub mod Walk
 pub mod Written
 pub mod Longest
 pub mod Accepts
+pub mod Page
