@@ -4,7 +4,7 @@ use mathlib.Core.Logic.{_⊎_, inl, inr}
 use mathlib.Core.Bool.{Bool, true, false, _&&_, _||_, cond}
 use mathlib.Core.List.{List, [], _∷_}
 use Prim.Native.Nat.{ℕ, zero, suc, _+_, _*_, _%_, _≤_, _<_}
-use native.Mathlib.Nat.{mul-comm}
+use native.Mathlib.Nat.{mul-comm, le-trans}
 use native.Mathlib.Omega.{arith}
 use lib.Dec.{T, eqb, leb, le→leb}
 use lib.IntN.{ℤ, pos, negsuc}
@@ -164,6 +164,9 @@ module _ (limits : Limits) (S : Sheet) (ls : List ℤ) (ts : List ℕ) (l : Lega
   full : (n : ℕ) → LegalSide (limits .side) n → LegalSide 512 n
   full n s = wider (limits .side) 512 n s (l .limits-legal .side .top)
 
+  thousand : (n : ℕ) → n ≤ limits .iterations → n ≤ 1000
+  thousand n k = le-trans k (l .limits-legal .iterations)
+
   joint-fine : Fine (joint S)
   unfolding joint
   joint-fine =
@@ -172,7 +175,7 @@ module _ (limits : Limits) (S : Sheet) (ls : List ℤ) (ts : List ℕ) (l : Lega
         three = refl;
         wide = full (h .width) (l .header .width);
         high = full (h .height) (l .header .height);
-        few = l .header .iterations0;
+        few = thousand (h .iterations0) (l .header .iterations0);
         smooth = weight-test (h .smoothing0) (l .header .smoothing0);
         count = l .header .channels;
         each =
@@ -195,7 +198,7 @@ module _ (limits : Limits) (S : Sheet) (ls : List ℤ) (ts : List ℕ) (l : Lega
         three = refl;
         wide = full (h .width) (l .header .width);
         high = full (h .height) (l .header .height);
-        few = below-3 (λ c. alone S c .n ≤ 1000) (l .header .iterations0) (l .header .iterations1) (l .header .iterations2) c third;
+        few = below-3 (λ c. alone S c .n ≤ 1000) (thousand (h .iterations0) (l .header .iterations0)) (thousand (h .iterations1) (l .header .iterations1)) (thousand (h .iterations2) (l .header .iterations2)) c third;
         smooth =
             below-3 (λ c. T (weight (alone S c .smoothing))) (weight-test (h .smoothing0) (l .header .smoothing0)) (weight-test (h .smoothing1) (l .header .smoothing1))
             (weight-test (h .smoothing2) (l .header .smoothing2)) c third;

@@ -42,9 +42,9 @@ unfoldable pub says : Outcome Contents → List ℕ
 says (Gives c) = sheetText (c .sheet) (c .held .levels) (c .held .tables)
 says (Refused k line) = refusalText k line
 
--- "W and H above 32 are 2 there"
+-- "W and H above 32 are 2 there"; "the batch program keeps 1,000" (M-106)
 abbrev pub limits : Limits
-limits = record { side = 32 }
+limits = record { side = 32; iterations = 1000 }
 
 unfoldable pub printed : List ℕ → List ℕ
 printed text = says (readText limits text)

@@ -139,7 +139,15 @@ fn read_with(text: &[u8], levels: &mut [i16], tables: &mut [u16], out: &mut [u8]
     requires { ⌜ (measuring limits (now text) ≡ Gives (record { levels = length (now levels); tables = length (now tables) })) × (mostPrinted ≤ length (now out)) ⌝ }
     ensures { λ r. ⌜ Wrote 0 (printed (now (text .entry))) (now (out .entry)) r (now (out .exit)) ⌝ }
 {
-    match sheet::read(text, Limits { side: 32 }, levels, tables) {
+    match sheet::read(
+        text,
+        Limits {
+            side: 32,
+            iterations: 1000,
+        },
+        levels,
+        tables,
+    ) {
         sheet::Answer::Sheet(s) => solved(s, &levels[..], &tables[..], out),
         sheet::Answer::Refused { number, line } => output::write_refusal(number, line, out),
     }
@@ -160,7 +168,13 @@ fn answer(text: &[u8], out: &mut [u8]) -> usize
     requires { ⌜ (length (now text) ≤ decisive 32) × (mostPrinted ≤ length (now out)) ⌝ }
     ensures { λ r. ⌜ Wrote 0 (printed (now (text .entry))) (now (out .entry)) r (now (out .exit)) ⌝ }
 {
-    match sheet::measure(text, Limits { side: 32 }) {
+    match sheet::measure(
+        text,
+        Limits {
+            side: 32,
+            iterations: 1000,
+        },
+    ) {
         Measured::Refused { number, line } => output::write_refusal(number, line, out),
         Measured::Lengths {
             levels: n,
