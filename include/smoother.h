@@ -31,7 +31,7 @@ extern "C" {
 enum smoother_answer {
     SMOOTHER_OK = 0,
     SMOOTHER_FORM = 1,     /* a line with a wrong tag, number of fields or spelling, over 1,024 bytes, or in the wrong place */
-    SMOOTHER_SIZE = 2,     /* a side, channel count or iteration count out of range, or a channel larger than the picture */
+    SMOOTHER_SIZE = 2,     /* a side, channel count or iteration count out of range, or a channel larger than the picture; also a limit that is none */
     SMOOTHER_FACTOR = 3,   /* an across or down factor that is not 1 to 4 */
     SMOOTHER_TABLE = 4,    /* a quantiser that is not 1 to 255 */
     SMOOTHER_LEVEL = 5,    /* a level beyond +-2,047 */
@@ -43,6 +43,7 @@ enum smoother_answer {
     SMOOTHER_DONE = 11,    /* the channel, or for blend any channel, has had all its steps */
     SMOOTHER_CHANNEL = 12, /* there is no such channel */
     SMOOTHER_RECORD = 13,  /* sizes, factors, weights, iterations, letter, positions or marks of no legal record */
+    SMOOTHER_PAGE = 15,    /* an iteration count within 1,000 but above the caller's limit */
     SMOOTHER_SEGMENT = 19,   /* a DQT segment with a wrong marker or stated length, or with fewer than 64 bytes left for a table */
     SMOOTHER_PRECISION = 20, /* a table of a DQT segment with a precision other than 0 or a destination above 3 */
     SMOOTHER_NOW_BLOWN = 255 /* project: done, and the channel is now marked blown; smoother_solve: a channel blew */
@@ -50,13 +51,16 @@ enum smoother_answer {
 
 /* ---- Reading a sheet text ---- */
 
-/* The largest side limit that measure and read take; the program `smooth` has 32. */
-#define SMOOTHER_LIMIT 512
+/* The largest limits that measure and read take. The program `smooth` has 32 and 1,000. */
+#define SMOOTHER_MOST_SIDE 512
+#define SMOOTHER_MOST_ITERATIONS 1000
 
-/* Measures a text of `text_len` bytes. `limit` is the largest full side that is accepted: a multiple of 8, 8 to 512, else 2 at line 0.
- * 0: *levels and *tables are the lengths that smoother_read needs, *line is 0.
- * 1 to 7: *line is the line at fault, counted from 1; *levels and *tables are unchanged. */
-uint32_t smoother_measure(const uint8_t *text, size_t text_len, uint32_t limit, size_t *levels, size_t *tables, size_t *line);
+/* Measures a text of `text_len` bytes. `side` is the largest full side that is accepted, a multiple of 8, 8 to 512; `iterations` the largest
+ * iteration count, 0 to 1,000, of spare ones too. Another limit is 2 at line 0, before the text is looked at.
+ * 0: *levels and *tables are the lengths that smoother_read needs, *line is 0. Whatever the limits, a text that is accepted reads as the same sheet.
+ * 1 to 7, 15: *line is the line at fault, counted from 1; *levels and *tables are unchanged. 15 is a count above `iterations`, at its field;
+ * one above 1,000 is 2. */
+uint32_t smoother_measure(const uint8_t *text, size_t text_len, uint32_t side, uint32_t iterations, size_t *levels, size_t *tables, size_t *line);
 
 /* Where the numbers of a sheet's record stand in `header`: the fields of line S, own sides and factors of three channels, then the
  * settings by their meaning, also where no line says them. */
@@ -78,9 +82,9 @@ enum smoother_header {
 
 /* Reads a text. `levels` and `tables` have the measured lengths, `header` has SMOOTHER_NUMBERS places.
  * 0: all three are filled, *line is 0. Levels are w x h values a channel, as in the B lines; tables are 64 quantisers a channel.
- * 1 to 7: as measure answers for this text. 8, with *line 0: the text is legal, a length is wrong. A refusal leaves the three as they were. */
-uint32_t smoother_read(const uint8_t *text, size_t text_len, uint32_t limit, int16_t *levels, size_t levels_len, uint16_t *tables,
-                       size_t tables_len, uint32_t *header, size_t header_len, size_t *line);
+ * 1 to 7, 15: as measure answers for this text. 8, with *line 0: the text is legal, a length is wrong. A refusal leaves the three as they were. */
+uint32_t smoother_read(const uint8_t *text, size_t text_len, uint32_t side, uint32_t iterations, int16_t *levels, size_t levels_len,
+                       uint16_t *tables, size_t tables_len, uint32_t *header, size_t header_len, size_t *line);
 
 /* ---- A run ---- */
 

@@ -113,7 +113,7 @@ int main(int argc, char **argv)
     }
     size_t text_len, n, m, line;
     uint8_t *text = contents(argv[1], &text_len);
-    uint32_t refused = smoother_measure(text, text_len, SMOOTHER_LIMIT, &n, &m, &line);
+    uint32_t refused = smoother_measure(text, text_len, SMOOTHER_MOST_SIDE, SMOOTHER_MOST_ITERATIONS, &n, &m, &line);
     if (refused) {
         fprintf(stderr, "%s: refused, %" PRIu32 " at line %zu\n", argv[1], refused, line);
         return 1;
@@ -121,7 +121,7 @@ int main(int argc, char **argv)
     int16_t *levels = space(n, sizeof *levels);
     uint16_t *tables = space(m, sizeof *tables);
     uint32_t sheet[SMOOTHER_NUMBERS];
-    done("read", smoother_read(text, text_len, SMOOTHER_LIMIT, levels, n, tables, m, sheet, SMOOTHER_NUMBERS, &line));
+    done("read", smoother_read(text, text_len, SMOOTHER_MOST_SIDE, SMOOTHER_MOST_ITERATIONS, levels, n, tables, m, sheet, SMOOTHER_NUMBERS, &line));
 
     struct smoother_run run = run_of(sheet);
     n = 0;

@@ -45,14 +45,15 @@ pub struct Numbered {
 #[no_mangle]
 pub extern "C" fn smoother_measure(
     text: &[u8],
-    limit: u32,
+    side: u32,
+    iterations: u32,
     levels: &mut usize,
     tables: &mut usize,
     line: &mut usize,
 ) -> u32
-    ensures { λ r. ⌜ Measures (measuring (record { side = limit }) (now (text .entry))) (now (levels .entry)) (now (levels .exit)) (now (tables .entry)) (now (tables .exit)) (now (line .exit)) r ⌝ }
+    ensures { λ r. ⌜ Measures (measuring (record { side = side; iterations = iterations }) (now (text .entry))) (now (levels .entry)) (now (levels .exit)) (now (tables .entry)) (now (tables .exit)) (now (line .exit)) r ⌝ }
 {
-    match sheet::measure(text, Limits { side: limit }) {
+    match sheet::measure(text, Limits { side, iterations }) {
         Measured::Lengths {
             levels: n,
             tables: m,
@@ -162,17 +163,18 @@ fn put(from: [u32; NUMBERS], to: &mut [u32])
 #[no_mangle]
 pub extern "C" fn smoother_read(
     text: &[u8],
-    limit: u32,
+    side: u32,
+    iterations: u32,
     levels: &mut [i16],
     tables: &mut [u16],
     header: &mut [u32],
     line: &mut usize,
 ) -> u32
-    ensures { λ r. ⌜ ReadsNumbers (withRecord (length (now (header .entry))) (reading (record { side = limit }) (now (text .entry)) (held (now (levels .entry)) (now (tables .entry)))))
+    ensures { λ r. ⌜ ReadsNumbers (withRecord (length (now (header .entry))) (reading (record { side = side; iterations = iterations }) (now (text .entry)) (held (now (levels .entry)) (now (tables .entry)))))
         (now (levels .entry)) (now (levels .exit)) (now (tables .entry)) (now (tables .exit)) (now (header .entry)) (now (header .exit)) (now (line .exit)) r ⌝ }
 {
     if header.len() == NUMBERS {
-        match sheet::read(text, Limits { side: limit }, levels, tables) {
+        match sheet::read(text, Limits { side, iterations }, levels, tables) {
             Answer::Sheet(s) => {
                 put(numbers(s), header);
                 *line = 0;
@@ -184,7 +186,7 @@ pub extern "C" fn smoother_read(
             }
         }
     } else {
-        match sheet::measure(text, Limits { side: limit }) {
+        match sheet::measure(text, Limits { side, iterations }) {
             Measured::Lengths {
                 levels: _,
                 tables: _,

@@ -6,7 +6,8 @@ exports! {
     pub fn smoother_measure(
         text: *const u8,
         text_len: usize,
-        limit: u32,
+        side: u32,
+        iterations: u32,
         levels: &mut usize,
         tables: &mut usize,
         line: &mut usize,
@@ -14,7 +15,8 @@ exports! {
     pub fn smoother_read(
         text: *const u8,
         text_len: usize,
-        limit: u32,
+        side: u32,
+        iterations: u32,
         levels: *mut i16,
         levels_len: usize,
         tables: *mut u16,

@@ -2,8 +2,9 @@
 //! itself: a call that can't be made is refused, and changes nothing.
 //!
 //! ```
+//! use smoother::Limits;
 //! let text = std::fs::read("../../samples/whole.tsv").expect("the sample");
-//! let sheet = smoother::read(&text, 512)?;
+//! let sheet = smoother::read(&text, Limits::default())?;
 //! let mut run = sheet.joint_run();
 //! let mut buffers = run.buffers();
 //! smoother::start(&mut run, &sheet.levels, &sheet.tables, &mut buffers)?;
@@ -29,5 +30,5 @@ pub use run::{
     serve_numbers, start,
 };
 pub use segments::{QUANTISERS, SEGMENT, dqt_export, dqt_export_into, dqt_import};
-pub use sheet::{Lengths, NUMBERS, Own, Rounding, Sheet, finish_into, measure, read, read_into, solve_into};
+pub use sheet::{Lengths, Limits, NUMBERS, Own, Rounding, Sheet, finish_into, measure, read, read_into, solve_into};
 pub use tapes::{rearrange, rearrange_into, restore, restore_into};

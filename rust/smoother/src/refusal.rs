@@ -18,6 +18,7 @@ pub enum Refusal {
     Done,
     Channel,
     Record,
+    Page = 15,
     Segment = 19,
     Precision,
 }
@@ -25,8 +26,10 @@ pub enum Refusal {
 use Refusal::*;
 
 impl Refusal {
-    pub const ALL: [Self; 15] =
-        [Form, Size, Factor, Table, Level, Weight, Cut, Length, Turn, Blown, Done, Channel, Record, Segment, Precision];
+    pub const ALL: [Self; 16] = [
+        Form, Size, Factor, Table, Level, Weight, Cut, Length, Turn, Blown, Done, Channel, Record, Page, Segment,
+        Precision,
+    ];
 
     pub const fn number(self) -> u32 {
         self as u32
@@ -58,6 +61,7 @@ impl Refusal {
             Done => "done",
             Channel => "channel",
             Record => "record",
+            Page => "page",
             Segment => "segment",
             Precision => "precision",
         }
@@ -67,7 +71,7 @@ impl Refusal {
         match self {
             Form => "a line with a wrong tag, number of fields or spelling, over 1,024 bytes, or in the wrong place",
             Size => {
-                "a side, channel count or iteration count out of range, or a channel larger than the picture; also a side limit that is none"
+                "a side, channel count or iteration count out of range, or a channel larger than the picture; also a limit that is none"
             }
             Factor => "an across or down factor that isn't 1 to 4",
             Table => "a quantiser that isn't 1 to 255",
@@ -80,6 +84,7 @@ impl Refusal {
             Done => "the channel has had all its steps",
             Channel => "there is no such channel",
             Record => "sizes, factors, weights, iterations, positions or marks of no legal record",
+            Page => "an iteration count within 1,000 but above the caller's limit",
             Segment => {
                 "a DQT segment with a wrong marker or stated length, or with fewer than 64 bytes left for a table"
             }

@@ -55,6 +55,22 @@ pub enum Rounding {
     Nearest,
 }
 
+/// What a caller allows. Whatever the limits, a text that is accepted reads as the same sheet.
+#[derive(Clone, Copy, Debug, PartialEq, Eq)]
+pub struct Limits {
+    /// The largest full side: a multiple of 8, 8 to 512. The program `smooth` has 32.
+    pub side: u32,
+    /// The largest iteration count, 0 to 1,000, of spare ones too.
+    pub iterations: u32,
+}
+
+/// The largest of each.
+impl Default for Limits {
+    fn default() -> Self {
+        Self { side: 512, iterations: 1_000 }
+    }
+}
+
 /// Numbers of a sheet's record.
 pub const NUMBERS: usize = 29;
 
@@ -62,11 +78,13 @@ fn at(line: usize) -> impl FnOnce(Error) -> Fault {
     move |error| Fault { error, line }
 }
 
-/// The lengths that a legal text needs; for any other, what `read` refuses it for. `limit` is the largest full side: a multiple of 8, 8 to 512.
-pub fn measure(text: &[u8], limit: u32) -> Result<Lengths, Fault> {
+/// The lengths that a legal text needs; for any other, what `read` refuses it for. Limits that no caller may set are refused (`Size`, line 0) before the text is looked at.
+pub fn measure(text: &[u8], limits: Limits) -> Result<Lengths, Fault> {
     let (mut levels, mut tables, mut line) = (0, 0, 0);
     // SAFETY: pointer and length are of one slice, the other three are references to locals.
-    let number = unsafe { lend!(smoother_measure(read text, limit, &mut levels, &mut tables, &mut line)) };
+    let number = unsafe {
+        lend!(smoother_measure(read text, limits.side, limits.iterations, &mut levels, &mut tables, &mut line))
+    };
     done(number).map(|()| Lengths { levels, tables }).map_err(at(line))
 }
 
@@ -74,22 +92,24 @@ pub fn measure(text: &[u8], limit: u32) -> Result<Lengths, Fault> {
 /// joint, 0 separate; weights as f32 bits), own sides and factors of three channels, then the rounding (0 truncated, 1 nearest) and the reordering (0 after each block, 1 once).
 pub fn read_into(
     text: &[u8],
-    limit: u32,
+    limits: Limits,
     levels: &mut [i16],
     tables: &mut [u16],
     header: &mut [u32],
 ) -> Result<(), Fault> {
     let mut line = 0;
     // SAFETY: each pointer and length are of one slice, and the slices do not overlap.
-    let number = unsafe { lend!(smoother_read(read text, limit, write levels, write tables, write header, &mut line)) };
+    let number = unsafe {
+        lend!(smoother_read(read text, limits.side, limits.iterations, write levels, write tables, write header, &mut line))
+    };
     done(number).map_err(at(line))
 }
 
 /// Reads a text.
-pub fn read(text: &[u8], limit: u32) -> Result<Sheet, Fault> {
-    let lengths = measure(text, limit)?;
+pub fn read(text: &[u8], limits: Limits) -> Result<Sheet, Fault> {
+    let lengths = measure(text, limits)?;
     let (mut levels, mut tables, mut n) = (vec![0; lengths.levels], vec![0; lengths.tables], [0; NUMBERS]);
-    read_into(text, limit, &mut levels, &mut tables, &mut n)?;
+    read_into(text, limits, &mut levels, &mut tables, &mut n)?;
     let three = |at: usize| [n[at], n[at + 1], n[at + 2]];
     let own = |at: usize| Own { width: n[at], height: n[at + 1], across: n[at + 2], down: n[at + 3] };
     Ok(Sheet {

@@ -22,7 +22,7 @@ pub fn restore_into(stored: &[i16], out: &mut [i16]) -> Result<(), Refusal> {
 /// [`rearrange_into`] a new vector.
 ///
 /// ```
-/// let sheet = smoother::read(&std::fs::read("../../samples/whole.tsv")?, 512)?;
+/// let sheet = smoother::read(&std::fs::read("../../samples/whole.tsv")?, smoother::Limits::default())?;
 /// let stored = smoother::rearrange(&sheet.levels)?;
 /// assert_eq!(smoother::restore(&stored)?, sheet.levels);
 /// # Ok::<(), Box<dyn std::error::Error>>(())

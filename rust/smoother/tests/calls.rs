@@ -36,7 +36,7 @@ fn joint(n: u32, data: &str) -> String {
 }
 
 fn sheet_of(text: &str) -> Sheet {
-    read(text.as_bytes(), 512).expect("legal")
+    read(text.as_bytes(), Limits::default()).expect("legal")
 }
 
 /// The joint run, started.
@@ -74,7 +74,7 @@ fn refused(
 #[test]
 fn whole_example_read_and_started() {
     let text = whole();
-    assert_eq!(measure(text.as_bytes(), 512), Ok(Lengths { levels: 64, tables: 64 }));
+    assert_eq!(measure(text.as_bytes(), Limits::default()), Ok(Lengths { levels: 64, tables: 64 }));
     let sheet = sheet_of(&text);
     let mut levels = vec![0; 64];
     levels[0] = 1;
@@ -143,10 +143,46 @@ fn texts_refused() {
         (whole() + "x", 512, fault(Refusal::Cut, 5)),
         (String::new(), 512, fault(Refusal::Cut, 1)),
     ];
-    for (text, limit, due) in cases {
-        assert_eq!(read(text.as_bytes(), limit).err(), due, "{text}");
-        assert_eq!(measure(text.as_bytes(), limit).err(), due, "{text}");
+    for (text, side, due) in cases {
+        let limits = Limits { side, ..Limits::default() };
+        assert_eq!(read(text.as_bytes(), limits).err(), due, "{text}");
+        assert_eq!(measure(text.as_bytes(), limits).err(), due, "{text}");
     }
+}
+
+/// Document 02, M-106: 15 at a count's field, after 1 and 2; a limit above 1,000 before the text.
+#[test]
+fn iteration_counts_above_the_callers_limit() {
+    let counts = |three: &str| whole().replacen("s\t0\t0\t0", &format!("s {three}").replace(' ', "\t"), 1);
+    let fault = |refusal, line| Some(Fault { error: Error::Refused(refusal), line });
+    let cases = [
+        (counts("50 0 50"), 50, None),
+        (counts("51 0 0"), 50, fault(Refusal::Page, 1)),
+        (counts("51 x 0"), 50, fault(Refusal::Page, 1)),
+        (counts("0 0 51"), 50, fault(Refusal::Page, 1)), // spare, as the sheet has one channel
+        (counts("x 51 0"), 50, fault(Refusal::Form, 1)),
+        (counts("1001 0 0"), 50, fault(Refusal::Size, 1)),
+        (counts("1000 1000 1000"), 1000, None),
+        (counts("1000 0 0"), 999, fault(Refusal::Page, 1)),
+        (counts("0 1 0"), 0, fault(Refusal::Page, 1)),
+        (whole(), 0, None),
+        (whole(), 1001, fault(Refusal::Size, 0)),
+        (whole(), 65_536 + 50, fault(Refusal::Size, 0)),
+        ("x".into(), 1001, fault(Refusal::Size, 0)),
+        (String::new(), u32::MAX, fault(Refusal::Size, 0)),
+    ];
+    for (text, iterations, due) in cases {
+        let limits = Limits { iterations, ..Limits::default() };
+        assert_eq!(read(text.as_bytes(), limits).err(), due, "{text}");
+        assert_eq!(measure(text.as_bytes(), limits).err(), due, "{text}");
+        assert_eq!(
+            read_into(text.as_bytes(), limits, &mut [], &mut [], &mut []).err(),
+            due.or(fault(Refusal::Length, 0))
+        );
+    }
+    let text = counts("50 0 0");
+    let page = Limits { iterations: 50, ..Limits::default() };
+    assert_eq!(read(text.as_bytes(), page), read(text.as_bytes(), Limits::default()));
 }
 
 #[test]
@@ -154,14 +190,14 @@ fn reading_into_wrong_lengths() {
     for (n, m, k) in [(63, 64, 29), (64, 65, 29), (64, 64, 28), (0, 0, 0)] {
         let (mut levels, mut tables, mut header) = (vec![7; n], vec![7; m], vec![7; k]);
         let due = Err(Fault { error: Refusal::Length.into(), line: 0 });
-        assert_eq!(read_into(whole().as_bytes(), 512, &mut levels, &mut tables, &mut header), due);
+        assert_eq!(read_into(whole().as_bytes(), Limits::default(), &mut levels, &mut tables, &mut header), due);
         assert!(levels.iter().all(|x| *x == 7) && tables.iter().all(|x| *x == 7) && header.iter().all(|x| *x == 7));
     }
 }
 
 #[test]
 fn table_of_refusals() {
-    let numbers: Vec<u32> = (1..=13).chain([19, 20]).collect();
+    let numbers: Vec<u32> = (1..=13).chain([15, 19, 20]).collect();
     assert_eq!(Refusal::ALL.map(Refusal::number).to_vec(), numbers);
     for refusal in Refusal::ALL {
         assert_eq!(Refusal::of_number(refusal.number()), Some(refusal));
@@ -181,6 +217,7 @@ fn table_of_refusals() {
         "done",
         "channel",
         "record",
+        "page",
         "segment",
         "precision",
     ];
@@ -393,6 +430,12 @@ fn solve_refuses() {
         assert_eq!(solve_into(numbers, levels, &sheet.tables, &mut b), Err(why.into()));
     }
     assert_eq!(bits(&b), before);
-    assert_eq!(finish_into(Rounding::Truncate, [16, 16, 17, 9], 3, &b.plane, &mut [0; 459]), Err(Refusal::Record.into()));
-    assert_eq!(finish_into(Rounding::Nearest, [16, 16, 13, 9], 3, &b.plane, &mut [0; 352]), Err(Refusal::Length.into()));
+    assert_eq!(
+        finish_into(Rounding::Truncate, [16, 16, 17, 9], 3, &b.plane, &mut [0; 459]),
+        Err(Refusal::Record.into())
+    );
+    assert_eq!(
+        finish_into(Rounding::Nearest, [16, 16, 13, 9], 3, &b.plane, &mut [0; 352]),
+        Err(Refusal::Length.into())
+    );
 }

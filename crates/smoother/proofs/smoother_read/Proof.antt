@@ -58,7 +58,7 @@ returns c =
     let a = c .before .before .before .before .before .before .before .before .before .before .before .before .before .before .before .before .before .before .args in
     let s = c .before .before .before .before .before .before .s .given in
     let r = c .before .before .before .before .before .before .before .before .before .before .before .read in
-    read-given _ _ _ _ (now (a .header)) _ (reading (record { side = a .limit }) (now (a .text)) (held (now (a .levels)) (now (a .tables)))) (r .result) _ (c .before .before .before .before .before .before .before .before .before .before .before .before .before .before .if1 .taken) (r .ensures .answer) (s .1)
+    read-given _ _ _ _ (now (a .header)) _ (reading (record { side = a .side; iterations = a .iterations }) (now (a .text)) (held (now (a .levels)) (now (a .tables)))) (r .result) _ (c .before .before .before .before .before .before .before .before .before .before .before .before .before .before .if1 .taken) (r .ensures .answer) (s .1)
     (r .ensures .held) (c .before .before .put .ensures ∙ c .before .before .before .before .numbers .ensures)
 
 same-length-4 : tie.Need-same-length-4
@@ -71,20 +71,20 @@ returns-2 : tie.Need-returns-2
 returns-2 c =
     let a = c .before .before .before .before .before .before .before .before .before .before .before .before .before .args in
     let r = c .before .before .before .before .before .before .read in
-    read-refused _ _ _ _ (now (a .header)) (now (a .header)) (reading (record { side = a .limit }) (now (a .text)) (held (now (a .levels)) (now (a .tables)))) (r .result) _ _ (r .ensures .answer) (c .before .number .given .1)
+    read-refused _ _ _ _ (now (a .header)) (now (a .header)) (reading (record { side = a .side; iterations = a .iterations }) (now (a .text)) (held (now (a .levels)) (now (a .tables)))) (r .result) _ _ (r .ensures .answer) (c .before .number .given .1)
     (r .ensures .held)
 
 returns-3 : tie.Need-returns-3
 returns-3 c =
     let a = c .before .before .before .before .before .before .before .args in
     let m = c .before .before .measure in
-    short (now (a .levels)) (now (a .tables)) (now (a .header)) (c .before .before .before .if1 .left) (readText (record { side = a .limit }) (now (a .text))) (m .result) _ _ (m .ensures) (c .enum-told .given .1)
+    short (now (a .levels)) (now (a .tables)) (now (a .header)) (c .before .before .before .if1 .left) (readText (record { side = a .side; iterations = a .iterations }) (now (a .text))) (m .result) _ _ (m .ensures) (c .enum-told .given .1)
 
 returns-4 : tie.Need-returns-4
 returns-4 c =
     let a = c .before .before .before .before .before .before .before .before .args in
     let m = c .before .before .before .measure in
-    short-refused (now (a .levels)) (now (a .tables)) (now (a .header)) (c .before .before .before .before .if1 .left) (readText (record { side = a .limit }) (now (a .text))) (m .result) _ _ (m .ensures) (c .before .number2 .given .1)
+    short-refused (now (a .levels)) (now (a .tables)) (now (a .header)) (c .before .before .before .before .if1 .left) (readText (record { side = a .side; iterations = a .iterations }) (now (a .text))) (m .result) _ _ (m .ensures) (c .before .number2 .given .1)
 
 pub smoother-read-spec : {M : Type 1} → statement M
 smoother-read-spec =
