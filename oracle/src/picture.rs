@@ -4,7 +4,7 @@ use crate::{
     floats::same,
     published::{each, once},
     run::runs,
-    sheet::{Reorder, Rounding, Sheet, joined, read},
+    sheet::{Reorder, Rounding, SMOOTH, Sheet, joined, read},
 };
 use artefact::{
     AlignedF32,
@@ -12,9 +12,9 @@ use artefact::{
     pipeline::open::finish,
 };
 
-/// What the program `smooth` prints for a text: "W and H above 32 are 2 there".
+/// What the program `smooth` prints for a text.
 pub fn smooth(text: &[u8]) -> String {
-    match read(text, 32).and_then(|sheet| picture(&sheet).ok_or((10, 0))) {
+    match read(text, SMOOTH).and_then(|sheet| picture(&sheet).ok_or((10, 0))) {
         Ok(image) => lines(&image),
         Err((number, line)) => format!("X\t{number}\t{line}\n"),
     }
@@ -135,7 +135,7 @@ mod tests {
 
     #[test]
     fn start_is_reordered_repeatedly_or_once() {
-        let mut sheet = read(&example(), 32).expect("legal");
+        let mut sheet = read(&example(), SMOOTH).expect("legal");
         (sheet.w, sheet.channels[0].w) = (16, 16);
         sheet.channels[0].levels.extend([0; 64]);
         let v = 1.0 - 2.0_f32.powi(-24);

@@ -1,6 +1,6 @@
 //! The exports of the proved libraries `probe` and `smoother` that the programs here call, and safe functions over those for a sheet. All sizes are usize;
 //! a slice is a pointer and a length. Where a library was missing at build time, a call ends the program.
-use crate::jobs::Buffers;
+use crate::{jobs::Buffers, sheet::Limits};
 use ffi::lend;
 
 pub use crate::calls::Record as Run;
@@ -164,19 +164,21 @@ pub use probes::*;
 /// How many numbers a sheet's record has: the fields of line S, own sides and factors of three channels, then the settings F and A.
 pub const NUMBERS: usize = 29;
 
-pub fn measure(text: &[u8], limit: u32, levels: &mut usize, tables: &mut usize, line: &mut usize) -> u32 {
-    unsafe { lend!(smoother_measure(read text, limit, levels, tables, line)) }
+pub fn measure(text: &[u8], limits: Limits, levels: &mut usize, tables: &mut usize, line: &mut usize) -> u32 {
+    unsafe { lend!(smoother_measure(read text, limits.side, limits.iterations, levels, tables, line)) }
 }
 
 pub fn read(
     text: &[u8],
-    limit: u32,
+    limits: Limits,
     levels: &mut [i16],
     tables: &mut [u16],
     header: &mut [u32],
     line: &mut usize,
 ) -> u32 {
-    unsafe { lend!(smoother_read(read text, limit, write levels, write tables, write header, line)) }
+    unsafe {
+        lend!(smoother_read(read text, limits.side, limits.iterations, write levels, write tables, write header, line))
+    }
 }
 
 pub fn solve(header: &[u32], levels: &[i16], tables: &[u16], six: &mut Buffers) -> u32 {

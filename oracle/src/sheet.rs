@@ -11,6 +11,7 @@ const TABLE: Fault = 4;
 const LEVEL: Fault = 5;
 const WEIGHT: Fault = 6;
 const CUT: Fault = 7;
+const PAGE: Fault = 15;
 
 #[derive(Clone, Copy, Debug, PartialEq)]
 pub enum Weight {
@@ -70,10 +71,29 @@ pub struct Sheet {
     pub channels: Vec<Channel>,
 }
 
-/// Reads a whole text. `limit` is the largest full side: 512, or 32 in `smooth`.
-pub fn read(text: &[u8], limit: u32) -> Result<Sheet, Refusal> {
+/// What a caller allows: the largest full side, and the largest iteration count (M-106).
+#[derive(Clone, Copy, Debug, PartialEq)]
+pub struct Limits {
+    pub side: u32,
+    pub iterations: u32,
+}
+
+/// Of the library.
+pub const MOST: Limits = Limits { side: 512, iterations: 1000 };
+/// Of the program `smooth`: "W and H above 32 are 2 there"; "the batch program keeps 1,000".
+pub const SMOOTH: Limits = Limits { side: 32, ..MOST };
+
+fn full_side(n: u32, most: u32) -> bool {
+    n % 8 == 0 && (8..=most).contains(&n)
+}
+
+/// Reads a whole text. "a parameter above 1,000 is 2, line 0, before the text is read", and so is a side limit that could be no side.
+pub fn read(text: &[u8], limits: Limits) -> Result<Sheet, Refusal> {
+    if limits.iterations > MOST.iterations || !full_side(limits.side, MOST.side) {
+        return Err((SIZE, 0));
+    }
     let mut lines = Lines { rest: text, line: 0 };
-    lines.sheet(limit).map_err(|fault| (fault, lines.line))
+    lines.sheet(limits).map_err(|fault| (fault, lines.line))
 }
 
 struct Lines<'a> {
@@ -128,10 +148,10 @@ impl<'a> Lines<'a> {
         letters.iter().find(|(due, _)| *due == letter).map(|(_, meant)| Some(*meant)).ok_or(FORM)
     }
 
-    fn sheet(&mut self, limit: u32) -> Result<Sheet, Fault> {
+    fn sheet(&mut self, limits: Limits) -> Result<Sheet, Fault> {
         let mut fields = self.next(b"S", 16)?;
         let mut field = || fields.next().expect("counted");
-        let side = |n| n % 8 == 0 && (8..=limit).contains(&n);
+        let side = |n| full_side(n, limits.side);
         let w = number_in(field(), side, SIZE)?;
         let h = number_in(field(), side, SIZE)?;
         let picture_w = number_in(field(), |n| (1..=w).contains(&n), SIZE)?;
@@ -142,7 +162,10 @@ impl<'a> Lines<'a> {
             b"s" => false,
             _ => return Err(FORM),
         };
-        let mut count = || number_in(field(), |n| n <= 1000, SIZE);
+        let mut count = || match number_in(field(), |n| n <= 1000, SIZE)? {
+            n if n > limits.iterations => Err(PAGE),
+            n => Ok(n),
+        };
         let counts = [count()?, count()?, count()?];
         let smoothing = [weight(field())?, weight(field())?, weight(field())?];
         let data = [weight(field())?, weight(field())?, weight(field())?];

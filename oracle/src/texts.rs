@@ -1,7 +1,7 @@
 //! Sheet texts at random: legal ones, and ones damaged at each of document 01's rules; and fixed ones with their answers.
 use crate::{
     random::Random,
-    sheet::{Channel, Refusal, Reorder, Rounding, Sheet, Weight, read},
+    sheet::{Channel, Refusal, Reorder, Rounding, SMOOTH, Sheet, Weight, read},
 };
 use std::{fs, path::Path};
 
@@ -499,6 +499,100 @@ pub fn fixed() -> Vec<(&'static str, Vec<u8>, Option<Refusal>)> {
     all
 }
 
+/// Texts that tell readings of M-106 apart, each with the caller's limit of iterations and what document 02 gives at it; the side limit is 32. None is a
+/// legal text.
+pub fn paged() -> Vec<(Vec<u8>, u32, Option<Refusal>)> {
+    let (whole, end) = (example(), example().iter().position(|b| *b == b'\n').expect("a line"));
+    let long = |length: usize| {
+        let short = edited(&[(0, 7, "51")]);
+        [&short[..end + 1], &vec![b'0'; length - end - 1], &short[end + 1..]].concat()
+    };
+    let bad_f = String::from_utf8_lossy(&edited(&[(0, 7, "51")])).replacen("w0\n", "w0\nF\tx\n", 1).into_bytes();
+    let counts = |a: &'static str, b: &'static str, c: &'static str| edited(&[(0, 7, a), (0, 8, b), (0, 9, c)]);
+    vec![
+        (counts("50", "50", "50"), 50, None),
+        (counts("51", "0", "0"), 50, Some((15, 1))),
+        (counts("0", "51", "0"), 50, Some((15, 1))), // spare counts too
+        (counts("0", "0", "51"), 50, Some((15, 1))),
+        (counts("1001", "0", "0"), 50, Some((2, 1))), // above 1,000 before the limit
+        (counts("999999", "0", "0"), 50, Some((2, 1))),
+        (counts("1000000", "0", "0"), 50, Some((1, 1))), // spelling first
+        (counts("051", "0", "0"), 50, Some((1, 1))),
+        (counts("51", "x", "0"), 50, Some((15, 1))), // before the next field
+        (counts("x", "51", "0"), 50, Some((1, 1))),
+        (counts("51", "1001", "0"), 50, Some((15, 1))),
+        (counts("1001", "51", "0"), 50, Some((2, 1))),
+        (edited(&[(0, 1, "9"), (0, 7, "51")]), 50, Some((2, 1))),
+        (edited(&[(0, 6, "k"), (0, 7, "51")]), 50, Some((1, 1))),
+        (edited(&[(0, 9, "51"), (0, 10, "x")]), 50, Some((15, 1))),
+        (edited(&[(0, 9, "51"), (1, 1, "9")]), 50, Some((15, 1))), // before the next line
+        (edited(&[(0, 0, "s"), (0, 7, "51")]), 50, Some((1, 1))),
+        (bad_f, 50, Some((15, 1))),
+        (long(1024), 50, Some((15, 1))), // before the weight that is misspelt
+        (long(1025), 50, Some((1, 1))),
+        (edited(&[(0, 7, "51")])[..end + 1].into(), 50, Some((7, 1))),
+        (whole[..end].into(), 50, Some((7, 1))),
+        (whole.clone(), 50, None),
+        (whole.clone(), 0, None), // only three zeros pass
+        (counts("1", "0", "0"), 0, Some((15, 1))),
+        (counts("0", "0", "1"), 0, Some((15, 1))),
+        (counts("1", "1", "1"), 1, None),
+        (counts("2", "0", "0"), 1, Some((15, 1))),
+        (counts("50", "0", "0"), 49, Some((15, 1))),
+        (counts("51", "0", "0"), 51, None),
+        (counts("999", "999", "999"), 999, None),
+        (counts("1000", "0", "0"), 999, Some((15, 1))),
+        (counts("1000", "1000", "1000"), 1000, None),
+        (counts("1001", "0", "0"), 1000, Some((2, 1))),
+        (whole.clone(), 1001, Some((2, 0))), // the limit before the text
+        (b"x".into(), 1001, Some((2, 0))),
+        (vec![], 1001, Some((2, 0))),
+        (counts("1001", "0", "0"), 1001, Some((2, 0))),
+        (whole.clone(), 65_536 + 50, Some((2, 0))),
+        (whole.clone(), 256 + 50 + 65_536 * 4, Some((2, 0))),
+        (whole, u32::MAX, Some((2, 0))),
+    ]
+}
+
+/// `count` limits of iterations, and a text for each whose counts lie about it: half of them within it, two in three damaged once or twice.
+pub fn pages(seed: u64, count: u64, side: u32) -> Vec<(u32, Vec<u8>)> {
+    let mut r = Random::new(seed);
+    let mut page = || {
+        let most = limit(&mut r);
+        let mut sheet = legal(&mut r, side, 1000);
+        sheet.counts = sheet.counts.map(|_| about(&mut r, most));
+        if r.one_in(2) {
+            sheet.counts = sheet.counts.map(|n| n.min(most));
+        }
+        let mut text = sheet.text();
+        for _ in 0..r.below(3) {
+            r.pick(&DAMAGES).1(&mut r, &mut text);
+        }
+        (most, text)
+    };
+    (0..count).map(|_| page()).collect()
+}
+
+/// Limits of iterations at which something changes.
+pub const LIMITS: [u32; 8] = [0, 1, 49, 50, 51, 999, 1000, 1001];
+
+fn limit(r: &mut Random) -> u32 {
+    match r.below(8) {
+        0..4 => r.pick(&LIMITS),
+        4..7 => r.between(0, 1000) as u32,
+        _ => r.pick(&[1002, 1024, 65_536 + 50, 16_777_216, u32::MAX]).max(r.bits() >> r.below(20)),
+    }
+}
+
+/// A count at a limit or beside it, or at another place where something changes, or any.
+fn about(r: &mut Random, limit: u32) -> u32 {
+    match r.below(4) {
+        0 | 1 => r.pick(&[limit.saturating_sub(1), limit, limit.saturating_add(1)]).min(999_999),
+        2 => r.pick(&LIMITS),
+        _ => r.between(0, 1000) as u32,
+    }
+}
+
 /// Texts about as long as the longest that `smooth` accepts, and beyond, with their answers.
 pub fn long() -> Vec<(Vec<u8>, Option<Refusal>)> {
     let channel = Channel { w: 32, h: 32, across: 1, down: 1, table: vec![255; 64], levels: vec![-2047; 1024] };
@@ -536,7 +630,7 @@ pub fn long() -> Vec<(Vec<u8>, Option<Refusal>)> {
 
 /// Sheets that tell readings of document 01 apart by whether a channel is blown.
 pub fn fixed_runs() -> Vec<(&'static str, Sheet, bool)> {
-    let one = read(&example(), 32).expect("legal");
+    let one = read(&example(), SMOOTH).expect("legal");
     let sheet = |joint: bool, channels: usize, counts: [u32; 3], data: [u32; 3]| Sheet {
         joint,
         counts,
@@ -569,31 +663,51 @@ pub fn pack<T>(folder: &Path, texts: &[(T, Vec<u8>)], answers: impl Iterator<Ite
 #[cfg(test)]
 mod tests {
     use super::*;
+    use crate::sheet::{Limits, MOST};
 
     #[test]
     fn fixed_texts() {
         for (name, text, answer) in fixed() {
-            assert_eq!(read(&text, 32).err(), answer, "{name}: {}", String::from_utf8_lossy(&text));
+            assert_eq!(read(&text, SMOOTH).err(), answer, "{name}: {}", String::from_utf8_lossy(&text));
         }
         for (text, answer) in long() {
-            assert_eq!(read(&text, 32).err(), answer, "{} bytes", text.len());
+            assert_eq!(read(&text, SMOOTH).err(), answer, "{} bytes", text.len());
+        }
+    }
+
+    #[test]
+    fn fixed_pages() {
+        for (text, iterations, answer) in paged() {
+            let limits = Limits { iterations, ..SMOOTH };
+            assert_eq!(read(&text, limits).err(), answer, "{iterations}: {}", String::from_utf8_lossy(&text));
+        }
+    }
+
+    /// A limit of iterations refuses by 15 or changes nothing; so does a smaller one.
+    #[test]
+    fn a_larger_limit() {
+        for (_, text) in pages(1, 3000, 32) {
+            let at = |iterations| read(&text, Limits { iterations, ..SMOOTH });
+            for (most, more) in [(0, 1), (1, 49), (49, 50), (50, 51), (51, 999), (999, 1000)] {
+                assert!(at(most) == Err((15, 1)) || at(most) == at(more));
+            }
         }
     }
 
     #[test]
     fn sides_up_to_512_in_the_library() {
-        assert_eq!(read(&edited(&[(0, 1, "512")]), 512).err(), None);
-        assert_eq!(read(&edited(&[(0, 1, "520")]), 512).err(), Some((2, 1)));
-        assert_eq!(read(&edited(&[(0, 1, "40"), (0, 6, "k")]), 512).err(), Some((1, 1)));
+        assert_eq!(read(&edited(&[(0, 1, "512")]), MOST).err(), None);
+        assert_eq!(read(&edited(&[(0, 1, "520")]), MOST).err(), Some((2, 1)));
+        assert_eq!(read(&edited(&[(0, 1, "40"), (0, 6, "k")]), MOST).err(), Some((1, 1)));
     }
 
     #[test]
     fn written_sheets_are_read_back() {
         let mut r = Random::new(1);
-        for limit in [32, 512] {
+        for limits in [SMOOTH, MOST] {
             for _ in 0..300 {
-                let sheet = legal(&mut r, limit, 1000);
-                assert_eq!(read(&sheet.text(), limit), Ok(sheet));
+                let sheet = legal(&mut r, limits.side, 1000);
+                assert_eq!(read(&sheet.text(), limits), Ok(sheet));
             }
         }
     }

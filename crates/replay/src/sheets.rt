@@ -1,4 +1,4 @@
-// The reading of a sheet text: `read`, the side limit, the refusal's number and line, a digest of what was read, and the text's bytes.
+// The reading of a sheet text: `read`, the limits of sides and of iterations, the refusal's number and line, a digest of what was read, and the text's bytes.
 use contents::Limits;
 use float::bits::to_bits;
 use interval::whole;
@@ -81,8 +81,8 @@ fn refused(number: u8, line: usize) -> Given {
 }
 
 // Reads into the front of the buffers, where there is room.
-fn read_text(text: &[u8], limit: u32, levels: &mut [i16], tables: &mut [u16]) -> Given {
-    match sheet::read(text, Limits { side: limit }, levels, tables) {
+fn read_text(text: &[u8], limits: Limits, levels: &mut [i16], tables: &mut [u16]) -> Given {
+    match sheet::read(text, limits, levels, tables) {
         Answer::Sheet(s) => {
             let header = smoother::numbers(s);
             let d = with_header(0, &header);
@@ -97,8 +97,8 @@ fn read_text(text: &[u8], limit: u32, levels: &mut [i16], tables: &mut [u16]) ->
     }
 }
 
-fn read_measured(text: &[u8], limit: u32, levels: &mut [i16], tables: &mut [u16]) -> Given {
-    match sheet::measure(text, Limits { side: limit }) {
+fn read_measured(text: &[u8], limits: Limits, levels: &mut [i16], tables: &mut [u16]) -> Given {
+    match sheet::measure(text, limits) {
         Measured::Lengths {
             levels: n,
             tables: m,
@@ -109,18 +109,18 @@ fn read_measured(text: &[u8], limit: u32, levels: &mut [i16], tables: &mut [u16]
             if tables.len() < m {
                 return refused(255, m);
             }
-            read_text(text, limit, &mut levels[0..n], &mut tables[0..m])
+            read_text(text, limits, &mut levels[0..n], &mut tables[0..m])
         }
         Measured::Refused { number, line } => refused(number, line),
     }
 }
 
-fn read_bytes(text: &[u8], n: usize, limit: u32) -> Given
+fn read_bytes(text: &[u8], n: usize, limits: Limits) -> Given
     requires { ⌜ n ≤ length (now text) ⌝ }
 {
     let mut levels = [0i16; 3072];
     let mut tables = [0u16; 192];
-    read_measured(&text[0..n], limit, &mut levels, &mut tables)
+    read_measured(&text[0..n], limits, &mut levels, &mut tables)
 }
 
 // Whether word k is this number.
@@ -134,13 +134,15 @@ pub fn same_read(s: &[u8], at: usize) -> bool
     requires { ⌜ at ≤ length (now s) ⌝ }
 {
     let mut text = [0u8; 4096];
-    let n = bytes(s, word_at(s, at, 5), &mut text);
-    let g = read_bytes(&text, n, number(s, word_at(s, at, 1)));
-    if !is_word(s, at, 2, g.number) {
+    let n = bytes(s, word_at(s, at, 6), &mut text);
+    let side = number(s, word_at(s, at, 1));
+    let iterations = number(s, word_at(s, at, 2));
+    let g = read_bytes(&text, n, Limits { side, iterations });
+    if !is_word(s, at, 3, g.number) {
         return false;
     }
-    if !is_word(s, at, 3, g.line) {
+    if !is_word(s, at, 4, g.line) {
         return false;
     }
-    is_word(s, at, 4, g.digest)
+    is_word(s, at, 5, g.digest)
 }

@@ -8,7 +8,7 @@ use oracle::{
     picture::smooth,
     program::{Ending, answers, run_patiently, well_formed},
     random::Random,
-    sheet::read,
+    sheet::{SMOOTH, read},
     tally::Tally,
     texts::{self, DAMAGES, example},
 };
@@ -149,7 +149,7 @@ fn damaged(r: &mut Random) -> Vec<u8> {
 
 /// The same text, but for iteration counts above STEPS in a legal sheet.
 fn short(text: Vec<u8>) -> Vec<u8> {
-    match read(&text, 32) {
+    match read(&text, SMOOTH) {
         Ok(mut sheet) if sheet.counts.iter().any(|n| *n > STEPS) => {
             sheet.counts = sheet.counts.map(|n| n.min(STEPS));
             sheet.text()

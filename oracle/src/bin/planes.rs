@@ -12,7 +12,7 @@ use oracle::{
     picture::{drawn, nearest, planes, solved},
     probe,
     random::Random,
-    sheet::{Channel, Reorder, Rounding, Sheet, Weight},
+    sheet::{Channel, MOST, Reorder, Rounding, Sheet, Weight},
     tally::Tally,
     texts::{fixed_runs, legal},
 };
@@ -46,9 +46,9 @@ impl Lent {
     /// By the proved reader. The six hold values left over from something else.
     fn read(r: &mut Random, text: &[u8]) -> Self {
         let (mut n, mut m, mut line) = (0, 0, 0);
-        let measured = probe::measure(text, 512, &mut n, &mut m, &mut line);
+        let measured = probe::measure(text, MOST, &mut n, &mut m, &mut line);
         let (mut levels, mut tables, mut numbers) = (vec![0; n], vec![0; m], vec![0; probe::NUMBERS]);
-        let read = probe::read(text, 512, &mut levels, &mut tables, &mut numbers, &mut line);
+        let read = probe::read(text, MOST, &mut levels, &mut tables, &mut numbers, &mut line);
         assert_eq!((measured, read), (0, 0), "a legal text");
         let all = (numbers[4] * numbers[0] * numbers[1]) as usize;
         let left = any(r);

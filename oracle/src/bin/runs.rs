@@ -11,7 +11,7 @@ use oracle::{
     random::Random,
     replay::{Calls, digest, fits, line},
     run::{Run, runs},
-    sheet::{Channel, Reorder, Sheet, Weight, read},
+    sheet::{Channel, Reorder, SMOOTH, Sheet, Weight, read},
     texts::{WEIGHTS, example},
 };
 
@@ -215,7 +215,7 @@ fn refused(before: &Lent, fill: f32) {
 
 /// Document 01's start of 16 by 8 with either letter of line `A`; then two lines of blocks, and three channels apart, with `o`.
 fn reordered(sheets: &[Sheet]) -> Vec<Sheet> {
-    let mut wide = read(&example(), 32).expect("legal");
+    let mut wide = read(&example(), SMOOTH).expect("legal");
     (wide.w, wide.channels[0].w) = (16, 16);
     wide.channels[0].levels.extend([0; 64]);
     let with = |sheet: &Sheet, letter| Sheet { reorder: Some(letter), ..sheet.clone() };
@@ -249,7 +249,7 @@ fn main() {
         |i: usize, default: u64| std::env::args().nth(i).map_or(default, |a| a.parse().expect("a whole number"));
     let mut r = Random::new(number(2, 1));
     let fills = [0.0, f32::NAN, -0.0, 1.0];
-    let fixed = SHEETS.iter().map(|text| read(text.as_bytes(), 32).expect("a legal sheet"));
+    let fixed = SHEETS.iter().map(|text| read(text.as_bytes(), SMOOTH).expect("a legal sheet"));
     let mut sheets: Vec<Sheet> = fixed.chain(FORMS.iter().map(|form| sheet(&mut r, form))).collect();
     sheets.extend(reordered(&sheets));
     for (sheet, fill) in sheets.iter().zip(fills.into_iter().cycle()) {

@@ -10,7 +10,7 @@ use oracle::{
     bench::best,
     probe,
     random::Random,
-    sheet::{Channel, Refusal, Reorder, Rounding, Sheet, Weight, joined, read},
+    sheet::{Channel, Limits, MOST, Refusal, Reorder, Rounding, SMOOTH, Sheet, Weight, joined, read},
     tally::Tally,
     texts,
 };
@@ -45,8 +45,8 @@ enum Given {
     Sheet(Vec<i16>, Vec<u16>, Vec<u32>),
 }
 
-fn expected(text: &[u8], limit: u32) -> Given {
-    let sheet = match read(text, limit) {
+fn expected(text: &[u8], limits: Limits) -> Given {
+    let sheet = match read(text, limits) {
         Err((number, line)) => return Given::Refused(number, line),
         Ok(sheet) => sheet,
     };
@@ -64,9 +64,9 @@ fn expected(text: &[u8], limit: u32) -> Given {
 
 /// The proved reader: measuring, then reading into buffers of `spare` more values than it asks for. Buffers start as 7s, and a
 /// refusal must leave them so.
-fn proved(text: &[u8], limit: u32, spare: (usize, usize, usize)) -> Given {
+fn proved(text: &[u8], limits: Limits, spare: (usize, usize, usize)) -> Given {
     let (mut n, mut m, mut line) = (7, 7, 7);
-    let measured = probe::measure(text, limit, &mut n, &mut m, &mut line);
+    let measured = probe::measure(text, limits, &mut n, &mut m, &mut line);
     let measured_line = line;
     if measured != 0 {
         assert_eq!((n, m), (7, 7), "a refusal leaves both lengths");
@@ -74,7 +74,7 @@ fn proved(text: &[u8], limit: u32, spare: (usize, usize, usize)) -> Given {
     let mut levels = vec![7i16; n + spare.0];
     let mut tables = vec![7u16; m + spare.1];
     let mut header = vec![7u32; probe::NUMBERS + spare.2];
-    let number = probe::read(text, limit, &mut levels, &mut tables, &mut header, &mut line);
+    let number = probe::read(text, limits, &mut levels, &mut tables, &mut header, &mut line);
     if number == 0 {
         assert_eq!((measured, line), (0, 0), "measuring accepts what reading accepts");
         return Given::Sheet(levels, tables, header);
@@ -87,19 +87,23 @@ fn proved(text: &[u8], limit: u32, spare: (usize, usize, usize)) -> Given {
     Given::Refused(number, line)
 }
 
-/// `read`, the limit, the refusal's number and line, a digest of what was read, all in hexadecimal, and the text's bytes.
+/// `read`, the limits of sides and of iterations, the refusal's number and line, a digest of what was read, all in hexadecimal, and the text's bytes.
 fn list(count: u64, seed: u64) {
     let texts = texts::all(seed, 8 * count, 32, 1000);
     let fixed = texts.iter().filter(|(kind, _)| kind.starts_with("fixed"));
     let random = texts.iter().filter(|(kind, _)| !kind.starts_with("fixed"));
     let random = random.filter(|(_, text)| text.len() < 1000).step_by(3).take(count as usize);
-    for (_, text) in fixed.filter(|(_, text)| text.len() < 4000).chain(random) {
-        let (number, line, digest) = match expected(text, 32) {
+    let wide = fixed.filter(|(_, text)| text.len() < 4000).chain(random).map(|(_, text)| (1000, text.clone()));
+    let paged = texts::paged().into_iter().map(|(text, iterations, _)| (iterations, text));
+    let pages =
+        texts::pages(seed, 8 * count, 32).into_iter().filter(|(_, text)| text.len() < 1000).take(count as usize);
+    for (iterations, text) in wide.chain(paged).chain(pages) {
+        let (number, line, digest) = match expected(&text, Limits { iterations, ..SMOOTH }) {
             Given::Refused(number, line) => (number, line, 0),
             Given::Sheet(levels, tables, header) => (0, 0, digest(&levels, &tables, &header)),
         };
         let bytes: String = text.iter().map(|byte| format!("{byte:02x}")).collect();
-        println!("read 20 {number:x} {line:x} {digest:x} {bytes}");
+        println!("read 20 {iterations:x} {number:x} {line:x} {digest:x} {bytes}");
     }
 }
 
@@ -118,7 +122,7 @@ struct Faults {
     planted: u64,
 }
 
-const FAULTS: [&str; 8] = [
+const FAULTS: [&str; 12] = [
     "another refusal",
     "another line",
     "the last level",
@@ -127,6 +131,10 @@ const FAULTS: [&str; 8] = [
     "the other letter of A",
     "a sheet refused",
     "another length taken",
+    "15 left out",
+    "15 as 2",
+    "2 as 15",
+    "a limit above 1,000 taken",
 ];
 
 impl Faults {
@@ -169,6 +177,19 @@ impl Faults {
         self.planted += u64::from(planted);
         given
     }
+
+    /// An answer at a limit of iterations; `wide` is the one at 1,000.
+    fn plant_page(&mut self, given: Given, wide: impl FnOnce() -> Given) -> Given {
+        let wrong = match (&given, self.kind) {
+            (Given::Refused(15, _), "15 left out") => wide(),
+            (Given::Refused(15, line), "15 as 2") => Given::Refused(2, *line),
+            (Given::Refused(2, 1), "2 as 15") => Given::Refused(15, 1),
+            (Given::Refused(2, 0), "a limit above 1,000 taken") => wide(),
+            _ => return self.plant(given),
+        };
+        self.planted += 1;
+        wrong
+    }
 }
 
 /// Each kind has to be reported as often as it was planted, at least once.
@@ -188,35 +209,78 @@ fn faults() -> ExitCode {
 
 fn compare(count: u64, seed: u64, faults: &mut Faults) -> Tally {
     let mut tally = Tally::default();
-    for limit in [32, 512] {
-        for (kind, text) in texts::all(seed, count, limit, 1000) {
-            tally.start(&format!("{kind}, limit {limit}"));
-            let rust = expected(&text, limit);
-            let answer = faults.plant(proved(&text, limit, (0, 0, 0)));
+    for limits in [SMOOTH, MOST] {
+        for (kind, text) in texts::all(seed, count, limits.side, 1000) {
+            tally.start(&format!("{kind}, limit {}", limits.side));
+            let rust = expected(&text, limits);
+            let answer = faults.plant(proved(&text, limits, (0, 0, 0)));
             tally.count(rust == answer, || String::from_utf8_lossy(&text).into_owned());
             for spare in [(1, 0, 0), (0, 1, 0), (0, 0, 1)] {
                 if let Given::Sheet(..) = rust {
-                    let answer = faults.plant(proved(&text, limit, spare));
+                    let answer = faults.plant(proved(&text, limits, spare));
                     tally.count(answer == Given::Refused(8, 0), || format!("a buffer too long: {spare:?}"));
                 }
             }
         }
     }
     tally.kind("limits that are no side");
-    for limit in [0, 1, 4, 7, 9, 31, 33, 513, 520, 1024, u32::MAX] {
-        let answer = faults.plant(proved(&texts::example(), limit, (0, 0, 0)));
-        tally.count(answer == Given::Refused(2, 0), || format!("{limit}: {answer:?}"));
+    for side in [0, 1, 4, 7, 9, 31, 33, 513, 520, 1024, u32::MAX] {
+        let answer = faults.plant(proved(&texts::example(), Limits { side, ..MOST }, (0, 0, 0)));
+        tally.count(answer == Given::Refused(2, 0), || format!("{side}: {answer:?}"));
     }
     tally.kind("fixed texts, answers as written down");
     for (name, text, refusal) in texts::fixed() {
-        let answer = proved(&text, 32, (0, 0, 0));
+        let answer = proved(&text, SMOOTH, (0, 0, 0));
         let right = match refusal {
             Some((number, line)) => answer == Given::Refused(number, line),
             None => matches!(answer, Given::Sheet(..)),
         };
         tally.count(right, || format!("{name}: {answer:?}"));
     }
+    compare_pages(count, seed, faults, &mut tally);
     tally
+}
+
+/// M-106: fixed texts at their limits of iterations, each fixed text at each limit where something changes, and at each side limit half of `count` texts at a
+/// limit whose counts lie about it. Says how often each answer was met.
+fn compare_pages(count: u64, seed: u64, faults: &mut Faults, tally: &mut Tally) {
+    let mut met = BTreeMap::<u32, u64>::new();
+    let mut one = |tally: &mut Tally, kind: &str, text: &[u8], limits: Limits, due: Given| {
+        let wide = || proved(text, Limits { iterations: 1000, ..limits }, (0, 0, 0));
+        let answer = faults.plant_page(proved(text, limits, (0, 0, 0)), wide);
+        *met.entry(if let Given::Refused(number, _) = due { number } else { 0 }).or_default() += 1;
+        tally.count_in(kind, answer == due, || format!("{limits:?}: {}", String::from_utf8_lossy(text)));
+    };
+    for (text, iterations, refusal) in texts::paged() {
+        let limits = Limits { iterations, ..SMOOTH };
+        let due = match refusal {
+            Some((number, line)) => Given::Refused(number, line),
+            None => expected(&text, limits),
+        };
+        one(tally, "pages, answers as written down", &text, limits, due);
+    }
+    let named = |iterations: u32| match iterations {
+        n if texts::LIMITS.contains(&n) => format!("limit of iterations {n}"),
+        0..=1000 => "another limit of iterations".into(),
+        _ => "a limit above 1,001".into(),
+    };
+    let fixed: Vec<_> =
+        texts::paged().into_iter().map(|page| page.0).chain(texts::fixed().into_iter().map(|f| f.1)).collect();
+    for iterations in texts::LIMITS {
+        for text in &fixed {
+            let limits = Limits { iterations, ..SMOOTH };
+            one(tally, &named(iterations), text, limits, expected(text, limits));
+        }
+    }
+    for side in [32, 512] {
+        for (iterations, text) in texts::pages(seed, count / 2, side) {
+            let limits = Limits { side, iterations };
+            one(tally, &named(iterations), &text, limits, expected(&text, limits));
+        }
+    }
+    if faults.kind.is_empty() {
+        println!("answers at limits of iterations, and how often (0: legal): {met:?}");
+    }
 }
 
 /// `X number line`, or `M`, both lengths, the header's fields, four numbers of each of three channels (0 where there is none),
@@ -249,7 +313,7 @@ fn answer(result: &Result<Sheet, Refusal>) -> String {
 
 fn make(packed: bool, count: u64, seed: u64, folder: &Path, limit: u32) {
     let texts = texts::all(seed, count, limit, 1000);
-    let results: Vec<_> = texts.iter().map(|(_, text)| read(text, limit)).collect();
+    let results: Vec<_> = texts.iter().map(|(_, text)| read(text, Limits { side: limit, ..MOST })).collect();
     let answers = || results.iter().map(|result| answer(result) + "\n");
     if packed {
         texts::pack(folder, &texts, answers());
@@ -292,12 +356,12 @@ fn bench(rounds: usize) {
         channels,
     };
     let text = sheet.text();
-    assert_eq!(read(&text, 512).as_ref(), Ok(&sheet));
-    let time = best(rounds, 1, || read(&text, 512));
+    assert_eq!(read(&text, MOST).as_ref(), Ok(&sheet));
+    let time = best(rounds, 1, || read(&text, MOST));
     let each = |time: f64| format!("{:.2} ms, {:.2} ns a byte", time / 1e6, time / text.len() as f64);
     println!("{} bytes read in {} by the oracle", text.len(), each(time));
     let (mut levels, mut tables) = (vec![0i16; 3 * 512 * 512], vec![0u16; 192]);
     let (mut header, mut line) = ([0u32; probe::NUMBERS], 0);
-    let time = best(rounds, 1, || probe::read(&text, 512, &mut levels, &mut tables, &mut header, &mut line));
+    let time = best(rounds, 1, || probe::read(&text, MOST, &mut levels, &mut tables, &mut header, &mut line));
     println!("{} by the proved reader", each(time));
 }

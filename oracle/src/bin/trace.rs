@@ -9,7 +9,7 @@
 use oracle::{
     floats::bits,
     run::{Run, runs},
-    sheet::{joined, read},
+    sheet::{MOST, joined, read},
 };
 use std::{
     fs,
@@ -37,7 +37,7 @@ fn main() -> ExitCode {
         Some(file) => text = fs::read(&file).unwrap_or_else(|e| panic!("{file}: {e}")),
         None => drop(stdin().read_to_end(&mut text).expect("standard input")),
     }
-    let sheet = match read(&text, 512) {
+    let sheet = match read(&text, MOST) {
         Ok(sheet) => sheet,
         Err((number, line)) => {
             eprintln!("refused: {number}, line {line}");
