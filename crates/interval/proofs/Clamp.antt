@@ -3,16 +3,18 @@ use mathlib.Core.Path.{_≡_, refl, sym, ap, _∙_, subst}
 use Prim.Native.Nat.{ℕ, zero, suc, _+_, _-_, _*_, _/_, _^_, _≤_, _<_}
 use native.Mathlib.Nat.{le-div-iff-mul-le, div-mul-le-self, le-of-mul-le-mul-right, mul-le-mul-right, le-antisymm, le-trans}
 use native.Mathlib.Omega.{arith}
-use mathlib.Core.Bool.{Bool, true, false, cond}
+use mathlib.Core.Bool.{Bool, true, false, cond, _||_}
 use lib.IntN.{ℤ, pos, negsuc, negℤ, natAbs, _+ℤ_, _*ℤ_}
 use lib.Signed.{_≤ℤ_, leZ-yes}
-use lib.Dec.{le→leb, leb→le}
+use lib.Dec.{T, le→leb, leb→le, lit<}
 use borrow.Author.Tests.{lt-ltb, le-ltb, ltb-false}
-use lib.Ieee.{Float, nan, inf, fin, up, down, below, lt}
+use lib.Ieee.{Float, nan, inf, fin, up, down, below, binary32, fits, lt}
 use lib.Ieee.Fits.{down-pos}
+use Rattle.fold.proofs.Choice.{neither}
 use Rattle.float.specs.Nearest.{signed}
-use Rattle.interval.specs.Interval.{lowEnd, highEnd, InInterval, lowest, highest, dequantised}
+use Rattle.interval.specs.Interval.{lowEnd, highEnd, InInterval, lowest, highest, dequantised, outside}
 use Rattle.float.specs.Ops.{atLeast, clamp}
+use Rattle.float.proofs.Scaled.{scaled-exact}
 use Rattle.interval.proofs.Ends.{Halves, finite-with, isNeg, lowSign, lowSize, highSize, low-halves, high-halves, dequantised-halves}
 
 -- ---- numbers with a sign: ±a ≤ ±b
@@ -247,3 +249,108 @@ module _ (low high : ℤ) (q : ℕ) (order : low ≤ℤ high) (low-ok : natAbs l
 pub product-in : (d : ℤ) (q : ℕ) → natAbs d ≤ 2047 → q ≤ 255 → InInterval d d q (dequantised d q)
 product-in d q h g =
     halves-in d d q (dequantised d q) (isNeg d) (natAbs d * 2 * q) (dequantised-halves d q h g) (product-above d q u) (product-below d q u)
+
+-- ---- M-104: which values are moved
+
+-- the converse of `signed-le`, and the order of two floats from it
+signed-below : (s t : Bool) (a b : ℕ) → signed s a ≤ℤ signed t b → Below s a t b
+signed-below false false a b h = leb→le a b (h .le)
+signed-below false true a zero h = let z = leb→le a 0 (h .le) in (omega arith, refl)
+signed-below false true a (suc b) h = absurd (h .le)
+signed-below true false a b h = tt
+signed-below true true a zero h = omega arith
+signed-below true true zero (suc b) h = absurd (h .le)
+signed-below true true (suc a) (suc b) h = let z = leb→le b a (h .le) in omega arith
+
+below-no : (s t : Bool) (a b : ℕ) → Below s a t b → below t b s a ≡ false
+below-no false false a b h = le-ltb b a h
+below-no false true a b h = le-ltb 0 (b + a) (omega (arith, h .0, h .1))
+below-no true false a b h = refl
+below-no true true a b h = le-ltb a b h
+
+-- both sides in other units
+rescaled : (s t : Bool) (a b c d f g : ℕ) → 0 < g → a * f ≡ c * g → b * f ≡ d * g → Below s a t b → Below s c t d
+rescaled false false a b c d f g p v w h = le-of-mul-le-mul-right {k = g} (omega (arith, mul-le-mul-right f h)) p
+rescaled false true a b c d f g p v w h =
+    let x : c ≤ 0 = le-of-mul-le-mul-right {k = g} (omega (arith, ap (λ (z : ℕ). z * f) (h .0))) p in
+    let y : d ≤ 0 = le-of-mul-le-mul-right {k = g} (omega (arith, ap (λ (z : ℕ). z * f) (h .1))) p in
+    (omega arith, omega arith)
+rescaled true false a b c d f g p v w h = tt
+rescaled true true a b c d f g p v w h = le-of-mul-le-mul-right {k = g} (omega (arith, mul-le-mul-right f h)) p
+
+-- ±x / d, which times w is the whole number v, and ±y / e, which is ±a / 2
+module _ (w x d v y e a : ℕ) (some : 0 < w) (exact : v * d ≡ x * w) (value : y * 2 ≡ a * e) where
+  this : 2 * v * (d * e) ≡ x * e * (2 * w)
+  this = omega (arith, ap (λ (z : ℕ). z * e) exact)
+
+  that : a * w * (d * e) ≡ y * d * (2 * w)
+  that = omega (arith, ap (λ (z : ℕ). z * (d * w)) value)
+
+  not-under : (s t : Bool) → Below s (a * w) t (2 * v) → below t (x * e) s (y * d) ≡ false
+  not-under s t h = below-no s t (y * d) (x * e) (rescaled s t (a * w) (2 * v) (y * d) (x * e) (d * e) (2 * w) (omega arith) that this h)
+
+  not-over : (s t : Bool) → Below t (2 * v) s (a * w) → below s (y * d) t (x * e) ≡ false
+  not-over s t h = below-no t s (x * e) (y * d) (rescaled t s (2 * v) (a * w) (x * e) (y * d) (d * e) (2 * w) (omega arith) this that h)
+
+sizes-of : (low high : ℤ) (q : ℕ) (s : Bool) (m : ℕ) (e : ℤ) → InInterval low high q (fin s m e) → InSizes low high q s m e
+unfolding InSizes InInterval
+sizes-of low high q s m e h =
+    let v : ℕ = m * up e * u / down e in
+    let middle = twice s v in
+    let left : lowEnd low q *ℤ pos u ≡ signed (lowSign low) (lowSize low * q * u) =
+    ap (λ (z : ℤ). z *ℤ pos u) (low-end low q) ∙ times (lowSign low) (lowSize low * q) u in
+    let right : highEnd high q *ℤ pos u ≡ signed (isNeg high) (highSize high * q * u) =
+    ap (λ (z : ℤ). z *ℤ pos u) (high-end high q) ∙ times (isNeg high) (highSize high * q) u in (
+      signed-below (lowSign low) s (lowSize low * q * u) (2 * v)
+          (subst (λ (z : ℤ). z ≤ℤ signed s (2 * v)) left (subst (λ (z : ℤ). (lowEnd low q *ℤ pos u) ≤ℤ z) middle (h .0))),
+      signed-below s (isNeg high) (2 * v) (highSize high * q * u)
+          (subst (λ (z : ℤ). signed s (2 * v) ≤ℤ z) right (subst (λ (z : ℤ). z ≤ℤ (highEnd high q *ℤ pos u)) middle (h .1))),
+    )
+
+u-some : 0 < u
+u-some = lit< tt
+
+or-true : (a : Bool) → (a || true) ≡ true
+or-true true = refl
+or-true false = refl
+
+module _ (low high : ℤ) (q : ℕ) (order : low ≤ℤ high) (low-ok : natAbs low ≤ 2047) (high-ok : natAbs high ≤ 2047) (table-ok : q ≤ 255) where
+  -- Of finite values just those are moved whose double, times 2 ^ 149, is below (2 low − 1) × q or above (2 high + 1) × q times 2 ^ 149.
+  pub inside-in : (s : Bool) (m : ℕ) (e : ℤ) → outside low high q (fin s m e) ≡ false → InInterval low high q (fin s m e)
+  unfolding outside
+  inside-in s m e h =
+      let n = neither (lt (fin s m e) (lowest low q)) (lt (highest high q) (fin s m e)) h in
+      middle-in low high q order low-ok high-ok table-ok s m e (n .0) (n .1)
+
+  pub in-inside : (s : Bool) (m : ℕ) (e : ℤ) → T (fits binary32 (fin s m e)) → InInterval low high q (fin s m e) → outside low high q (fin s m e) ≡ false
+  unfolding outside lt InSizes
+  in-inside s m e t h =
+      let z = sizes-of low high q s m e h in
+      let x = scaled-exact s m e t in
+      let v = m * up e * u / down e in
+      let l : lt (fin s m e) (lowest low q) ≡ false =
+      finite-with (lowest low q) (lowSign low) (lowSize low * q) (λ y. lt (fin s m e) y ≡ false) (low-halves low q low-ok table-ok)
+      (λ n d g. not-under u (m * up e) (down e) v (n * up d) (down d) (lowSize low * q) u-some x g (lowSign low) s (z .0)) in
+      let r : lt (highest high q) (fin s m e) ≡ false =
+      finite-with (highest high q) (isNeg high) (highSize high * q) (λ y. lt y (fin s m e) ≡ false) (high-halves high q high-ok table-ok)
+      (λ n d g. not-over u (m * up e) (down e) v (n * up d) (down d) (highSize high * q) u-some x g (isNeg high) s (z .1)) in
+      rw (l, r)
+
+  -- an infinity is moved, a NaN is not
+  pub inf-outside : (s : Bool) → outside low high q (inf s) ≡ true
+  unfolding outside
+  inf-outside true = rw (past-low low high q order low-ok high-ok table-ok)
+  inf-outside false = rw (past-high low high q order low-ok high-ok table-ok) (or-true (lt (inf false) (lowest low q)))
+
+  pub nan-inside : outside low high q nan ≡ false
+  unfolding outside lt
+  nan-inside =
+      finite-with (highest high q) (isNeg high) (highSize high * q) (λ y. (lt nan (lowest low q) || lt y nan) ≡ false) (high-halves high q high-ok table-ok)
+      (λ n d g. refl)
+
+-- what is not moved stays
+pub unmoved : (low high : ℤ) (q : ℕ) (x : Float) → outside low high q x ≡ false → clamp x (lowest low q) (highest high q) ≡ x
+unfolding outside clamp
+unmoved low high q x h =
+    let n = neither (lt x (lowest low q)) (lt (highest high q) x) h in
+    rw (n .0, n .1)

@@ -2,10 +2,10 @@
 -- twice the value lies from (2 low − 1) × q to (2 high + 1) × q. Both sides are taken times 2 ^ 149, so that whole numbers are compared.
 -- A level of document 01 stands in both places: low and high are equal.
 use Prim.Native.Nat.{ℕ, _*_, _/_, _^_}
-use mathlib.Core.Bool.{Bool, false}
+use mathlib.Core.Bool.{Bool, false, _||_}
 use lib.IntN.{ℤ, pos, negsuc, _+ℤ_, _-ℤ_, _*ℤ_}
 use lib.Signed.{_≤ℤ_}
-use lib.Ieee.{Float, nan, inf, fin, up, down, binary32, ofInt}
+use lib.Ieee.{Float, nan, inf, fin, up, down, binary32, lt, ofInt}
 use Rattle.float.specs.Ops.{clamp}
 use Rattle.float.specs.Nearest.{signed}
 use Rattle.float.specs.Names.{_⊕_, _⊖_, _⊗_, float}
@@ -52,3 +52,7 @@ dequantised d q = whole d ⊗ float q
 -- x.clamp(min, max)
 abbrev pub clampTo : ℤ → ℤ → ℕ → Float → Float
 clampTo low high q x = clamp x (lowest low q) (highest high q)
+
+-- M-104, whether the clamp moves x: it lies below the lower end or above the upper. An end lies inside; a NaN is not moved.
+unfoldable pub outside : ℤ → ℤ → ℕ → Float → Bool
+outside low high q x = lt x (lowest low q) || lt (highest high q) x

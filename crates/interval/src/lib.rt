@@ -1,6 +1,7 @@
 // A coefficient's interval: its ends, and the value of a level.
+use fold::flags::either;
 ghost use mathlib.Core.Path.{_≡_};
-ghost use Rattle.interval.specs.Interval.{whole, lowest, highest, dequantised, clampTo};
+ghost use Rattle.interval.specs.Interval.{whole, lowest, highest, dequantised, clampTo, outside};
 
 // A level as f32.
 pub fn whole(level: i16) -> f32
@@ -30,10 +31,21 @@ pub fn dequantised(level: i16, q: u16) -> f32
     whole(level) * (q as f32)
 }
 
-// x, or the end of the interval that it lies beyond; a NaN stays.
-// Rules out: a NaN turned into an end, and an interval of level × quantiser alone.
-pub fn clamp_to(low: i16, high: i16, q: u16, x: f32) -> f32
-    ensures { λ r. ⌜ r ≡ clampTo low high q x ⌝ }
+// A clamped value, and whether the clamp moved it.
+pub struct Clamped {
+    pub value: f32,
+    pub moved: bool,
+}
+
+// x, or the end of the interval that it lies beyond; a NaN stays, and counts as unmoved.
+// Rules out: a NaN turned into an end, an interval of level × quantiser alone, and a value at an end that counts as moved.
+pub fn clamp_to(low: i16, high: i16, q: u16, x: f32) -> Clamped
+    ensures { λ r. ⌜ (r .value ≡ clampTo low high q x) × (r .moved ≡ outside low high q x) ⌝ }
 {
-    float::clamp(x, lowest(low, q), highest(high, q))
+    let least = lowest(low, q);
+    let most = highest(high, q);
+    Clamped {
+        value: float::clamp(x, least, most),
+        moved: either(x < least, most < x),
+    }
 }

@@ -1,11 +1,12 @@
 -- What project leaves at each place of saved: the clamped values, and past them what was lent.
-use mathlib.Core.Path.{_≡_, ap, _∙_, sym}
+use mathlib.Core.Path.{_≡_, refl, ap, _∙_, sym}
 use mathlib.Core.Bool.{Bool, true, false, cond}
 use mathlib.Core.List.{List}
-use Prim.Native.Nat.{ℕ, _+_, _*_, _%_, _<_, _≤_}
+use Prim.Native.Nat.{ℕ, zero, suc, _+_, _*_, _%_, _<_, _≤_}
 use native.Mathlib.Omega.{arith}
 use lib.IntN.{ℤ}
 use lib.ListN.{length, set}
+use lib.Seq.{getD-set-other}
 use lib.Ieee.{Float, nan}
 use Rattle.fold.specs.Fold.{upto}
 use Rattle.fold.proofs.Loops.{upto-ext, upto-nest}
@@ -15,9 +16,9 @@ use Rattle.float.specs.Names.{val}
 use Rattle.utils.specs.Blocks.{onBlock, toBlocks}
 use Rattle.utils.specs.Dct.{dct8x8}
 use Rattle.utils.proofs.Lengths.{toBlocks-length}
-use Rattle.interval.specs.Interval.{clampTo}
+use Rattle.interval.specs.Interval.{clampTo, outside}
 use Rattle.start.specs.Coef.{Coef, Eights, blockCount, blockH, blockW, levelAt, pxCount, quantAt}
-use Rattle.projection.specs.Projection.{Box, Boxed, clampAt, clampBlock, clamped, keep, ontoBox, projectFull, projectMeans, projectOntoBox, resample, split, transformed}
+use Rattle.projection.specs.Projection.{Box, Boxed, clampAt, clampBlock, clamped, clipped, clippedAt, clippedBlock, countAt, keep, ontoBox, projectFull, projectMeans, projectOntoBox, resample, split, tally, transformed}
 use Rattle.start.proofs.Cover.{blocks-fill}
 use Rattle.projection.proofs.Lengths.{dcts-length}
 
@@ -85,3 +86,49 @@ module _ (C : Coef) (e : Eights (C .own)) (W H : ℕ) (b : Box) where
   pub projected-saved-above : (k : ℕ) → pxCount (C .own) ≤ k → val (projectOntoBox C W H b .saved) k ≡ val (b .saved) k
   unfolding projectOntoBox
   projected-saved-above k l = above (resample (C .own) W H) k l
+
+-- places that the clamping has not reached
+pub clamp-ahead : (levels : List ℤ) (table : List ℕ) (i n : ℕ) (x : List Float) (p : ℕ) → i * 64 + n ≤ p → val (upto (clampAt levels table i) n x) p ≡ val x p
+unfolding upto clampAt
+clamp-ahead levels table i zero x p h = refl
+clamp-ahead levels table i (suc n) x p h =
+    let y = upto (clampAt levels table i) n x in
+    getD-set-other y (i * 64 + n) p (clampTo (levelAt levels (i * 64 + n)) (levelAt levels (i * 64 + n)) (quantAt table n) (val y (i * 64 + n))) nan (λ e. omega arith) ∙ clamp-ahead levels table i n x p (omega arith)
+
+blocks-ahead : (levels : List ℤ) (table : List ℕ) (n : ℕ) (x : List Float) (p : ℕ) → n * 64 ≤ p → val (upto (clampBlock levels table) n x) p ≡ val x p
+unfolding upto clampBlock
+blocks-ahead levels table zero x p h = refl
+blocks-ahead levels table (suc n) x p h = clamp-ahead levels table n 64 (upto (clampBlock levels table) n x) p (omega arith) ∙ blocks-ahead levels table n x p (omega arith)
+
+pub clipped-ahead : (levels : List ℤ) (table : List ℕ) (x : List Float) (i n : ℕ) → clippedBlock levels table (upto (clampBlock levels table) i x) i n ≡ clippedBlock levels table x i n
+unfolding clippedBlock
+clipped-ahead levels table x i n =
+    upto-ext (clippedAt levels table (upto (clampBlock levels table) i x) i) (clippedAt levels table x i) 64 n
+    (λ j t l.
+    ap (λ (v : Float). tally (outside (levelAt levels (i * 64 + j)) (levelAt levels (i * 64 + j)) (quantAt table j) v) t)
+    (blocks-ahead levels table i x (i * 64 + j) (omega arith)))
+
+pub clipped-blocks : (C : Coef) → Eights (C .own) → (x : List Float) → upto (clippedBlock (C .levels) (C .table) x) (blockCount (C .own)) 0 ≡ clipped C x
+unfolding clippedBlock clipped
+clipped-blocks C e x =
+    upto-ext (clippedBlock (C .levels) (C .table) x) (λ i t. upto (λ j. countAt C x (i * 64 + j)) 64 t) (blockCount (C .own)) 0
+    (λ i t b. upto-ext (clippedAt (C .levels) (C .table) x i) (λ j. countAt C x (i * 64 + j)) 64 t
+    (λ j s m.
+    ap (λ (q : ℕ). tally (outside (levelAt (C .levels) (i * 64 + j)) (levelAt (C .levels) (i * 64 + j)) (quantAt (C .table) q) (val x (i * 64 + j))) s)
+    (sym (column-of i 64 j m))))
+    ∙ upto-nest (countAt C x) 64 (blockCount (C .own)) 0
+    ∙ ap (λ (n : ℕ). upto (countAt C x) n 0) (blocks-fill (C .own .width) (C .own .height) (e .0) (e .1))
+
+-- no more than there are places
+tally-most : (b : Bool) (n : ℕ) → tally b n ≤ n + 1
+tally-most true n = omega arith
+tally-most false n = omega arith
+
+count-most : (C : Coef) (x : List Float) (n : ℕ) → upto (countAt C x) n 0 ≤ n
+unfolding upto
+count-most C x zero = omega arith
+count-most C x (suc n) = omega (arith, tally-most (outside (levelAt (C .levels) n) (levelAt (C .levels) n) (quantAt (C .table) (n % 64)) (val x n)) (upto (countAt C x) n 0), count-most C x n)
+
+pub clipped-most : (C : Coef) (x : List Float) → clipped C x ≤ pxCount (C .own)
+unfolding clipped
+clipped-most C x = count-most C x (pxCount (C .own))

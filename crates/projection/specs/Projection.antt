@@ -1,7 +1,7 @@
 -- projection.rs: the projection of each block onto its coefficients' intervals.
 use mathlib.Core.Bool.{Bool, cond, not, _||_}
 use mathlib.Core.List.{List}
-use Prim.Native.Nat.{ℕ, _+_, _*_}
+use Prim.Native.Nat.{ℕ, _+_, _*_, _%_}
 use lib.Dec.{eqb}
 use lib.IntN.{ℤ}
 use lib.ListN.{set}
@@ -10,7 +10,7 @@ use Rattle.fold.specs.Fold.{upto}
 use Rattle.float.specs.Names.{_⊕_, _⊖_, _⊘_, f0, float, val}
 use Rattle.utils.specs.Blocks.{fromBlocks, onBlock, toBlocks}
 use Rattle.utils.specs.Dct.{dct8x8, idct8x8}
-use Rattle.interval.specs.Interval.{clampTo}
+use Rattle.interval.specs.Interval.{clampTo, outside}
 use Rattle.start.specs.declared.coef.Own.{Own}
 use Rattle.start.specs.Coef.{Coef, blockW, blockH, blockCount, pxCount, levelAt, quantAt, spot, change}
 
@@ -136,3 +136,26 @@ transformed C W H b =
     let o = C .own in
     let own = cond (resample o W H) (split o W (record { plane = b .plane; down = b .down }) .down) (b .plane) in
     upto (onBlock dct8x8) (blockCount o) (toBlocks (o .width) (blockW o) (blockH o) own (b .across))
+
+-- ---- M-104: how many of them were clipped
+
+-- one more, if so
+abbrev pub tally : Bool → ℕ → ℕ
+tally more n = cond more (n + 1) n
+
+-- place k, if its value in x lies outside its interval
+abbrev pub countAt : Coef → List Float → ℕ → ℕ → ℕ
+countAt C x k n = tally (outside (levelAt (C .levels) k) (levelAt (C .levels) k) (quantAt (C .table) (k % 64)) (val x k)) n
+
+-- the number of the places k < w × h whose value in x lies outside its interval
+unfoldable pub clipped : Coef → List Float → ℕ
+clipped C x = upto (countAt C x) (pxCount (C .own)) 0
+
+-- the same block by block, on from n: place j of block i
+abbrev pub clippedAt : List ℤ → List ℕ → List Float → ℕ → ℕ → ℕ → ℕ
+clippedAt levels table x i j n =
+    let k = i * 64 + j in
+    tally (outside (levelAt levels k) (levelAt levels k) (quantAt table j) (val x k)) n
+
+unfoldable pub clippedBlock : List ℤ → List ℕ → List Float → ℕ → ℕ → ℕ
+clippedBlock levels table x i n = upto (clippedAt levels table x i) 64 n

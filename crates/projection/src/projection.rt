@@ -1,13 +1,16 @@
 // projection.rs: the projection of each block onto its coefficients' intervals.
 use start::coef::Own;
 ghost use mathlib.Core.Path.{_≡_};
-ghost use Prim.Native.Nat.{_+_, _*_, _/_, _≤_, _<_};
+ghost use Prim.Native.Nat.{_+_, _*_, _/_, _^_, _≤_, _<_};
 ghost use mathlib.Core.List.{List};
 ghost use lib.ListN.{length};
 ghost use lib.Ieee.{Float};
 ghost use Rattle.float.specs.Names.{_⊕_, float};
-ghost use Rattle.start.specs.Coef.{Covers, Eights, Lent, coef, change};
-ghost use Rattle.projection.specs.Projection.{resample, meanOf, splitAt, split, clampBlock, clamped, keep, ontoBox, back, projectFull, projectMeans, projectOntoBox};
+ghost use Rattle.start.specs.Coef.{Covers, Eights, Lent, blockCount, blockH, blockW, coef, change};
+ghost use Rattle.fold.specs.Fold.{upto};
+ghost use Rattle.utils.specs.Blocks.{onBlock, toBlocks};
+ghost use Rattle.utils.specs.Dct.{dct8x8};
+ghost use Rattle.projection.specs.Projection.{resample, meanOf, splitAt, split, clampBlock, clamped, keep, ontoBox, back, projectFull, projectMeans, projectOntoBox, transformed, tally, clipped, clippedBlock};
 
 fn resample(o: Own, w: usize, h: usize) -> bool
     ensures { λ r. ⌜ r ≡ resample o w h ⌝ }
@@ -108,28 +111,48 @@ fn back(plane: &mut [f32], down: &[f32], o: Own, w: usize, h: usize)
     }
 }
 
-// The 64 coefficients of block i, each clamped to its interval.
-fn clamp_block(x: &mut [f32], levels: &[i16], table: &[u16], i: usize)
-    requires { ⌜ (i * 64 + 64 ≤ length (now levels)) × (length (now table) ≡ 64) × (i * 64 + 64 ≤ length (now x)) ⌝ }
-    ensures { λ _. ⌜ now (x .exit) ≡ clampBlock (now (levels .entry)) (now (table .entry)) i (now (x .entry)) ⌝ }
+// One more, if so.
+fn tally(more: bool, n: usize) -> usize
+    requires { ⌜ n < 2 ^ 63 ⌝ }
+    ensures { λ r. ⌜ (r ≡ tally more n) × (r ≤ n + 1) ⌝ }
 {
+    if more {
+        return n + 1;
+    }
+    n
+}
+
+// The 64 coefficients of block i, each clamped to its interval. Gives n and, on top of it, how many that moved.
+// Rules out: a value at an end that counts.
+fn clamp_block(x: &mut [f32], levels: &[i16], table: &[u16], i: usize, n: usize) -> usize
+    requires { ⌜ (i * 64 + 64 ≤ length (now levels)) × (length (now table) ≡ 64) × (i * 64 + 64 ≤ length (now x)) × (n ≤ i * 64) ⌝ }
+    ensures { λ r. ⌜ (now (x .exit) ≡ clampBlock (now (levels .entry)) (now (table .entry)) i (now (x .entry)))
+        × (r ≡ clippedBlock (now (levels .entry)) (now (table .entry)) (now (x .entry)) i n) × (r ≤ i * 64 + 64) ⌝ }
+{
+    let mut moved = n;
     for j in 0..64 {
         let k = i * 64 + j;
         let level = levels[k];
-        x[k] = interval::clamp_to(level, level, table[j], x[k]);
+        let c = interval::clamp_to(level, level, table[j], x[k]);
+        x[k] = c.value;
+        moved = tally(c.moved, moved);
     }
+    moved
 }
 
-// The coefficients of every block, clamped.
-fn clamped(x: &mut [f32], o: Own, levels: &[i16], table: &[u16])
+// The coefficients of every block, clamped. Gives how many that moved.
+fn clamped(x: &mut [f32], o: Own, levels: &[i16], table: &[u16]) -> usize
     requires { ⌜ Eights o × Lent o (now levels) (now table) × (o .width * o .height ≤ length (now x)) ⌝ }
-    ensures { λ _. ⌜ now (x .exit) ≡ clamped (coef o (now (levels .entry)) (now (table .entry))) (now (x .entry)) ⌝ }
+    ensures { λ r. ⌜ (now (x .exit) ≡ clamped (coef o (now (levels .entry)) (now (table .entry))) (now (x .entry)))
+        × (r ≡ clipped (coef o (now (levels .entry)) (now (table .entry))) (upto (onBlock dct8x8) (blockCount o) (now (x .entry)))) ⌝ }
 {
     let n = start::coef::block_count(o);
     utils::dct::dct_blocks(x, n);
+    let mut moved = 0;
     for i in 0..n {
-        clamp_block(x, levels, table, i);
+        moved = clamp_block(x, levels, table, i, moved);
     }
+    moved
 }
 
 // The first n values of x are kept for the data gradient.
@@ -142,7 +165,7 @@ fn keep(saved: &mut [f32], x: &[f32], n: usize)
     }
 }
 
-// Blocks to coefficients, which are clamped and kept, and back to blocks.
+// Blocks to coefficients, which are clamped and kept, and back to blocks. Gives how many were moved.
 fn onto_box(
     across: &mut [f32],
     saved: &mut [f32],
@@ -151,16 +174,18 @@ fn onto_box(
     h: usize,
     levels: &[i16],
     table: &[u16],
-)
+) -> usize
     requires { ⌜ Covers o w h × Lent o (now levels) (now table) × (length (now across) ≡ w * h) × (length (now saved) ≡ w * h) ⌝ }
-    ensures { λ _. ⌜ record { across = now (across .exit); saved = now (saved .exit) }
-        ≡ ontoBox (coef o (now (levels .entry)) (now (table .entry))) (record { across = now (across .entry); saved = now (saved .entry) }) ⌝ }
+    ensures { λ r. ⌜ (record { across = now (across .exit); saved = now (saved .exit) }
+        ≡ ontoBox (coef o (now (levels .entry)) (now (table .entry))) (record { across = now (across .entry); saved = now (saved .entry) }))
+        × (r ≡ clipped (coef o (now (levels .entry)) (now (table .entry))) (upto (onBlock dct8x8) (blockCount o) (now (across .entry)))) ⌝ }
 {
     let count = start::coef::px_count(o, w, h);
     let n = start::coef::block_count(o);
-    clamped(across, o, levels, table);
+    let moved = clamped(across, o, levels, table);
     keep(saved, &across[..], count);
     utils::dct::idct_blocks(across, n);
+    moved
 }
 
 // Own sides that are the full sides: the plane's own blocks.
@@ -173,19 +198,22 @@ fn project_full(
     h: usize,
     levels: &[i16],
     table: &[u16],
-)
+) -> usize
     requires { ⌜ Covers o w h × Lent o (now levels) (now table) × (length (now plane) ≡ w * h) × (length (now across) ≡ w * h) × (length (now saved) ≡ w * h) ⌝ }
-    ensures { λ _. ⌜ ((down : List Float) → record { plane = now (plane .exit); across = now (across .exit); down = down; saved = now (saved .exit) }
+    ensures { λ r. ⌜ ((down : List Float) → record { plane = now (plane .exit); across = now (across .exit); down = down; saved = now (saved .exit) }
         ≡ projectFull (coef o (now (levels .entry)) (now (table .entry)))
-        (record { plane = now (plane .entry); across = now (across .entry); down = down; saved = now (saved .entry) })) ⌝ }
+        (record { plane = now (plane .entry); across = now (across .entry); down = down; saved = now (saved .entry) }))
+        × (r ≡ clipped (coef o (now (levels .entry)) (now (table .entry)))
+        (upto (onBlock dct8x8) (blockCount o) (toBlocks (o .width) (blockW o) (blockH o) (now (plane .entry)) (now (across .entry))))) ⌝ }
 {
     let width = o.width;
     let height = o.height;
     let bw = width / 8;
     let bh = height / 8;
     utils::blocks::to_blocks(&plane[..], across, width, height, bw, bh);
-    onto_box(across, saved, o, w, h, levels, table);
+    let moved = onto_box(across, saved, o, w, h, levels, table);
     utils::blocks::from_blocks(&across[..], plane, width, height, bw, bh);
+    moved
 }
 
 // Other sides: the blocks of the means.
@@ -199,12 +227,15 @@ fn project_means(
     h: usize,
     levels: &[i16],
     table: &[u16],
-)
+) -> usize
     requires { ⌜ Covers o w h × Lent o (now levels) (now table) × (length (now plane) ≡ w * h) × (length (now across) ≡ w * h)
         × (length (now down) ≡ w * h) × (length (now saved) ≡ w * h) ⌝ }
-    ensures { λ _. ⌜ record { plane = now (plane .exit); across = now (across .exit); down = now (down .exit); saved = now (saved .exit) }
+    ensures { λ r. ⌜ (record { plane = now (plane .exit); across = now (across .exit); down = now (down .exit); saved = now (saved .exit) }
         ≡ projectMeans (coef o (now (levels .entry)) (now (table .entry))) w
-        (record { plane = now (plane .entry); across = now (across .entry); down = now (down .entry); saved = now (saved .entry) }) ⌝ }
+        (record { plane = now (plane .entry); across = now (across .entry); down = now (down .entry); saved = now (saved .entry) }))
+        × (r ≡ clipped (coef o (now (levels .entry)) (now (table .entry)))
+        (upto (onBlock dct8x8) (blockCount o) (toBlocks (o .width) (blockW o) (blockH o)
+        (split o w (record { plane = now (plane .entry); down = now (down .entry) }) .down) (now (across .entry))))) ⌝ }
 {
     let width = o.width;
     let height = o.height;
@@ -212,12 +243,13 @@ fn project_means(
     let bh = height / 8;
     split(plane, down, o, w, h);
     utils::blocks::to_blocks(&down[..], across, width, height, bw, bh);
-    onto_box(across, saved, o, w, h, levels, table);
+    let moved = onto_box(across, saved, o, w, h, levels, table);
     utils::blocks::from_blocks(&across[..], down, width, height, bw, bh);
     back(plane, &down[..], o, w, h);
+    moved
 }
 
-// Job 5 on a channel's part of each buffer.
+// Job 5 on a channel's part of each buffer. Gives the number of coefficients that it moved.
 // Rules out: saved taken after the inverse transform, and resampling decided by the factors.
 pub fn project_onto_box(
     plane: &mut [f32],
@@ -229,16 +261,17 @@ pub fn project_onto_box(
     h: usize,
     levels: &[i16],
     table: &[u16],
-)
+) -> usize
     requires { ⌜ Covers o w h × Lent o (now levels) (now table) × (length (now plane) ≡ w * h) × (length (now across) ≡ w * h)
         × (length (now down) ≡ w * h) × (length (now saved) ≡ w * h) ⌝ }
-    ensures { λ _. ⌜ record { plane = now (plane .exit); across = now (across .exit); down = now (down .exit); saved = now (saved .exit) }
+    ensures { λ r. ⌜ (record { plane = now (plane .exit); across = now (across .exit); down = now (down .exit); saved = now (saved .exit) }
         ≡ projectOntoBox (coef o (now (levels .entry)) (now (table .entry))) w h
-        (record { plane = now (plane .entry); across = now (across .entry); down = now (down .entry); saved = now (saved .entry) }) ⌝ }
+        (record { plane = now (plane .entry); across = now (across .entry); down = now (down .entry); saved = now (saved .entry) }))
+        × (r ≡ clipped (coef o (now (levels .entry)) (now (table .entry))) (transformed (coef o (now (levels .entry)) (now (table .entry))) w h
+        (record { plane = now (plane .entry); across = now (across .entry); down = now (down .entry); saved = now (saved .entry) }))) ⌝ }
 {
     if resample(o, w, h) {
-        project_means(plane, across, down, saved, o, w, h, levels, table);
-        return;
+        return project_means(plane, across, down, saved, o, w, h, levels, table);
     }
-    project_full(plane, across, saved, o, w, h, levels, table);
+    project_full(plane, across, saved, o, w, h, levels, table)
 }

@@ -24,10 +24,10 @@ use Rattle.start.proofs.Cover.{own-fits}
 use Rattle.projection.proofs.Lengths.{BoxLong, projected-long}
 use Rattle.fidelity.proofs.Lengths.{dataGradient-length}
 use Rattle.start.proofs.Lengths.{initDctTarget-length, initPixels-length}
+use Rattle.projection.proofs.Writes.{clipped-most, projected-saved}
 use Rattle.start.proofs.Writes.{initDctTarget-at}
-use Rattle.projection.proofs.Writes.{projected-saved}
 use Rattle.calls.specs.Buffers.{Plane, Prior, Gradient, Across, Down, Saved, Sized}
-use Rattle.work.specs.Work.{CoefsIn, Legal, CoefIn, blending, boxOf, dataJob, moving, projecting, pushing, starting}
+use Rattle.work.specs.Work.{CoefsIn, Legal, CoefIn, blending, boxOf, clipping, dataJob, moving, projecting, pushing, starting}
 
 -- ---- lengths
 
@@ -151,3 +151,7 @@ module _ (C : Coef) (W H : ℕ) (cover : Covers (C .own) W H) (legal : Legal C) 
       let qo = legal .table-ok (k % 64) in
       let number : v ≡ nan → ⊥ = λ n. true≢false (sym (ap bad (e ∙ ap (clampTo d d q) n ∙ clamp-nan d d q (≤ℤ-refl d) lo lo qo)) ∙ f) in
       subst (InInterval d d q) (sym e) (clamp-in d d q (≤ℤ-refl d) lo lo qo v number)
+
+-- ---- M-104: project moves no more coefficients than the own plane has places
+pub clipping-most : (C : Coef) (W H : ℕ) (b : Buffers) → clipping C W H b ≤ pxCount (C .own)
+clipping-most C W H b = clipped-most C (transformed C W H (boxOf b))

@@ -13,7 +13,7 @@ use Rattle.start.specs.Buffers.{Buffers}
 use Rattle.start.specs.Coef.{Coef, levelAt, pxCount, quantAt}
 use Rattle.start.specs.Auxiliary.{auxInit}
 use Rattle.fidelity.specs.DctGradient.{dataGradient}
-use Rattle.projection.specs.Projection.{Box, projectOntoBox}
+use Rattle.projection.specs.Projection.{Box, clipped, projectOntoBox, transformed}
 
 -- start, of a channel with the coefficients C, at full sides W and H, reordered as R says: "plane and prior are the upsampled start, saved coefficients are level × quantiser, other values 0"
 abbrev pub starting : Reorder → Coef → ℕ → ℕ → Buffers
@@ -51,6 +51,10 @@ unfoldable pub projecting : Coef → ℕ → ℕ → Buffers → Buffers
 projecting C W H b =
     let y = projectOntoBox C W H (boxOf b) in
     record { plane = y .plane; prior = b .prior; gradient = b .gradient; across = y .across; down = y .down; saved = y .saved }
+
+-- M-104: the number of coefficients that it moves, which are those whose transformed value lies outside its interval
+abbrev pub clipping : Coef → ℕ → ℕ → Buffers → ℕ
+clipping C W H b = clipped C (transformed C W H (boxOf b))
 
 -- ---- what the laws speak of
 

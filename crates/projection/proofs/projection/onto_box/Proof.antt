@@ -5,7 +5,8 @@ use Rattle.projection.proofs.projection.onto_box.Tie as tie
 
 returns : tie.Need-returns
 unfolding ontoBox
-returns c = rw (← c .before .before .before .before .before .before .before .before .before .before .before .clamped .ensures, ← c .before .before .before .before .before .before .before .before .before .before .before .before .before .before .px-count .ensures .0, ← c .before .before .before .before .before .before .before .before .before .before .before .before .before .block-count .ensures .0, ← c .before .before .before .before .before .before .keep .ensures, ← c .before .before .idct-blocks .ensures)
+returns c =
+    (rw (← c .before .before .before .before .before .before .before .before .before .before .before .clamped .ensures .0, ← c .before .before .before .before .before .before .before .before .before .before .before .before .before .before .px-count .ensures .0, ← c .before .before .before .before .before .before .before .before .before .before .before .before .before .block-count .ensures .0, ← c .before .before .before .before .before .before .keep .ensures, ← c .before .before .idct-blocks .ensures), c .before .before .before .before .before .before .before .before .before .before .before .clamped .ensures .1)
 
 pub onto-box-spec : {M : Type 1} → statement M
 onto-box-spec =

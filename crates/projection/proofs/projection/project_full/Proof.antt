@@ -13,7 +13,8 @@ from-blocks-requires c κs = let a = c .before .before .before .before .before .
 
 returns : tie.Need-returns
 unfolding projectFull
-returns c = λ d. rw (← c .before .before .before .before .before .before .before .before .before .before .before .before .before .before .to-blocks .ensures, ← c .before .before .before .before .before .before .before .before .before .onto-box .ensures, ← c .before .before .from-blocks .ensures)
+returns c =
+    (λ d. rw (← c .before .before .before .before .before .before .before .before .before .before .before .before .before .before .to-blocks .ensures, ← c .before .before .before .before .before .before .before .before .before .onto-box .ensures .0, ← c .before .before .from-blocks .ensures), rw (← c .before .before .before .before .before .before .before .before .before .before .before .before .before .before .to-blocks .ensures) (c .before .before .before .before .before .before .before .before .before .onto-box .ensures .1))
 
 pub project-full-spec : {M : Type 1} → statement M
 project-full-spec =

@@ -16,7 +16,10 @@ back-requires c κs = let p = c .before .before .before .before .before .before 
 
 returns : tie.Need-returns
 unfolding projectMeans
-returns c = rw (← c .before .before .before .before .before .before .before .before .before .before .before .before .before .before .before .before .before .before .before .before .before .before .before .before .before .before .split .ensures, ← c .before .before .before .before .before .before .before .before .before .before .before .before .before .before .before .before .before .before .before .to-blocks .ensures, ← c .before .before .before .before .before .before .before .before .before .before .before .before .before .before .onto-box .ensures, ← c .before .before .before .before .before .before .before .from-blocks .ensures, ← c .before .before .back .ensures)
+returns c = (
+  rw (← c .before .before .before .before .before .before .before .before .before .before .before .before .before .before .before .before .before .before .before .before .before .before .before .before .before .before .split .ensures, ← c .before .before .before .before .before .before .before .before .before .before .before .before .before .before .before .before .before .before .before .to-blocks .ensures, ← c .before .before .before .before .before .before .before .before .before .before .before .before .before .before .onto-box .ensures .0, ← c .before .before .before .before .before .before .before .from-blocks .ensures, ← c .before .before .back .ensures),
+  rw (← c .before .before .before .before .before .before .before .before .before .before .before .before .before .before .before .before .before .before .before .before .before .before .before .before .before .before .split .ensures, ← c .before .before .before .before .before .before .before .before .before .before .before .before .before .before .before .before .before .before .before .to-blocks .ensures) (c .before .before .before .before .before .before .before .before .before .before .before .before .before .before .onto-box .ensures .1),
+)
 
 pub project-means-spec : {M : Type 1} → statement M
 project-means-spec =
