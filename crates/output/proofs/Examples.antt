@@ -5,7 +5,7 @@ use Prim.Native.Nat.{ℕ, _+_, _*_, _/_, _%_, _<_}
 use native.Mathlib.Omega.{arith}
 use lib.ListN.{replicate}
 use Rattle.digits.specs.Written.{decimal, hexOf}
-use Rattle.output.specs.Output.{each, pictureText, refusalText}
+use Rattle.output.specs.Output.{each, pictureText, refusalText, clippedText}
 
 -- "`smooth` prints two lines, `I` tab `2` tab `1`, then `R` tab `818181` tab `818181`"
 pub whole-example :
@@ -24,6 +24,11 @@ blown-example = refl
 pub letters-example : pictureText 1 1 (171 ∷ 205 ∷ 239 ∷ []) ≡ 73 ∷ 9 ∷ 49 ∷ 9 ∷ 49 ∷ 10 ∷ 82 ∷ 9 ∷ 97 ∷ 98 ∷ 99 ∷ 100 ∷ 101 ∷ 102 ∷ 10 ∷ []
 unfolding pictureText decimal each
 letters-example = refl
+
+-- M-104: "the whole example gains `K` tab `0` tab `0`"
+pub clipped-example : clippedText 0 0 ≡ 75 ∷ 9 ∷ 48 ∷ 9 ∷ 48 ∷ 10 ∷ []
+unfolding clippedText
+clipped-example = refl
 
 -- the last two digits of a number, and what is before them
 module _ (u b : ℕ) (h : b < 256) where

@@ -57,7 +57,7 @@ fields-more f x = sym (ap tabbed (each-more f x) ∙ tabbed-more (each f x) (f x
 pub row-text : (letter : ℕ) (fs : List (List ℕ)) → ((letter ∷ []) ++ tabbed fs) ++ 10 ∷ [] ≡ ended (joined ((letter ∷ []) ∷ fs) ∷ [])
 row-text letter fs = rw (joined-tabbed (letter ∷ []) fs)
 
-pub numbers-text : (letter a b : ℕ) → (((letter ∷ []) ++ 9 ∷ decimal a) ++ 9 ∷ decimal b) ++ 10 ∷ [] ≡ ended (numbersLine letter a b ∷ [])
+pub numbers-text : (letter a b : ℕ) → ((letter ∷ []) ++ 9 ∷ decimal a) ++ 9 ∷ decimal b ≡ numbersLine letter a b
 numbers-text letter a b = refl
 
 -- at the end of the loop

@@ -1,6 +1,6 @@
 -- How long the texts are, and what fits.
 use mathlib.Core.Path.{_≡_, refl, sym, ap, _∙_}
-use mathlib.Core.Bool.{true, _&&_}
+use mathlib.Core.Bool.{Bool, true, false, cond, _&&_}
 use mathlib.Core.List.{List, [], _∷_}
 use Prim.Native.Nat.{ℕ, zero, suc, _+_, _*_, _≤_}
 use native.Mathlib.Nat.{suc-mul, mul-le-mul}
@@ -12,7 +12,7 @@ use lib.ListN.{length, length-append}
 use Rattle.digits.specs.Written.{decimal, ended}
 use Rattle.digits.proofs.Lengths.{decimal-length}
 use Rattle.digits.proofs.Both.{both-left, both-right}
-use Rattle.output.specs.Output.{each, numbersLine, pixel, rowLine, pictureText, pictureRoom, pictureFits, pictureInto, refusalText, refusalInto}
+use Rattle.output.specs.Output.{each, numbersLine, pixel, rowLine, pictureText, pictureRoom, pictureFits, pictureInto, refusalText, refusalInto, clippedText, clippedFits, clippedInto}
 use Rattle.output.proofs.Lines.{tabbed, tabbed-more, ended-more, row-text, lines-done}
 
 tabbed-length : (f : ℕ → List ℕ) (m n : ℕ) → ((i : ℕ) → length (f i) ≡ m) → length (tabbed (each f n)) ≡ n * (m + 1)
@@ -68,6 +68,25 @@ pub refusal-room : (number line : ℕ) → number ≤ 255 → line ≤ 999999 �
 unfolding refusalText
 refusal-room number line p q = omega (arith, numbers-length 88 number line, refusal-length number line p q)
 
+-- a letter and two numbers, without the line's end
+pub head-length : (letter a b : ℕ) → length (numbersLine letter a b) ≡ 3 + length (decimal a) + length (decimal b)
+head-length letter a b = simp length-append (omega arith)
+
+-- 11 bytes have room for every line of a clipped number, 9 where the number has four digits
+pub clipped-length : (channel number : ℕ) → length (clippedText channel number) ≡ 4 + length (decimal channel) + length (decimal number)
+unfolding clippedText
+clipped-length channel number = numbers-length 75 channel number
+
+pub clipped-digits : (channel number : ℕ) → channel ≤ 9 → number ≤ 999999 → 4 + length (decimal channel) + length (decimal number) ≤ 11
+clipped-digits channel number p q = omega (arith, decimal-length 0 channel (omega arith), decimal-length 5 number (omega arith))
+
+pub clipped-room : (channel number : ℕ) → channel ≤ 9 → number ≤ 999999 → length (clippedText channel number) ≤ 11
+clipped-room channel number p q = omega (arith, clipped-length channel number, clipped-digits channel number p q)
+
+pub clipped-room-32 : (channel number : ℕ) → channel ≤ 9 → number ≤ 9999 → length (clippedText channel number) ≤ 9
+clipped-room-32 channel number p q =
+    omega (arith, clipped-length channel number, decimal-length 0 channel (omega arith), decimal-length 3 number (omega arith))
+
 -- what a picture that fits has
 pub fits : (width height bytes room : ℕ) → pictureFits width height bytes room ≡ true
     → (width ≤ 512) × (height ≤ 512) × (bytes ≡ 3 * (width * height)) × (pictureRoom width height ≤ room)
@@ -91,6 +110,34 @@ picture-into width height rgb room p q e r = rw (le-leb width 512 p, le-leb heig
 pub refusal-into : (number line room : ℕ) → line ≤ 999999 → 13 ≤ room → refusalInto number line room ≡ refusalText number line
 unfolding refusalInto
 refusal-into number line room p q = rw (le-leb line 999999 p, le-leb 13 room q)
+
+pub clipped-into : (channel number room : ℕ) → channel ≤ 9 → number ≤ 999999 → 11 ≤ room → clippedInto channel number room ≡ clippedText channel number
+unfolding clippedInto
+clipped-into channel number room p q r = rw (le-leb channel 9 p, le-leb number 999999 q, le-leb 11 room r)
+
+-- and that it lies within the room
+within : (b : Bool) (t : List ℕ) (room : ℕ) → (b ≡ true → length t ≤ room) → length (cond b t []) ≤ room
+within true t room h = h refl
+within false t room h = omega arith
+
+pub picture-within : (width height : ℕ) (rgb : List ℕ) (room : ℕ) → length (pictureInto width height rgb room) ≤ room
+unfolding pictureInto
+picture-within width height rgb room =
+    within (pictureFits width height (length rgb) room) (pictureText width height rgb) room
+    (λ e. let f = fits width height (length rgb) room e in omega (arith, f .3, picture-room width height rgb (f .0) (f .1)))
+
+pub clipped-within : (channel number room : ℕ) → length (clippedInto channel number room) ≤ room
+unfolding clippedInto
+clipped-within channel number room =
+    within (clippedFits channel number room) (clippedText channel number) room
+    (λ e.
+    let f = both-right (leb channel 9) (leb number 999999 && leb 11 room) e in
+    omega (
+      arith,
+      leb-true 11 room (both-right (leb number 999999) (leb 11 room) f),
+      clipped-room channel number (leb-true channel 9 (both-left (leb channel 9) (leb number 999999 && leb 11 room) e))
+          (leb-true number 999999 (both-left (leb number 999999) (leb 11 room) f)),
+    ))
 
 -- no product of two sides is too large to compute
 pub sides-product : (a b : ℕ) → a ≤ 512 → b ≤ 3586 → a * b ≤ 512 * 3586

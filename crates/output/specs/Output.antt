@@ -1,4 +1,4 @@
--- The text that the program `smooth` prints, as bytes. Document 01, "Whole run and picture", last paragraph.
+-- The text that the program `smooth` prints, as bytes. Document 01, "Whole run and picture", last paragraph; document 02, M-104.
 use mathlib.Core.Path.{_≡_}
 use mathlib.Core.Bool.{Bool, cond, _&&_}
 use mathlib.Core.List.{List, [], _∷_, _++_}
@@ -13,7 +13,7 @@ module _ {A : Type 0} where
   each f zero = []
   each f (suc n) = each f n ++ f n ∷ []
 
--- A letter and two numbers: `I`, width, height, or `X`, number, line
+-- A letter and two numbers: `I`, width, height, or `X`, number, line, or `K`, channel, number
 abbrev pub numbersLine : ℕ → ℕ → ℕ → List ℕ
 numbersLine letter a b = joined ((letter ∷ []) ∷ decimal a ∷ decimal b ∷ [])
 
@@ -37,6 +37,11 @@ unfoldable pub refusalText : ℕ → ℕ → List ℕ
 unfolding decimal
 refusalText number line = ended (numbersLine 88 number line ∷ [])
 
+-- M-104: "the program prints it on a line `K`, channel, number"
+unfoldable pub clippedText : ℕ → ℕ → List ℕ
+unfolding decimal
+clippedText channel number = ended (numbersLine 75 channel number ∷ [])
+
 -- What the calls write into a lent buffer with `room` bytes from their place on: the text, or nothing where they cannot
 
 -- no picture text of these sides is longer: `I` with two sides of three digits takes 10 bytes, a row 2 and 7 for each pixel
@@ -58,6 +63,14 @@ refusalFits line room = leb line 999999 && leb 13 room
 unfoldable pub refusalInto : ℕ → ℕ → ℕ → List ℕ
 unfolding refusalText
 refusalInto number line room = cond (refusalFits line room) (refusalText number line) []
+
+-- a channel of one digit, a number of at most six, and room: with `K` they take 11 bytes
+abbrev pub clippedFits : ℕ → ℕ → ℕ → Bool
+clippedFits channel number room = leb channel 9 && (leb number 999999 && leb 11 room)
+
+unfoldable pub clippedInto : ℕ → ℕ → ℕ → List ℕ
+unfolding clippedText
+clippedInto channel number room = cond (clippedFits channel number room) (clippedText channel number) []
 
 -- A buffer after a text was written to it from place `at` on, r being where the text ends: the rest is as it was before
 pub record Wrote (at : ℕ) (text before : List ℕ) (r : ℕ) (after : List ℕ) : Type 0 where

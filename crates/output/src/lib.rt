@@ -4,7 +4,7 @@ ghost use Prim.Native.Nat.{_+_, _-_, _*_, _≤_, _<_};
 ghost use mathlib.Core.Path.{_≡_};
 ghost use lib.ListN.{length};
 ghost use Rattle.digits.specs.Written.{decimal, hexByte, hexOf, ended};
-ghost use Rattle.output.specs.Output.{numbersLine, pixel, rowLine, pictureText, pictureRoom, pictureFits, pictureInto, refusalInto, Wrote};
+ghost use Rattle.output.specs.Output.{numbersLine, pixel, rowLine, pictureText, pictureRoom, pictureFits, pictureInto, refusalInto, clippedInto, Wrote};
 
 // A byte. This and what follows write from place `at` on, and answer where what they wrote ends.
 fn put_byte(b: u8, out: &mut [u8], at: usize) -> usize
@@ -36,14 +36,22 @@ fn put_number(n: usize, out: &mut [u8], at: usize) -> usize
     put_decimal(n, out, first)
 }
 
+// A letter and two numbers.
+fn put_head(letter: u8, a: usize, b: usize, out: &mut [u8], at: usize) -> usize
+    requires { ⌜ (a ≤ 999999) × (b ≤ 999999) × (at + (3 + length (decimal a) + length (decimal b)) ≤ length (now out)) ⌝ }
+    ensures { λ r. ⌜ Wrote at (numbersLine letter a b) (now (out .entry)) r (now (out .exit)) ⌝ }
+{
+    let first = put_byte(letter, out, at);
+    let second = put_number(a, out, first);
+    put_number(b, out, second)
+}
+
 // The line of a letter and two numbers.
 fn put_numbers(letter: u8, a: usize, b: usize, out: &mut [u8], at: usize) -> usize
     requires { ⌜ (a ≤ 999999) × (b ≤ 999999) × (at + (4 + length (decimal a) + length (decimal b)) ≤ length (now out)) ⌝ }
     ensures { λ r. ⌜ Wrote at (ended (numbersLine letter a b ∷ [])) (now (out .entry)) r (now (out .exit)) ⌝ }
 {
-    let first = put_byte(letter, out, at);
-    let second = put_number(a, out, first);
-    let end = put_number(b, out, second);
+    let end = put_head(letter, a, b, out, at);
     put_byte(b'\n', out, end)
 }
 
@@ -139,6 +147,24 @@ pub fn write_picture(width: u32, height: u32, rgb: &[u8], out: &mut [u8], at: us
         return put_picture(w, h, rgb, out, at);
     }
     at
+}
+
+// Writes the line of a channel's number of clipped coefficients from place `at` of `out` on and answers where it ends; `at` and nothing
+// written where it does not fit.
+// Ruled out: the number before the channel; an empty field for 0.
+pub fn write_clipped(channel: usize, number: usize, out: &mut [u8], at: usize) -> usize
+    ensures { λ r. ⌜ Wrote at (clippedInto channel number (length (now (out .entry)) - at)) (now (out .entry)) r (now (out .exit)) ⌝ }
+{
+    if channel > 9 {
+        return at;
+    }
+    if number > 999999 {
+        return at;
+    }
+    if room(out.len(), at) < 11 {
+        return at;
+    }
+    put_numbers(b'K', channel, number, out, at)
 }
 
 // Writes the text of a refusal to the front of `out` and answers its length; 0 and nothing written where it does not fit.
