@@ -1,7 +1,7 @@
 -- The order of refusals, equal blends and marks, by computation on small records. Beside each stands what it excludes.
 use mathlib.Core.Path.{_≡_, refl}
 use mathlib.Core.Bool.{true, false}
-use mathlib.Core.List.{List, [], _∷_}
+use mathlib.Core.List.{List, [], _∷_, _++_}
 use Prim.Native.Nat.{ℕ}
 use lib.IntN.{pos}
 use lib.ListN.{replicate}
@@ -28,10 +28,13 @@ sheet n N =
     }
 
 abbrev at : ℕ → Place
-at p = record { position = p; mark = false }
+at p = record { position = p; mark = false; clipped = 0 }
 
 abbrev marked : ℕ → Place
-marked p = record { position = p; mark = true }
+marked p = record { position = p; mark = true; clipped = 0 }
+
+abbrev kept-at : ℕ → ℕ → Place
+kept-at p k = record { position = p; mark = false; clipped = k }
 
 -- ---- 12, 10, 11, 9
 
@@ -76,6 +79,19 @@ pub illegal : start-refusal (marked 4) 2048 0 63 ≡ 13
 unfolding startRefusal sheetOk headerOk ownOk placesOk placeOk weight
 illegal = refl
 
+-- M-104: a kept number before the first project, one above w × h; and w × h itself, which a start takes
+pub kept-early : start-refusal (kept-at 4 1) 2047 255 64 ≡ 13
+unfolding startRefusal sheetOk headerOk ownOk placesOk placeOk weight
+kept-early = refl
+
+pub kept-too-many : start-refusal (kept-at 5 65) 2047 255 64 ≡ 13
+unfolding startRefusal sheetOk headerOk ownOk placesOk placeOk weight
+kept-too-many = refl
+
+pub kept-most : start-refusal (kept-at 5 64) 2047 255 64 ≡ 0
+unfolding startRefusal sheetOk headerOk ownOk placesOk placeOk weight
+kept-most = refl
+
 pub short : start-refusal (at 4) 2048 0 63 ≡ 8
 unfolding startRefusal sheetOk headerOk ownOk placesOk placeOk weight
 short = refl
@@ -92,7 +108,7 @@ pub accepted : start-refusal (at 4) 2047 255 64 ≡ 0
 unfolding startRefusal sheetOk headerOk ownOk placesOk placeOk weight
 accepted = refl
 
--- ---- the plain run of a channel whose plane holds one value, and stays as it was
+-- ---- the plain run of a channel whose plane holds one value, and stays as it was; every project clips 7 coefficients
 
 abbrev still : Float → Jobs
 still v =
@@ -100,6 +116,7 @@ still v =
       start = λ G c. make (λ b. v ∷ []);
       work = λ j G c step b. b;
       blending = λ G step B. B;
+      clip = λ G c b. 7;
     }
 
 abbrev two-steps : Given
@@ -113,7 +130,7 @@ pub blown-by-project : plainAnswers (still nan) two-steps step (noneYet two-step
 unfolding plainAnswers plain fixed channel joined isBlown
 blown-by-project = refl
 
-pub marked-by-project : plainPlaces (still nan) two-steps step (noneYet two-steps) ≡ marked 5 ∷ []
+pub marked-by-project : plainPlaces (still nan) two-steps step (noneYet two-steps) ≡ record { position = 5; mark = true; clipped = 7 } ∷ []
 unfolding plainPlaces plain fixed channel joined isBlown
 marked-by-project = refl
 
@@ -121,3 +138,12 @@ marked-by-project = refl
 pub not-blown : plainAnswers (still (fin false 1 (pos 0))) two-steps step (noneYet two-steps) ≡ replicate 6 done
 unfolding plainAnswers plain fixed channel joined isBlown
 not-blown = refl
+
+-- the other jobs leave the number of the last project, and the next gives it anew: 7 after two steps, not 14
+pub kept-on : plainPlaces (still (fin false 1 (pos 0))) two-steps step (noneYet two-steps) ≡ kept-at 6 7 ∷ []
+unfolding plainPlaces plain fixed channel joined isBlown
+kept-on = refl
+
+pub kept-last : plainPlaces (still (fin false 1 (pos 0))) two-steps (step ++ on fidelity 0 ∷ blend ∷ on move 0 ∷ on project 0 ∷ []) (noneYet two-steps) ≡ kept-at 10 7 ∷ []
+unfolding plainPlaces plain fixed channel joined isBlown
+kept-last = refl

@@ -1,7 +1,7 @@
 -- An accepted call keeps the record legal.
 use mathlib.Core.Path.{_≡_, refl, sym, ap, _∙_, subst}
 use mathlib.Core.Logic.{_≢_}
-use Prim.Native.Nat.{ℕ, suc, _*_, _%_, _<_}
+use Prim.Native.Nat.{ℕ, suc, _*_, _%_, _≤_, _<_}
 use native.Mathlib.Omega.{arith}
 use native.Mathlib.Decide.{ℕ-discrete}
 use mathlib.Core.Bool.{Bool, true, false, not, _&&_, _||_}
@@ -10,8 +10,8 @@ use lib.Dec.{T, leb, ltb, eqb, leb→le, le→leb, ltb→lt, lt→ltb, eqb→eq}
 use lib.Ieee.Fits.{and-l, and-r, and-i, eq→eqb}
 use lib.ListN.{length, set, length-set, length-map}
 use lib.Seq.{getD-set-same, getD-set-other}
-use borrow.Author.Tests.{eqb-false}
-use Rattle.calls.specs.Run.{Sheet, Place, fresh, place, every, among, blendsIn, placeOk, placesOk}
+use borrow.Author.Tests.{eqb-false, leb-false, lt-leb}
+use Rattle.calls.specs.Run.{Numbers, Sheet, Place, fresh, own, place, coefs, every, among, blendsIn, keptOk, placeOk, placesOk}
 use Rattle.calls.specs.Jobs.{Job, push, fidelity, move, project, on, blend, turn, blendTurn, Seen}
 use Rattle.calls.specs.Calls.{first, turnTests, advance, onward}
 use Rattle.calls.specs.Between.{PlaceIs, PlacesAre}
@@ -52,14 +52,28 @@ blend-ready-of S ps e c h =
 
 -- ---- legal places, as facts
 
-place-is : (S : Sheet) (p : Place) → T (placeOk S p) → PlaceIs S p
+-- a number that is not 0 comes after the first project
+none-of : (p : Place) → T (leb 5 (p .position) || eqb (p .clipped) 0) → p .position < 5 → p .clipped ≡ 0
+none-of p t h = eqb→eq (p .clipped) 0 (subst (λ (b : Bool). T (b || eqb (p .clipped) 0)) (lt-leb 5 (p .position) h) t)
+
+none-so : (p : Place) (b : Bool) → leb 5 (p .position) ≡ b → (p .position < 5 → p .clipped ≡ 0) → T (b || eqb (p .clipped) 0)
+none-so p true e h = tt
+none-so p false e h = eq→eqb (h (leb-false 5 (p .position) e))
+
+place-is : (S : Sheet) (o : Numbers) (p : Place) → T (placeOk S o p) → PlaceIs S o p
 unfolding placeOk
-place-is S p t =
+place-is S o p t =
     let rule : Bool = ltb 0 (p .position) && eqb (p .position % 5) 0 in
     let within : Bool = leb (p .position) (5 * S .N) in
-    let both : p .mark ≡ true → T rule = or-r (p .mark) rule (and-r within (not (p .mark) || rule) t) in
+    let most : Bool = leb (p .clipped) (o .width * o .height) in
+    let none : Bool = leb 5 (p .position) || eqb (p .clipped) 0 in
+    let two = and-l (within && (not (p .mark) || rule)) (keptOk o p) t in
+    let kept = and-r (within && (not (p .mark) || rule)) (keptOk o p) t in
+    let both : p .mark ≡ true → T rule = or-r (p .mark) rule (and-r within (not (p .mark) || rule) two) in
     record {
-      within = leb→le (p .position) (5 * S .N) (and-l within (not (p .mark) || rule) t);
+      within = leb→le (p .position) (5 * S .N) (and-l within (not (p .mark) || rule) two);
+      clipped-most = leb→le (p .clipped) (o .width * o .height) (and-l most none kept);
+      clipped-none = none-of p (and-r most none kept);
       marked =
           λ e. (
             ltb→lt 0 (p .position) (and-l (ltb 0 (p .position)) (eqb (p .position % 5) 0) (both e)),
@@ -67,20 +81,25 @@ place-is S p t =
           );
     }
 
-place-ok : (S : Sheet) (p : Place) → PlaceIs S p → T (placeOk S p)
+place-ok : (S : Sheet) (o : Numbers) (p : Place) → PlaceIs S o p → T (placeOk S o p)
 unfolding placeOk
-place-ok S p h =
+place-ok S o p h =
     let rule : Bool = ltb 0 (p .position) && eqb (p .position % 5) 0 in
-    and-i (leb (p .position) (5 * S .N)) (not (p .mark) || rule) (le→leb (p .position) (5 * S .N) (h .within))
+    let within : Bool = leb (p .position) (5 * S .N) in
+    let most : Bool = leb (p .clipped) (o .width * o .height) in
+    let none : Bool = leb 5 (p .position) || eqb (p .clipped) 0 in
+    and-i (within && (not (p .mark) || rule)) (keptOk o p)
+    (and-i within (not (p .mark) || rule) (le→leb (p .position) (5 * S .N) (h .within))
     (or-i (p .mark) rule
-    (λ e. and-i (ltb 0 (p .position)) (eqb (p .position % 5) 0) (lt→ltb 0 (p .position) (h .marked e .0)) (eq→eqb (h .marked e .1))))
+    (λ e. and-i (ltb 0 (p .position)) (eqb (p .position % 5) 0) (lt→ltb 0 (p .position) (h .marked e .0)) (eq→eqb (h .marked e .1)))))
+    (and-i most none (le→leb (p .clipped) (o .width * o .height) (h .clipped-most)) (none-so p (leb 5 (p .position)) refl (h .clipped-none)))
 
 module _ (S : Sheet) (ps : List Place) where
   abbrev long-test : Bool
   long-test = eqb (length ps) (S .count)
 
   abbrev each-test : Bool
-  each-test = every (S .count) (λ c. placeOk S (place ps c))
+  each-test = every (S .count) (λ c. placeOk S (own S c) (place ps c))
 
   abbrev has : ℕ → Bool
   has c = eqb (blendsIn (place ps c .position)) (blendsIn (place ps 0 .position))
@@ -91,7 +110,7 @@ module _ (S : Sheet) (ps : List Place) where
       let first-two = and-l (long-test && each-test) (every (S .count) has) t in
       record {
         long = eqb→eq (length ps) (S .count) (and-l long-test each-test first-two);
-        each = λ c h. place-is S (place ps c) (every-at (S .count) (λ c. placeOk S (place ps c)) (and-r long-test each-test first-two) c h);
+        each = λ c h. place-is S (own S c) (place ps c) (every-at (S .count) (λ c. placeOk S (own S c) (place ps c)) (and-r long-test each-test first-two) c h);
         equal = λ c h. eqb→eq _ _ (every-at (S .count) has (and-r (long-test && each-test) (every (S .count) has) t) c h);
       }
 
@@ -99,7 +118,7 @@ module _ (S : Sheet) (ps : List Place) where
   unfolding placesOk
   places-ok h =
       and-i (long-test && each-test) (every (S .count) has)
-      (and-i long-test each-test (eq→eqb (h .long)) (every-of (S .count) (λ c. placeOk S (place ps c)) (λ c p. place-ok S (place ps c) (h .each c p))))
+      (and-i long-test each-test (eq→eqb (h .long)) (every-of (S .count) (λ c. placeOk S (own S c) (place ps c)) (λ c p. place-ok S (own S c) (place ps c) (h .each c p))))
       (every-of (S .count) has (λ c p. eq→eqb (h .equal c p)))
 
 -- ---- an accepted job of one channel
@@ -116,12 +135,23 @@ advance-position fidelity x p = refl
 advance-position move x p = refl
 advance-position project x p = refl
 
-advance-is : (S : Sheet) (j : Job) (x : Seen) (p : Place) → PlaceIs S p → p .mark ≡ false → (p .position ≡ 5 * S .N → ⊥) → p .position % 5 ≡ turn j
-    → PlaceIs S (advance j x p)
-advance-is S push x p h m f t = record { within = omega (arith, h .within); marked = λ e. never (p .mark) m e }
-advance-is S fidelity x p h m f t = record { within = omega (arith, h .within); marked = λ e. never (p .mark) m e }
-advance-is S move x p h m f t = record { within = omega (arith, h .within); marked = λ e. never (p .mark) m e }
-advance-is S project x p h m f t = record { within = omega (arith, h .within); marked = λ e. omega arith }
+-- a place one job on, whose number is kept
+pub onward-is : (S : Sheet) (o : Numbers) (p : Place) → PlaceIs S o p → p .mark ≡ false → (p .position ≡ 5 * S .N → ⊥) → PlaceIs S o (onward p)
+onward-is S o p h m f =
+    record {
+      within = omega (arith, h .within);
+      marked = λ e. never (p .mark) m e;
+      clipped-most = h .clipped-most;
+      clipped-none = λ l. h .clipped-none (omega arith);
+    }
+
+advance-is : (S : Sheet) (o : Numbers) (j : Job) (x : Seen) (p : Place) → PlaceIs S o p → p .mark ≡ false → (p .position ≡ 5 * S .N → ⊥) → p .position % 5 ≡ turn j
+    → x .clipped ≤ o .width * o .height → PlaceIs S o (advance j x p)
+advance-is S o push x p h m f t l = onward-is S o p h m f
+advance-is S o fidelity x p h m f t l = onward-is S o p h m f
+advance-is S o move x p h m f t l = onward-is S o p h m f
+advance-is S o project x p h m f t l =
+    record { within = omega (arith, h .within); marked = λ e. omega arith; clipped-most = l; clipped-none = λ b. absurd (omega arith) }
 
 -- places after a store at channel c
 module _ (ps : List Place) (c : ℕ) (p : Place) where
@@ -131,7 +161,8 @@ module _ (ps : List Place) (c : ℕ) (p : Place) where
   pub place-elsewhere : (d : ℕ) → c ≢ d → place (set ps c p) d ≡ place ps d
   place-elsewhere d f = getD-set-other ps c d p fresh (λ e. f (sym e))
 
-module _ (S : Sheet) (ps : List Place) (j : Job) (c : ℕ) (x : Seen) (is : PlacesAre S ps) (below : c < S .count) (r : Ready S ps (turn j) c) where
+module _ (S : Sheet) (ps : List Place) (j : Job) (c : ℕ) (x : Seen) (is : PlacesAre S ps) (below : c < S .count) (r : Ready S ps (turn j) c)
+    (most : x .clipped ≤ coefs S c) where
   p : Place
   p = advance j x (place ps c)
 
@@ -151,15 +182,15 @@ module _ (S : Sheet) (ps : List Place) (j : Job) (c : ℕ) (x : Seen) (is : Plac
         | no f ↦ ap (λ (q : Place). blendsIn (q .position)) (place-elsewhere ps c p d f)
       ]
 
-  each-is : (d : ℕ) → d < S .count → PlaceIs S (place (set ps c p) d)
+  each-is : (d : ℕ) → d < S .count → PlaceIs S (own S d) (place (set ps c p) d)
   unfolding p
   each-is d h =
       elim (ℕ-discrete c d) [
         | yes e ↦
-            subst (λ (i : ℕ). PlaceIs S (place (set ps c p) i)) e
-            (subst (PlaceIs S) (sym (place-here ps c p in-list))
-            (advance-is S j x (place ps c) (is .each c below) (r .unmarked) (r .unfinished) (r .next)))
-        | no f ↦ subst (PlaceIs S) (sym (place-elsewhere ps c p d f)) (is .each d h)
+            subst (λ (i : ℕ). PlaceIs S (own S i) (place (set ps c p) i)) e
+            (subst (PlaceIs S (own S c)) (sym (place-here ps c p in-list))
+            (advance-is S (own S c) j x (place ps c) (is .each c below) (r .unmarked) (r .unfinished) (r .next) most))
+        | no f ↦ subst (PlaceIs S (own S d)) (sym (place-elsewhere ps c p d f)) (is .each d h)
       ]
 
   pub job-legal : PlacesAre S (set ps c (advance j x (place ps c)))
@@ -180,9 +211,6 @@ module _ (S : Sheet) (ps : List Place) (is : PlacesAre S ps) (r : (c : ℕ) → 
   pub place-blended : (c : ℕ) → c < S .count → place (map onward ps) c ≡ onward (place ps c)
   place-blended c h = getD-map-lt onward ps fresh fresh c (omega (arith, is .long))
 
-  blended-is : (c : ℕ) → c < S .count → PlaceIs S (onward (place ps c))
-  blended-is c h = record { within = omega (arith, is .each c h .within, r c h .unfinished); marked = λ e. never (place ps c .mark) (r c h .unmarked) e }
-
   blended-position : (c : ℕ) → c < S .count → place (map onward ps) c .position ≡ suc (place ps 0 .position)
   blended-position c h = ap (λ (q : Place). q .position) (place-blended c h) ∙ ap suc (blend-same c h)
 
@@ -190,6 +218,6 @@ module _ (S : Sheet) (ps : List Place) (is : PlacesAre S ps) (r : (c : ℕ) → 
   blend-legal =
       record {
         long = length-map ps onward ∙ is .long;
-        each = λ c h. subst (PlaceIs S) (sym (place-blended c h)) (blended-is c h);
+        each = λ c h. subst (PlaceIs S (own S c)) (sym (place-blended c h)) (onward-is S (own S c) (place ps c) (is .each c h) (r c h .unmarked) (r c h .unfinished));
         equal = λ c h. ap blendsIn (blended-position c h ∙ sym (blended-position 0 (omega arith)));
       }

@@ -6,9 +6,9 @@ use mathlib.Core.Bool.{true, false}
 use mathlib.Core.List.{List, [], _∷_, map}
 use lib.Ieee.Fits.{and-l, and-r}
 use lib.ListN.{length, replicate, length-replicate, getD-replicate}
-use Rattle.calls.specs.Run.{Place, Given, fresh, place, count, area, blendsIn, sheetOk, placesOk}
+use Rattle.calls.specs.Run.{Place, Given, fresh, own, place, count, area, blendsIn, sheetOk, placesOk}
 use Rattle.calls.specs.Buffers.{channel, joined, Sized}
-use Rattle.calls.specs.Jobs.{Call, Jobs, fixed}
+use Rattle.calls.specs.Jobs.{Call, Jobs, fixed, kept}
 use Rattle.calls.specs.Calls.{Answer, done, State, first, lendTests, allSix, lengths, startRefusal, settle, call, begin, start, answers, final, noneYet, plainAnswers, plainPlaces}
 use Rattle.calls.specs.Demand.{Demand3, MeetsDemand3}
 use Rattle.calls.specs.Between.{GivenOk, PlaceIs, PlacesAre, AllIn, Inv}
@@ -53,14 +53,14 @@ module _ (G : Given) where
   pub at-fresh : (c : ℕ) → c < count G → place (noneYet G) c ≡ fresh
   at-fresh c h = getD-replicate (count G) c fresh fresh h
 
-  fresh-is : PlaceIs (G .sheet) fresh
-  fresh-is = record { within = omega arith; marked = λ m. never false refl m }
+  fresh-is : (c : ℕ) → PlaceIs (G .sheet) (own (G .sheet) c) fresh
+  fresh-is c = record { within = omega arith; marked = λ m. never false refl m; clipped-most = omega arith; clipped-none = λ l. refl }
 
   pub fresh-are : PlacesAre (G .sheet) (noneYet G)
   fresh-are =
       record {
         long = length-replicate (count G) fresh;
-        each = λ c h. subst (PlaceIs (G .sheet)) (sym (at-fresh c h)) fresh-is;
+        each = λ c h. subst (PlaceIs (G .sheet) (own (G .sheet) c)) (sym (at-fresh c h)) (fresh-is c);
         equal = λ c h. ap (λ (p : Place). blendsIn (p .position)) (at-fresh c h ∙ sym (at-fresh 0 (omega arith)));
       }
 
@@ -106,7 +106,7 @@ module _ (J : Jobs) (G : Given) (s : State) where
 
     module _ (laws : Laws J) where
       start-good : Inv J G s₀
-      unfolding s₀ fixed
+      unfolding s₀ fixed kept
       start-good =
           let sizes : (c : ℕ) → c < count G → Sized (area G) (J .start G c) = laws .start-sized G given-ok in
           let parts : (c : ℕ) → c < count G → channel (area G) c (joined (count G) (J .start G)) ≡ J .start G c = channel-joined (area G) (count G) (J .start G) sizes in
@@ -114,6 +114,7 @@ module _ (J : Jobs) (G : Given) (s : State) where
             legal-places = fresh-are G;
             sized = joined-sized (area G) (count G) (J .start G) sizes;
             as-fixed = λ c h. parts c h ∙ ap (λ (p : Place). fixed J G (p .position) c) (sym (at-fresh G c h));
+            as-kept = λ c h. subst (λ (p : Place). p .clipped ≡ kept J G (p .position) c) (sym (at-fresh G c h)) refl;
             inside = λ c h m. subst (AllIn G c) (sym (parts c h)) (laws .start-in G given-ok c h);
             marked = λ c h m. never false refl (ap (λ (p : Place). p .mark) (sym (at-fresh G c h)) ∙ m);
           }
@@ -130,6 +131,7 @@ module _ (J : Jobs) (G : Given) (s : State) where
                 (joined-channels (area G) (count G) (λ c. fixed J G (place (plainPlaces J G xs (noneYet G)) c .position) c) (final J G xs s₀ .buffers)
                 (r .last .sized)
                 (λ c h. r .last .as-fixed c h ∙ ap (λ (ps : List Place). fixed J G (place ps c .position) c) (r .same-places)));
+            as-kept = λ c h. subst (λ (ps : List Place). place ps c .clipped ≡ kept J G (place ps c .position) c) (r .same-places) (r .last .as-kept c h);
             in-interval = λ c h m. r .last .inside c h (ap (λ (ps : List Place). place ps c .mark) (r .same-places) ∙ m);
           }
 

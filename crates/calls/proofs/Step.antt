@@ -7,6 +7,7 @@ use native.Mathlib.Omega.{arith}
 use native.Mathlib.Decide.{ℕ-discrete}
 use mathlib.Core.Bool.{Bool, true, false}
 use mathlib.Core.List.{List, [], _∷_, map}
+use lib.Dec.{eqb}
 use lib.Ieee.Fits.{and-i}
 use lib.ListN.{length, getD, set, take}
 use lib.Seq.{getD-take, length-take-le}
@@ -14,7 +15,7 @@ use lib.Ieee.{Float, nan}
 use Rattle.calls.specs.Run.{Place, Given, place, count, area, coefs, sheetOk, placesOk}
 use Rattle.start.specs.Buffers.{Buffers}
 use Rattle.calls.specs.Buffers.{Name, Saved, channel, putChannel, joined, Sized}
-use Rattle.calls.specs.Jobs.{Job, push, fidelity, move, project, Call, on, blend, turn, blendTurn, Jobs, next, fixed, channelBlown, Seen, seen, seenAt}
+use Rattle.calls.specs.Jobs.{Job, push, fidelity, move, project, Call, on, blend, turn, blendTurn, Jobs, next, fixed, kept, channelBlown, Seen, seen, seenAt}
 use Rattle.projection.specs.Blown.{bad, anyBad, isBlown}
 use Rattle.calls.specs.Calls.{State, Called, first, turnTests, lent, lentLevels, lengths, lendTests, refusal, advance, onward, reply, worked, seenIn, accept, settle, call, Plain, plainAccept, plainSettle, plain}
 use Rattle.calls.specs.Between.{GivenOk, AllIn, Inv}
@@ -59,6 +60,15 @@ none-bad : (xs : List Float) → anyBad xs ≡ false → (i : ℕ) → i < lengt
 none-bad [] e i h = absurd (not-suc-le-zero h)
 none-bad (x ∷ xs) e zero h = or-false-l (bad x) (anyBad xs) e
 none-bad (x ∷ xs) e (suc i) h = none-bad xs (or-false-r (bad x) (anyBad xs) e) i (le-of-suc-le-suc h)
+
+-- the kept number after one more job: a project's, or the one before
+kept-new : (J : Jobs) (G : Given) (p c : ℕ) → p % 5 ≡ turn project → kept J G (suc p) c ≡ J .clip G c (fixed J G p c)
+unfolding kept
+kept-new J G p c e = rw e
+
+kept-old : (J : Jobs) (G : Given) (p c r : ℕ) → p % 5 ≡ r → eqb r (turn project) ≡ false → kept J G (suc p) c ≡ kept J G p c
+unfolding kept
+kept-old J G p c r e f = rw (e, f)
 
 -- a channel that is not blown has finite coefficients
 coefs-fine : (G : Given) (c : ℕ) (b : Buffers) → coefs (G .sheet) c ≤ length (b .saved) → channelBlown G c b ≡ false → (k : ℕ) → k < coefs (G .sheet) c → bad (getD (b .saved) k nan) ≡ false
@@ -131,6 +141,20 @@ module _ (J : Jobs) (laws : Laws J) (G : Given) (ok : GivenOk G) (s : State) (in
         go move e = never (place (s .places) c .mark) (t .unmarked) e
         go project e = e
 
+    -- the number that is now kept is that of the next count
+    o-kept : o .clipped ≡ kept J G (suc (place (s .places) c .position)) c
+    unfolding o
+    o-kept = go j (t .next)
+      where
+        p : ℕ
+        p = place (s .places) c .position
+
+        go : (i : Job) → p % 5 ≡ turn i → advance i (seenIn J G j c s) (place (s .places) c) .clipped ≡ kept J G (suc p) c
+        go push e = inv .as-kept c below ∙ sym (kept-old J G p c 0 e refl)
+        go fidelity e = inv .as-kept c below ∙ sym (kept-old J G p c 1 e refl)
+        go move e = inv .as-kept c below ∙ sym (kept-old J G p c 3 e refl)
+        go project e = ap (J .clip G c) (inv .as-fixed c below) ∙ sym (kept-new J G p c e)
+
     -- the lent buffers and the places afterwards
     B′ : Buffers
     B′ = putChannel (area G) c (s .buffers) x
@@ -169,6 +193,19 @@ module _ (J : Jobs) (laws : Laws J) (G : Given) (ok : GivenOk G) (s : State) (in
           | no f ↦ elsewhere d q f ∙ inv .as-fixed d q ∙ ap (λ (r : Place). fixed J G (r .position) d) (sym (at-elsewhere d f))
         ]
 
+    after-kept : (d : ℕ) → d < count G → place ps′ d .clipped ≡ kept J G (place ps′ d .position) d
+    unfolding o
+    after-kept d q =
+        elim (ℕ-discrete c d) [
+          | yes e ↦
+              subst (λ (i : ℕ). place ps′ i .clipped ≡ kept J G (place ps′ i .position) i) e
+              (ap (λ (r : Place). r .clipped) at-here
+              ∙ o-kept
+              ∙ ap (λ (r : ℕ). kept J G r c)
+              (sym (ap (λ (q : Place). q .position) at-here ∙ advance-position j (seenIn J G j c s) (place (s .places) c))))
+          | no f ↦ subst (λ (r : Place). r .clipped ≡ kept J G (r .position) d) (sym (at-elsewhere d f)) (inv .as-kept d q)
+        ]
+
     after-inside : (d : ℕ) → d < count G → place ps′ d .mark ≡ false → AllIn G d (channel (area G) d B′)
     after-inside d q =
         elim (ℕ-discrete c d) [
@@ -199,9 +236,10 @@ module _ (J : Jobs) (laws : Laws J) (G : Given) (ok : GivenOk G) (s : State) (in
           same-places = ap (λ (x : Seen). set (s .places) c (advance j x (place (s .places) c))) told-is;
           again =
               record {
-                legal-places = job-legal (G .sheet) (s .places) j c (seenIn J G j c s) (inv .legal-places) below t;
+                legal-places = job-legal (G .sheet) (s .places) j c (seenIn J G j c s) (inv .legal-places) below t (laws .clip-most G c (channel (area G) c (s .buffers)));
                 sized = put-sized (area G) c (count G) (s .buffers) (inv .sized) below x x-sized;
                 as-fixed = after-fixed;
+                as-kept = after-kept;
                 inside = after-inside;
                 marked = after-marked;
               };
@@ -250,6 +288,12 @@ module _ (J : Jobs) (laws : Laws J) (G : Given) (ok : GivenOk G) (s : State) (in
                 sized = laws .blend-sized G ok (place (s .places) 0 .position / 5) (s .buffers) (inv .sized);
                 as-fixed =
                     λ c h. blend-fixed c h ∙ ap (λ (r : ℕ). fixed J G r c) (sym (ap (λ (p : Place). p .position) (at-blended c h) ∙ ap suc (at-q c h)));
+                as-kept =
+                    λ c h.
+                    ap (λ (p : Place). p .clipped) (at-blended c h)
+                    ∙ inv .as-kept c h
+                    ∙ sym (kept-old J G (place (s .places) c .position) c 2 (t c h .next) refl)
+                    ∙ ap (λ (p : Place). kept J G (p .position) c) (sym (at-blended c h));
                 inside =
                     λ c h m.
                     laws .blend-in G ok (place (s .places) 0 .position / 5) c h (s .buffers) (inv .sized)

@@ -6,7 +6,8 @@ use native.Mathlib.Decide.{ℕ-discrete}
 use mathlib.Core.Bool.{false}
 use mathlib.Core.List.{List, [], _∷_, map}
 use lib.ListN.{set}
-use Rattle.calls.specs.Run.{Place, Given, place, count}
+use Rattle.calls.specs.Run.{Place, Given, place, count, coefs}
+use Rattle.start.specs.Buffers.{Buffers}
 use Rattle.calls.specs.Jobs.{Job, push, fidelity, move, project, Call, on, blend, turn, blendTurn, Jobs, fixed, channelBlown, seenAt}
 use Rattle.calls.specs.Calls.{State, done, first, turnTests, onward, advance, start, final, noneYet, plain, plainAccept, plainSettle, plainPlaces}
 use Rattle.calls.specs.Between.{PlacesAre}
@@ -14,7 +15,8 @@ use Rattle.calls.specs.Laws.{Laws}
 use Rattle.calls.proofs.Legal.{Ready, ready-of, blend-ready-of, place-here, place-elsewhere, job-legal, place-blended, blend-legal}
 use Rattle.calls.proofs.Runs.{at-fresh, fresh-are, demand3}
 
-module _ (J : Jobs) (G : Given) (fine : (c p : ℕ) → c < count G → p ≤ 5 * G .sheet .N → channelBlown G c (fixed J G p c) ≡ false) where
+module _ (J : Jobs) (G : Given) (most : (c : ℕ) (b : Buffers) → J .clip G c b ≤ coefs (G .sheet) c)
+    (fine : (c p : ℕ) → c < count G → p ≤ 5 * G .sheet .N → channelBlown G c (fixed J G p c) ≡ false) where
   record Unmarked (ps : List Place) : Type 0 where
     are : PlacesAre (G .sheet) ps
     none : (c : ℕ) → c < count G → place ps c .mark ≡ false
@@ -31,7 +33,7 @@ module _ (J : Jobs) (G : Given) (fine : (c p : ℕ) → c < count G → p ≤ 5 
     job-unmarked j c below r =
         let p : Place = advance j (seenAt J G (place ps c .position) c) (place ps c) in
         record {
-          are = job-legal (G .sheet) ps j c (seenAt J G (place ps c .position) c) (u .are) below r;
+          are = job-legal (G .sheet) ps j c (seenAt J G (place ps c .position) c) (u .are) below r (most c (fixed J G (place ps c .position) c));
           none =
               λ d h.
               elim (ℕ-discrete c d) [

@@ -5,10 +5,10 @@ use mathlib.Core.Bool.{true, false}
 use mathlib.Core.List.{List}
 use lib.ListN.{length}
 use lib.Dec.{T}
-use Rattle.calls.specs.Run.{Sheet, Place, Given, place, count, area, coefs, levelsBefore, blendsIn, sheetOk}
+use Rattle.calls.specs.Run.{Numbers, Sheet, Place, Given, own, place, count, area, coefs, levelsBefore, blendsIn, sheetOk}
 use Rattle.start.specs.Buffers.{Buffers}
 use Rattle.calls.specs.Buffers.{channel, Sized}
-use Rattle.calls.specs.Jobs.{Jobs, fixed, channelBlown}
+use Rattle.calls.specs.Jobs.{Jobs, fixed, kept, channelBlown}
 use Rattle.calls.specs.Calls.{State, all, levelOk, tableOk}
 use Rattle.calls.specs.Demand.{SavedIn}
 
@@ -21,13 +21,15 @@ pub record GivenOk (G : Given) : Type 0 where
   pub levels-ok : T (all levelOk (G .levels))
 
 -- legal places, as facts
-pub record PlaceIs (S : Sheet) (p : Place) : Type 0 where
+pub record PlaceIs (S : Sheet) (o : Numbers) (p : Place) : Type 0 where
   pub within : p .position ≤ 5 * S .N
   pub marked : p .mark ≡ true → (0 < p .position) × (p .position % 5 ≡ 0)
+  pub clipped-most : p .clipped ≤ o .width * o .height
+  pub clipped-none : p .position < 5 → p .clipped ≡ 0
 
 pub record PlacesAre (S : Sheet) (ps : List Place) : Type 0 where
   pub long : length ps ≡ S .count
-  pub each : (c : ℕ) → c < S .count → PlaceIs S (place ps c)
+  pub each : (c : ℕ) → c < S .count → PlaceIs S (own S c) (place ps c)
   pub equal : (c : ℕ) → c < S .count → blendsIn (place ps c .position) ≡ blendsIn (place ps 0 .position)
 
 -- every saved coefficient of channel c is in its interval
@@ -38,5 +40,6 @@ pub record Inv (J : Jobs) (G : Given) (s : State) : Type 0 where
   pub legal-places : PlacesAre (G .sheet) (s .places)
   pub sized : Sized (count G * area G) (s .buffers)
   pub as-fixed : (c : ℕ) → c < count G → channel (area G) c (s .buffers) ≡ fixed J G (place (s .places) c .position) c
+  pub as-kept : (c : ℕ) → c < count G → place (s .places) c .clipped ≡ kept J G (place (s .places) c .position) c
   pub inside : (c : ℕ) → c < count G → place (s .places) c .mark ≡ false → AllIn G c (channel (area G) c (s .buffers))
   pub marked : (c : ℕ) → c < count G → place (s .places) c .mark ≡ true → channelBlown G c (fixed J G (place (s .places) c .position) c) ≡ true

@@ -99,11 +99,12 @@ startRefusal G ps ls = first (lendTests G ps ls true)
 
 -- A channel's place after a job: "its position advances"
 abbrev pub onward : Place → Place
-onward p = record { position = suc (p .position); mark = p .mark }
+onward p = record { position = suc (p .position); mark = p .mark; clipped = p .clipped }
 
--- and project marks the channel "if then any plane value or saved coefficient is NaN or infinite".
+-- and project marks the channel "if then any plane value or saved coefficient is NaN or infinite", and "the record keeps the last number" of clipped
+-- coefficients (M-104).
 abbrev pub marked : Seen → Place → Place
-marked x p = record { position = suc (p .position); mark = x .blown }
+marked x p = record { position = suc (p .position); mark = x .blown; clipped = x .clipped }
 
 abbrev pub advance : Job → Seen → Place → Place
 advance push x p = onward p
@@ -154,7 +155,7 @@ settle (suc r) s o = record { answer = refused (suc r); after = s }
 unfoldable pub call : Jobs → Given → Call → State → Called
 call J G x s = settle (refusal G (s .places) x (lengths (lent x) (s .buffers))) s (accept J G x s)
 
--- start "sets positions to 0 and clears marks: that is a fresh run"
+-- start "sets positions to 0 and clears marks: that is a fresh run"; the kept numbers are "0 after start" (M-104)
 abbrev pub begin : Jobs → Given → State → Called
 begin J G s =
     record {
@@ -175,7 +176,7 @@ unfoldable pub final : Jobs → Given → List Call → State → State
 final J G [] s = s
 final J G (x ∷ xs) s = final J G xs (call J G x s .after)
 
--- ---- the plain run: "It keeps a count and a mark per channel, at first 0 and none."
+-- ---- the plain run: "It keeps a count and a mark per channel, at first 0 and none", and so the kept number
 
 abbrev pub noneYet : Given → List Place
 noneYet G = replicate (count G) fresh
@@ -184,7 +185,8 @@ pub record Plain : Type 0 where
   pub answer : Answer
   pub places : List Place
 
--- "An accepted project marks the channel exactly when the buffers fixed for its new count meet the condition of job 5."
+-- "An accepted project marks the channel exactly when the buffers fixed for its new count meet the condition of job 5." The number that it keeps is
+-- that of the buffers fixed for the count before.
 abbrev pub plainAccept : Jobs → Given → Call → List Place → Plain
 plainAccept J G (on j c) ps =
     let x = seenAt J G (place ps c .position) c in

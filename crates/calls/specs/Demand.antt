@@ -8,7 +8,7 @@ use lib.Ieee.{nan}
 use Rattle.calls.specs.Run.{Place, Given, place, count, area, coefs, level, quantiser}
 use Rattle.start.specs.Buffers.{Buffers}
 use Rattle.calls.specs.Buffers.{channel, joined}
-use Rattle.calls.specs.Jobs.{Call, Jobs, fixed}
+use Rattle.calls.specs.Jobs.{Call, Jobs, fixed, kept}
 use Rattle.interval.specs.Interval.{InInterval}
 use Rattle.calls.specs.Calls.{Answer, done, State, start, answers, final, noneYet, plainAnswers, plainPlaces}
 
@@ -17,12 +17,14 @@ abbrev pub SavedIn : Given → ℕ → ℕ → Buffers → Type 0
 SavedIn G c k b = InInterval (level G c k) (level G c k) (quantiser G c k) (getD (b .saved) k nan)
 
 -- The claim, of a list xs of calls made one after the other on a fresh run: `said` are the answers given, t is the state left,
--- and ps are the plain run's counts and marks after the same calls.
+-- and ps are the plain run's counts, marks and kept numbers after the same calls.
 pub record Claim (J : Jobs) (G : Given) (xs : List Call) (said : List Answer) (t : State) (ps : List Place) : Type 0 where
   -- each call answers as the plain run does
   pub same-answers : said ≡ plainAnswers J G xs (noneYet G)
-  -- positions and marks are the plain run's counts and marks
+  -- positions, marks and kept numbers are the plain run's counts, marks and kept numbers
   pub same-places : t .places ≡ ps
+  -- each kept number is the one that the recursion gives for the channel's count (M-104)
+  pub as-kept : (c : ℕ) → c < count G → place ps c .clipped ≡ kept J G (place ps c .position) c
   -- the lent buffers hold each channel's six, as they are fixed for its count, one channel after the other
   pub as-fixed : t .buffers ≡ joined (count G) (λ c. fixed J G (place ps c .position) c)
   -- each saved coefficient of a channel that is not marked is in its interval

@@ -1,7 +1,8 @@
 -- The five jobs, and the recursion that fixes a channel's buffers for each count of accepted jobs (document 01, "Jobs and positions").
 -- `Jobs` stands for the arithmetic of the jobs, which is the solver's.
 use Prim.Native.Nat.{ℕ, zero, suc, _/_, _%_}
-use mathlib.Core.Bool.{Bool}
+use mathlib.Core.Bool.{Bool, cond}
+use lib.Dec.{eqb}
 use Rattle.calls.specs.Run.{Given, count, area, coefs}
 use Rattle.start.specs.Buffers.{Buffers}
 use Rattle.projection.specs.Blown.{isBlown}
@@ -34,6 +35,8 @@ pub record Jobs : Type 0 where
   pub work : Job → Given → ℕ → ℕ → Buffers → Buffers
   -- what blend makes of the lent buffers, which hold all channels', in a step
   pub blending : Given → ℕ → Buffers → Buffers
+  -- how many coefficients project clips, by a channel's buffers before it
+  pub clip : Given → ℕ → Buffers → ℕ
 
 -- Channel c's buffers one job later: the job's place in the step, the step, and all channels' buffers before.
 abbrev pub next : Jobs → Given → ℕ → ℕ → (ℕ → Buffers) → ℕ → Buffers
@@ -48,6 +51,11 @@ unfoldable pub fixed : Jobs → Given → ℕ → ℕ → Buffers
 fixed J G zero c = J .start G c
 fixed J G (suc p) c = next J G (p % 5) (p / 5) (fixed J G p) c
 
+-- M-104: the number that channel c keeps for a count, 0 at the start. A project gives it anew, the other jobs leave it: "the last number".
+unfoldable pub kept : Jobs → Given → ℕ → ℕ → ℕ
+kept J G zero c = 0
+kept J G (suc p) c = cond (eqb (p % 5) (turn project)) (J .clip G c (fixed J G p c)) (kept J G p c)
+
 -- the condition of job 5, of channel c with these buffers: "any plane value or saved coefficient is NaN or infinite"
 abbrev pub channelBlown : Given → ℕ → Buffers → Bool
 channelBlown G c b = isBlown (coefs (G .sheet) c) (b .plane) (b .saved)
@@ -56,10 +64,12 @@ channelBlown G c b = isBlown (coefs (G .sheet) c) (b .plane) (b .saved)
 pub record Seen : Type 0 where
   -- the condition of job 5 then holds
   pub blown : Bool
+  -- how many coefficients project clips
+  pub clipped : ℕ
 
 -- by the channel's buffers before and after the job
 abbrev pub seen : Jobs → Given → ℕ → Buffers → Buffers → Seen
-seen J G c before after = record { blown = channelBlown G c after }
+seen J G c before after = record { blown = channelBlown G c after; clipped = J .clip G c before }
 
 -- of channel c's job after its first p, by the buffers fixed for these counts
 abbrev pub seenAt : Jobs → Given → ℕ → ℕ → Seen

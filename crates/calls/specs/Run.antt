@@ -27,10 +27,12 @@ pub record Sheet : Type 0 where
   pub count : ℕ
   pub owns : List Numbers
 
--- a channel's position, which counts its accepted jobs, and whether it is marked blown
+-- a channel's position, which counts its accepted jobs, whether it is marked blown, and how many coefficients its last project clipped, 0 before
+-- the first (M-104)
 pub record Place : Type 0 where
   pub position : ℕ
   pub mark : Bool
+  pub clipped : ℕ
 
 -- what start is fed beside the places: the sheet, the levels and the tables
 pub record Given : Type 0 where
@@ -44,7 +46,7 @@ abbrev pub own : Sheet → ℕ → Numbers
 own S c = getD (S .owns) c (record { width = 0; height = 0; across = 0; down = 0; data-weight = nan })
 
 abbrev pub fresh : Place
-fresh = record { position = 0; mark = false }
+fresh = record { position = 0; mark = false; clipped = 0 }
 
 abbrev pub place : List Place → ℕ → Place
 place ps c = getD ps c fresh
@@ -82,7 +84,8 @@ abbrev pub among : ℕ → (ℕ → Bool) → Bool
 among zero f = false
 among (suc k) f = among k f || f k
 
--- ---- legal records: "numbers within the sheet's rules, equal blends in all channels, marks only at positive multiples of 5"
+-- ---- legal records: "numbers within the sheet's rules, equal blends in all channels, marks only at positive multiples of 5"; and of the kept
+-- numbers (M-104) "A kept number above w × h, or not 0 before the first project, is 13"
 
 -- "multiples of 8, at least 8", and for W and H "multiples of 8, 8 to 512"
 abbrev pub side : ℕ → Bool
@@ -120,14 +123,18 @@ sheetOk S = headerOk S && every (S .count) (λ c. ownOk S (own S c))
 abbrev pub blendsIn : ℕ → ℕ
 blendsIn p = (p + 2) / 5
 
+-- M-104: at most w × h, and 0 before the first project, which ends at position 5
+abbrev pub keptOk : Numbers → Place → Bool
+keptOk o p = leb (p .clipped) (o .width * o .height) && (leb 5 (p .position) || eqb (p .clipped) 0)
+
 -- "from 0 to 5N"; "marks only at positive multiples of 5"
-unfoldable pub placeOk : Sheet → Place → Bool
-placeOk S p = leb (p .position) (5 * S .N) && (not (p .mark) || ltb 0 (p .position) && eqb (p .position % 5) 0)
+unfoldable pub placeOk : Sheet → Numbers → Place → Bool
+placeOk S o p = leb (p .position) (5 * S .N) && (not (p .mark) || ltb 0 (p .position) && eqb (p .position % 5) 0) && keptOk o p
 
 -- "equal blends in all channels"
 unfoldable pub placesOk : Sheet → List Place → Bool
 placesOk S ps =
-    eqb (length ps) (S .count) && every (S .count) (λ c. placeOk S (place ps c))
+    eqb (length ps) (S .count) && every (S .count) (λ c. placeOk S (own S c) (place ps c))
     && every (S .count) (λ c. eqb (blendsIn (place ps c .position)) (blendsIn (place ps 0 .position)))
 
 abbrev pub legal : Sheet → List Place → Bool

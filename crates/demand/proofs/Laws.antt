@@ -121,6 +121,7 @@ laws =
           λ G ok c step h b z i k l f.
           saved-in G ok c h (projecting (coefOf G c) (G .sheet .W) (G .sheet .H) b) k l
           (Solver-laws.projecting-in (coefOf G c) (G .sheet .W) (G .sheet .H) (covers G ok c h) (legal G ok c h) b z k (rw (coef-count G c) l) f);
+      clip-most = λ G c b. omega (arith, Solver-laws.clipping-most (coefOf G c) (G .sheet .W) (G .sheet .H) b, coef-count G c);
       blend-sized =
           λ G ok step B z.
           Solver-laws.blending-sized (count G * area G) (G .sheet .W) (G .sheet .H) (count G) (constantsOf (G .sheet) step) B z;

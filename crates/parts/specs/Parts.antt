@@ -8,7 +8,7 @@ use lib.ListN.{length}
 use lib.Ieee.{Float}
 use Rattle.start.specs.Buffers.{Buffers}
 use Rattle.fidelity.specs.DctGradient.{dataGradient}
-use Rattle.projection.specs.Projection.{Box, projectOntoBox}
+use Rattle.projection.specs.Projection.{Box, clipped, projectOntoBox, transformed}
 use Rattle.projection.specs.Blown.{isBlown}
 use Rattle.calls.specs.Run.{Given, own, area, coefs, levelsBefore}
 use Rattle.calls.specs.Buffers.{partOf, putPart, putChannel}
@@ -51,6 +51,10 @@ projectedPart G c b = putBox (area G) c b (projectedBox G c b)
 -- the condition of job 5: the mark that channel c's values then give
 abbrev pub blownPart : Given → ℕ → Box → Bool
 blownPart G c b = isBlown (coefs (G .sheet) c) (projectedBox G c b .plane) (projectedBox G c b .saved)
+
+-- how many coefficients job 5 clips of channel c's part (M-104)
+abbrev pub clippedPart : Given → ℕ → Box → ℕ
+clippedPart G c b = clipped (coefOf G c) (transformed (coefOf G c) (G .sheet .W) (G .sheet .H) (partBox (area G) c b))
 
 -- job 2 on channel c's part: its gradient from its saved coefficients
 abbrev pub fittedPart : Given → ℕ → List Float → List Float → List Float

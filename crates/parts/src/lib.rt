@@ -12,7 +12,7 @@ ghost use Rattle.calls.specs.Run.{own, coefs, levelsBefore};
 ghost use Rattle.calls.specs.Buffers.{partOf};
 ghost use Rattle.projection.specs.Blown.{isBlown};
 ghost use Rattle.record.specs.Model.{Legal, sheetOf, givenOf};
-ghost use Rattle.parts.specs.Parts.{Fed, FedAll, Whole, fittedPart, projectedPart, blownPart, startedPart};
+ghost use Rattle.parts.specs.Parts.{Fed, FedAll, Whole, fittedPart, projectedPart, blownPart, clippedPart, startedPart};
 
 pub fn own_of(run: Run, c: u32) -> Own
     requires { ⌜ Legal run × (c < run .count) ⌝ }
@@ -86,7 +86,7 @@ pub fn data_part(
     );
 }
 
-// Job 5 on channel c's part.
+// Job 5 on channel c's part. Gives how many coefficients it clipped.
 pub fn project_part(
     run: Run,
     c: u32,
@@ -96,11 +96,13 @@ pub fn project_part(
     across: &mut [f32],
     down: &mut [f32],
     saved: &mut [f32],
-)
+) -> usize
     requires { ⌜ Fed run c (now levels) (now tables) × Whole run (now plane) × Whole run (now across) × Whole run (now down) × Whole run (now saved) ⌝ }
-    ensures { λ _. ⌜ record { plane = now (plane .exit); across = now (across .exit); down = now (down .exit); saved = now (saved .exit) }
+    ensures { λ r. ⌜ (record { plane = now (plane .exit); across = now (across .exit); down = now (down .exit); saved = now (saved .exit) }
         ≡ projectedPart (givenOf run (now (levels .entry)) (now (tables .entry))) c
-        (record { plane = now (plane .entry); across = now (across .entry); down = now (down .entry); saved = now (saved .entry) }) ⌝ }
+        (record { plane = now (plane .entry); across = now (across .entry); down = now (down .entry); saved = now (saved .entry) }))
+        × (r ≡ clippedPart (givenOf run (now (levels .entry)) (now (tables .entry))) c
+        (record { plane = now (plane .entry); across = now (across .entry); down = now (down .entry); saved = now (saved .entry) })) ⌝ }
 {
     let s = record::places::span_of(run, c);
     let from = s.from;
@@ -120,7 +122,7 @@ pub fn project_part(
         h,
         ls,
         ts,
-    );
+    )
 }
 
 // Whether channel c is blown: a value of its plane or a saved coefficient is NaN or infinite.
@@ -151,11 +153,14 @@ pub fn project_seen(
         ≡ projectedPart (givenOf run (now (levels .entry)) (now (tables .entry))) c
         (record { plane = now (plane .entry); across = now (across .entry); down = now (down .entry); saved = now (saved .entry) }))
         × (r .blown ≡ blownPart (givenOf run (now (levels .entry)) (now (tables .entry))) c
+        (record { plane = now (plane .entry); across = now (across .entry); down = now (down .entry); saved = now (saved .entry) }))
+        × (r .clipped ≡ clippedPart (givenOf run (now (levels .entry)) (now (tables .entry))) c
         (record { plane = now (plane .entry); across = now (across .entry); down = now (down .entry); saved = now (saved .entry) })) ⌝ }
 {
-    project_part(run, c, levels, tables, plane, across, down, saved);
+    let moved = project_part(run, c, levels, tables, plane, across, down, saved);
     Seen {
         blown: blown_part(run, c, plane, saved),
+        clipped: moved as u32,
     }
 }
 

@@ -101,12 +101,12 @@ apart true true true false b c = refl
 
 pub each-channel : (S : Sheet) (ps : List Place) (k : ℕ) → every k (channelOk S ps)
     ≡ (every k (λ c. ownOk S (own S c))
-    && (every k (λ c. placeOk S (place ps c)) && every k (λ c. eqb (blendsIn (place ps c .position)) (blendsIn (place ps 0 .position)))))
+    && (every k (λ c. placeOk S (own S c) (place ps c)) && every k (λ c. eqb (blendsIn (place ps c .position)) (blendsIn (place ps 0 .position)))))
 each-channel S ps zero = refl
 each-channel S ps (suc k) =
     let equal : ℕ → Bool = λ c. eqb (blendsIn (place ps c .position)) (blendsIn (place ps 0 .position)) in
     ap (λ (b : Bool). b && channelOk S ps k) (each-channel S ps k)
-    ∙ apart (every k (λ c. ownOk S (own S c))) (every k (λ c. placeOk S (place ps c))) (every k equal) (ownOk S (own S k)) (placeOk S (place ps k)) (equal k)
+    ∙ apart (every k (λ c. ownOk S (own S c))) (every k (λ c. placeOk S (own S c) (place ps c))) (every k equal) (ownOk S (own S k)) (placeOk S (own S k) (place ps k)) (equal k)
 
 -- ---- a loop's end
 

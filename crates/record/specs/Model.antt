@@ -20,7 +20,7 @@ abbrev pub ownOf : Channel → Numbers
 ownOf c = record { width = c .width; height = c .height; across = c .across; down = c .down; data-weight = c .weight }
 
 abbrev pub placeOf : Channel → Place
-placeOf c = record { position = c .position; mark = c .mark }
+placeOf c = record { position = c .position; mark = c .mark; clipped = c .clipped }
 
 -- the sheet's half, with these own numbers of the channels
 abbrev pub sheetWith : Run → List Numbers → Sheet
@@ -42,7 +42,7 @@ Legal r = T (legal (sheetOf r) (placesOf r))
 
 -- channel c of a legal record: its own numbers, its place, and as many blends as channel 0 has had
 abbrev pub channelOk : Sheet → List Place → ℕ → Bool
-channelOk S ps c = ownOk S (own S c) && placeOk S (place ps c) && eqb (blendsIn (place ps c .position)) (blendsIn (place ps 0 .position))
+channelOk S ps c = ownOk S (own S c) && placeOk S (own S c) (place ps c) && eqb (blendsIn (place ps c .position)) (blendsIn (place ps 0 .position))
 
 -- ---- the struct with other channels, and with other places: channel by channel, as long as there are places; the rest of it stays
 
@@ -51,7 +51,16 @@ withChannels r cs = record { w = r .w; h = r .h; n = r .n; smoothing = r .smooth
 
 abbrev pub withPlace : Channel → Place → Channel
 withPlace c p =
-    record { width = c .width; height = c .height; across = c .across; down = c .down; weight = c .weight; position = p .position; mark = p .mark }
+    record {
+      width = c .width;
+      height = c .height;
+      across = c .across;
+      down = c .down;
+      weight = c .weight;
+      position = p .position;
+      mark = p .mark;
+      clipped = p .clipped;
+    }
 
 abbrev pub withPlaces : List Channel → List Place → List Channel
 withPlaces [] ps = []
@@ -63,7 +72,7 @@ placed r ps = withChannels r (withPlaces (r .channels) ps)
 
 -- what is read past the three channels
 abbrev pub noChannel : Channel
-noChannel = record { width = 0; height = 0; across = 0; down = 0; weight = nan; position = 0; mark = false }
+noChannel = record { width = 0; height = 0; across = 0; down = 0; weight = nan; position = 0; mark = false; clipped = 0 }
 
 -- x is channel c of the record: its own numbers and its place are the model's
 pub record ChannelIs (r : Run) (c : ℕ) (x : Channel) : Type 0 where
@@ -76,7 +85,7 @@ pub record ChannelIs (r : Run) (c : ℕ) (x : Channel) : Type 0 where
 
 -- what a job tells
 abbrev pub seenOf : Seen → Jobs.Seen
-seenOf x = record { blown = x .blown }
+seenOf x = record { blown = x .blown; clipped = x .clipped }
 
 -- document 01's number and values for each case: a refusal's number in the table, accepted, accepted and blown
 abbrev pub answerOf : Answer → Calls.Answer

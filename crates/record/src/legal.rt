@@ -8,7 +8,7 @@ ghost use mathlib.Core.Bool.{_&&_, not};
 ghost use Prim.Native.Nat.{ℕ, _+_, _/_, _≤_};
 ghost use lib.ListN.{getD};
 ghost use lib.Dec.{eqb};
-ghost use Rattle.calls.specs.Run.{Sheet, legal, side, fullSide, factor, weight, ownOk, placeOk, headerOk, every, blendsIn};
+ghost use Rattle.calls.specs.Run.{Sheet, legal, side, fullSide, factor, weight, ownOk, keptOk, placeOk, headerOk, every, blendsIn};
 ghost use Rattle.record.specs.Model.{ownOf, placeOf, sheetOf, placesOf, channelOk};
 
 // A multiple of 8, at least 8.
@@ -52,13 +52,25 @@ fn own_ok(w: u32, h: u32, c: Channel) -> bool
     both(both(both(factors, across), down), weight_ok(c.weight))
 }
 
-// A position from 0 to 5N, and a mark only at a positive multiple of 5.
+// A kept number of at most w × h, and 0 before the first project has ended, at position 5.
+fn kept_ok(c: Channel) -> bool
+    ensures { λ r. ⌜ r ≡ keptOk (ownOf c) (placeOf c) ⌝ }
+{
+    let most = (c.width as u64) * (c.height as u64);
+    both(
+        c.clipped as u64 <= most,
+        either(5 <= c.position, c.clipped == 0),
+    )
+}
+
+// A position from 0 to 5N, a mark only at a positive multiple of 5, and a kept number that may be.
 fn place_ok(n: u32, c: Channel) -> bool
-    ensures { λ r. ⌜ ((S : Sheet) → S .N ≡ n → r ≡ placeOk S (placeOf c)) ⌝ }
+    ensures { λ r. ⌜ ((S : Sheet) → S .N ≡ n → r ≡ placeOk S (ownOf c) (placeOf c)) ⌝ }
 {
     let within = c.position as u64 <= 5 * (n as u64);
     let ended = both(0 < c.position, c.position % 5 == 0);
-    both(within, either(!c.mark, ended))
+    let marked = both(within, either(!c.mark, ended));
+    both(marked, kept_ok(c))
 }
 
 // Blends among the first `position` jobs of a channel.
@@ -78,7 +90,7 @@ fn header_ok(run: Run) -> bool
 
 // A channel of the record; `first` are the blends of the first channel.
 fn channel_ok(run: Run, first: u64, x: Channel) -> bool
-    ensures { λ r. ⌜ r ≡ (ownOk (sheetOf run) (ownOf x) && placeOk (sheetOf run) (placeOf x) && eqb (blendsIn (x .position)) first) ⌝ }
+    ensures { λ r. ⌜ r ≡ (ownOk (sheetOf run) (ownOf x) && placeOk (sheetOf run) (ownOf x) (placeOf x) && eqb (blendsIn (x .position)) first) ⌝ }
 {
     let own = own_ok(run.w, run.h, x);
     let place = place_ok(run.n, x);
@@ -102,7 +114,7 @@ fn channels_ok(run: Run) -> bool
 }
 
 // Whether the record is legal, by the rules of document 01.
-// This rules out a record accepted with a position past 5N, and one refused for a mark at a positive multiple of 5.
+// This rules out a record accepted with a position past 5N or a kept number above w × h, and one refused for a mark at a positive multiple of 5.
 pub fn legal(run: Run) -> bool
     ensures { λ r. ⌜ r ≡ legal (sheetOf run) (placesOf run) ⌝ }
 {

@@ -7,7 +7,7 @@ pub mod scans;
 use start::coef::Reorder;
 ghost use mathlib.Core.Path.{_≡_};
 
-// A channel of the run: own sides, factors across and down, data weight, position and mark.
+// A channel of the run: own sides, factors across and down, data weight, position, mark, and how many coefficients its last project clipped.
 #[repr(C)]
 pub struct Channel {
     pub width: u32,
@@ -17,6 +17,7 @@ pub struct Channel {
     pub weight: f32,
     pub position: u32,
     pub mark: bool,
+    pub clipped: u32,
 }
 
 // The run's record: W, H, N, the smoothing weight, the letter of line A, and its channels, the first `count` of three. Every value of the letter is
@@ -38,9 +39,10 @@ pub enum Answer {
     Blown,
 }
 
-// What a job tells of its channel: whether any plane value or saved coefficient is then NaN or infinite.
+// What a job tells of its channel: whether any plane value or saved coefficient is then NaN or infinite, and how many coefficients it clipped.
 pub struct Seen {
     pub blown: bool,
+    pub clipped: u32,
 }
 
 // A call's answer, with the record as it is afterwards.

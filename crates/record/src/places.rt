@@ -1,4 +1,4 @@
-// A channel's part of the lent buffers, and the record with new positions and marks.
+// A channel's part of the lent buffers, and the record with new positions, marks and kept numbers.
 use crate::Channel;
 use crate::Run;
 use crate::Seen;
@@ -79,16 +79,18 @@ fn marked(x: Channel, seen: Seen) -> Channel
     let mut next = x;
     next.position = x.position + 1;
     next.mark = seen.blown;
+    next.clipped = seen.clipped;
     next
 }
 
-// A channel of a fresh run: position 0, no mark.
+// A channel of a fresh run: position 0, no mark, nothing clipped.
 fn fresh(x: Channel) -> Channel
     ensures { λ r. ⌜ r ≡ withPlace x fresh ⌝ }
 {
     let mut next = x;
     next.position = 0;
     next.mark = false;
+    next.clipped = 0;
     next
 }
 

@@ -11,10 +11,10 @@ use Rattle.projection.specs.Blown.{isBlown}
 use Rattle.calls.specs.Run.{Given, own, area, coefs}
 use Rattle.calls.specs.Buffers.{channel, putChannel}
 use Rattle.calls.proofs.Parts.{put-part}
-use Rattle.work.specs.Work.{pushing, dataJob, moving, projecting}
+use Rattle.work.specs.Work.{pushing, dataJob, moving, projecting, clipping}
 use Rattle.demand.specs.Solver.{coefOf}
 use Rattle.run.specs.Public.{forPush, forData, forMove, forProject}
-use Rattle.parts.specs.Parts.{fittedPart, projectedPart, blownPart}
+use Rattle.parts.specs.Parts.{fittedPart, projectedPart, blownPart, clippedPart}
 
 module _ (n c : ℕ) (o : Buffers) (k : Constants) where
   pub push-buffers : (plane prior : List Float)
@@ -91,3 +91,9 @@ module _ (G : Given) (c : ℕ) (o : Buffers) where
       ≡ blownPart G c (record { plane = plane; across = across; down = down; saved = saved })
   unfolding channel projecting
   project-marks plane across down saved = refl
+
+  pub project-clips : (plane across down saved : List Float)
+      → clipping (coefOf G c) (G .sheet .W) (G .sheet .H) (channel (area G) c (forProject o plane across down saved))
+      ≡ clippedPart G c (record { plane = plane; across = across; down = down; saved = saved })
+  unfolding channel
+  project-clips plane across down saved = refl

@@ -85,6 +85,7 @@ module _ (r : Run) (levels : List ℤ) (tables : List ℕ) (B : Buffers) where
       record {
         same-answers = sym (ap (λ (l : Listed). l .bytes) q) ∙ ap (map byteOf) (claim .same-answers);
         same-places = sym (ap (λ (l : Listed). l .run) q) ∙ ap (placed r) (claim .same-places);
+        as-kept = claim .as-kept;
         as-fixed = sym (ap (λ (l : Listed). l .buffers) q) ∙ claim .as-fixed;
         in-interval = λ c h m k l. subst (λ (D : Buffers). SavedIn G c k (channel (area G) c D)) (ap (λ (l : Listed). l .buffers) q) (claim .in-interval c h m k l);
       }

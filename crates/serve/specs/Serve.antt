@@ -10,7 +10,7 @@ use lib.ListN.{length}
 use Rattle.start.specs.Buffers.{Buffers}
 use Rattle.calls.specs.Run.{Given, Place, place, count, area, coefs}
 use Rattle.calls.specs.Buffers.{channel, joined}
-use Rattle.calls.specs.Jobs.{push, fidelity, move, project, Call, on, blend, fixed}
+use Rattle.calls.specs.Jobs.{push, fidelity, move, project, Call, on, blend, fixed, kept}
 use Rattle.calls.specs.Calls as Calls
 use Rattle.calls.specs.Calls.{State, first, test, all, allSix, lengths, startRefusal, answers, final, noneYet, plainAnswers, plainPlaces}
 use Rattle.calls.specs.Demand.{SavedIn}
@@ -79,12 +79,14 @@ serveRefusalOf r js cs bytes levels tables B =
     serveRefusal (startRefusal (givenOf r levels tables) (placesOf r) (lengths allSix B)) js (length cs) (length bytes)
 
 -- Demand 3, of the bytes, the record and the buffers that the code leaves: G is what start is fed, xs are the calls, r is the record lent,
--- and ps are the plain run's counts and marks after the calls.
+-- and ps are the plain run's counts, marks and kept numbers after the calls.
 pub record Served (G : Given) (xs : List Call) (r : Run) (ps : List Place) (bytes : List ℕ) (r′ : Run) (B′ : Buffers) : Type 0 where
   -- each call answers as the plain run does
   pub same-answers : bytes ≡ map byteOf (plainAnswers jobs G xs (noneYet G))
-  -- positions and marks are the plain run's counts and marks, and the rest of the record is as it was
+  -- positions, marks and kept numbers are the plain run's, and the rest of the record is as it was
   pub same-places : r′ ≡ placed r ps
+  -- each kept number is the one that the recursion gives for the channel's count (M-104)
+  pub as-kept : (c : ℕ) → c < count G → place ps c .clipped ≡ kept jobs G (place ps c .position) c
   -- the lent buffers hold each channel's six, as "this recursion alone fixes them" for its count, one channel after the other
   pub as-fixed : B′ ≡ joined (count G) (λ c. fixed jobs G (place ps c .position) c)
   -- each saved coefficient of a channel that is not marked is in its interval

@@ -9,7 +9,7 @@ use Rattle.record.specs.Model.{givenOf, seenOf}
 use Rattle.parts.specs.Parts.{Fed}
 use Rattle.run.specs.Public.{forProject}
 use Rattle.run.proofs.Ready.{call-refused, Accepted, accepted, fed, project-result}
-use Rattle.run.proofs.Jobs.{project-buffers, project-marks}
+use Rattle.run.proofs.Jobs.{project-buffers, project-marks, project-clips}
 use borrow.Author.Needs.{needs}
 use Rattle.run.proofs.values.project_value.Statement.{statement}
 use Rattle.run.proofs.values.project_value.Tie as tie
@@ -50,7 +50,11 @@ returns-2 c =
     λ o.
     project-result (a .run) (a .levels .now) (a .tables .now) (a .c) (forProject o (a .plane .now) (a .across .now) (a .down .now) (a .saved .now))
     (sym (c .before .before .before .before .before .before .before .before .before .before .before .before .before .before .before .before .fed-refusal .ensures project refl refl) ∙ c .before .before .before .before .before .before .before .before .before .before .before .before .before .before .before .if1 .left)
-    (seenOf (c .before .before .before .before .before .before .before .before .before .before .project-seen .result)) (λ i. record { blown = (project-marks G (a .c) o (a .plane .now) (a .across .now) (a .down .now) (a .saved .now) ∙ sym (p .1)) i })
+    (seenOf (c .before .before .before .before .before .before .before .before .before .before .project-seen .result)) (λ i.
+    record {
+      blown = (project-marks G (a .c) o (a .plane .now) (a .across .now) (a .down .now) (a .saved .now) ∙ sym (p .1)) i;
+      clipped = (project-clips G (a .c) o (a .plane .now) (a .across .now) (a .down .now) (a .saved .now) ∙ sym (p .2)) i;
+    })
     (c .project-reply .result) (c .project-reply .ensures) (c .before .projected .ensures)
     (project-buffers G (a .c) o (a .plane .now) (a .across .now) (a .down .now) (a .saved .now)
     ∙ sym (ap (λ (b : Box). forProject o (b .plane) (b .across) (b .down) (b .saved)) (p .0)))
