@@ -1,14 +1,20 @@
 -- Channel c's part of the four buffers after project: what the condition of job 5 looks at.
 use mathlib.Core.Path.{_≡_, _∙_}
-use Prim.Native.Nat.{ℕ, _*_, _<_}
-use Rattle.projection.specs.Projection.{Box}
+use Prim.Native.Nat.{ℕ, _*_, _≤_, _<_}
+use Rattle.projection.specs.Projection.{Box, transformed}
 use Rattle.projection.specs.Blown.{isBlown}
 use Rattle.projection.proofs.Lengths.{BoxLong, projected-long}
+use Rattle.projection.proofs.Writes.{clipped-most}
 use Rattle.calls.specs.Run.{Given, count, area, coefs}
 use Rattle.calls.specs.Buffers.{partOf}
 use Rattle.calls.proofs.Parts.{length-part, length-put, part-put-same}
 use Rattle.demand.specs.Solver.{coefOf}
-use Rattle.parts.specs.Parts.{partBox, projectedBox, projectedPart, blownPart}
+use Rattle.parts.specs.Parts.{partBox, projectedBox, projectedPart, blownPart, clippedPart}
+
+-- project clips no more coefficients than the channel has
+pub clipped-small : (G : Given) (c : ℕ) (b : Box) → clippedPart G c b ≤ coefs (G .sheet) c
+unfolding coefOf
+clipped-small G c b = clipped-most (coefOf G c) (transformed (coefOf G c) (G .sheet .W) (G .sheet .H) (partBox (area G) c b))
 
 module _ (G : Given) (c : ℕ) (below : c < count G) (b : Box) (long : BoxLong (count G * area G) b) where
   parts-long : BoxLong (area G) (partBox (area G) c b)

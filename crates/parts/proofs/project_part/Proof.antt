@@ -36,14 +36,12 @@ project-onto-box-requires c κs =
 returns : tie.Need-returns
 unfolding coefOf
 returns c =
-    rw (
-      ← c .before .before .before .before .before .before .before .before .before .before .before .before .before .before .before .before .before .before .span-of .ensures .1,
-      ← c .before .before .before .before .before .before .before .before .before .before .before .before .before .before .before .before .before .before .span-of .ensures .0,
-      ← c .before .before .before .before .before .before .before .before .before .before .before .before .before .before .before .before .before .own-of .ensures,
-      ← c .before .before .before .before .before .before .before .before .before .before .before .before .before .before .before .before .levels-of .ensures,
-      ← c .before .before .before .before .before .before .before .before .before .before .before .before .before .before .before .table-of .ensures,
-      ← c .before .before .before .before .before .before .before .before .project-onto-box .ensures,
-    )
+    let s = c .before .before .before .before .before .before .before .before .before .before .before .before .before .before .before .before .before .before .span-of .ensures in
+    let o = c .before .before .before .before .before .before .before .before .before .before .before .before .before .before .before .before .before .own-of .ensures in
+    let l = c .before .before .before .before .before .before .before .before .before .before .before .before .before .before .before .before .levels-of .ensures in
+    let t = c .before .before .before .before .before .before .before .before .before .before .before .before .before .before .before .table-of .ensures in
+    let p = c .before .before .before .before .before .before .before .before .project-onto-box .ensures in
+    (rw (← s .1, ← s .0, ← o, ← l, ← t, ← p .0), rw (← s .1, ← s .0, ← o, ← l, ← t) (p .1))
 
 pub project-part-spec : {M : Type 1} → statement M
 project-part-spec =
