@@ -59,6 +59,20 @@ places-are zero (x ∷ xs) (p ∷ ps) e = absurd (omega arith)
 places-are (suc n) (x ∷ xs) [] e = absurd (omega arith)
 places-are (suc n) (x ∷ xs) (p ∷ ps) e = ap (λ (l : List Place). p ∷ l) (places-are n xs ps (omega arith))
 
+-- the place of channel c, of the first n
+pub place-in : (n : ℕ) (xs : List Channel) (c : ℕ) → c < n → c < length xs → place (map placeOf (take n xs)) c ≡ placeOf (getD xs c noChannel)
+place-in n [] c h l = absurd (not-suc-le-zero l)
+place-in zero (x ∷ xs) c h l = absurd (not-suc-le-zero h)
+place-in (suc n) (x ∷ xs) zero h l = refl
+place-in (suc n) (x ∷ xs) (suc c) h l = place-in n xs c (le-of-suc-le-suc h) (le-of-suc-le-suc l)
+
+pub place-past : (n : ℕ) (xs : List Channel) (c : ℕ) → n ≤ c → place (map placeOf (take n xs)) c ≡ fresh
+place-past zero [] c h = refl
+place-past (suc n) [] c h = refl
+place-past zero (x ∷ xs) c h = refl
+place-past (suc n) (x ∷ xs) zero h = absurd (not-suc-le-zero h)
+place-past (suc n) (x ∷ xs) (suc c) h = place-past n xs c (le-of-suc-le-suc h)
+
 -- ---- the struct
 
 pub placed-same : (r : Run) → placed r (placesOf r) ≡ r

@@ -32,6 +32,10 @@ sheetOf r = sheetWith r (map ownOf (take (r .count) (r .channels)))
 abbrev pub placesOf : Run → List Place
 placesOf r = map placeOf (take (r .count) (r .channels))
 
+-- the number that channel c keeps; 0 for a channel that the record has not
+abbrev pub clippedOf : Run → ℕ → ℕ
+clippedOf r c = place (placesOf r) c .clipped
+
 -- what a call is given: the record's sheet, and the levels and tables that it is lent
 abbrev pub givenOf : Run → List ℤ → List ℕ → Given
 givenOf r levels tables = record { sheet = sheetOf r; levels = levels; tables = tables }

@@ -10,7 +10,7 @@ ghost use mathlib.Core.Bool.{cond};
 ghost use lib.ListN.{getD, set};
 ghost use Rattle.calls.specs.Run.{Place, fresh, place, coefs};
 ghost use Rattle.calls.specs.Calls.{onward, marked};
-ghost use Rattle.record.specs.Model.{Legal, ChannelIs, sheetOf, placeOf, placesOf, placed, withChannels, withPlace, noChannel, seenOf};
+ghost use Rattle.record.specs.Model.{Legal, ChannelIs, sheetOf, placeOf, placesOf, placed, withChannels, withPlace, noChannel, seenOf, clippedOf};
 
 // Channel c of the record.
 pub fn channel_of(run: Run, c: u32) -> Channel
@@ -27,6 +27,18 @@ pub fn coefs_of(run: Run, c: u32) -> usize
 {
     let x = channel_of(run, c);
     (x.width as usize) * (x.height as usize)
+}
+
+// The number that channel c keeps; 0 for a channel that the record has not.
+pub fn clipped_of(run: Run, c: u32) -> u32
+    requires { ⌜ c < 3 ⌝ }
+    ensures { λ r. ⌜ r ≡ clippedOf run c ⌝ }
+{
+    if c < run.count {
+        let x = run.channels[c as usize];
+        return x.clipped;
+    }
+    0
 }
 
 // Where channel c's values begin and end in a lent buffer, and the step that its next job belongs to.

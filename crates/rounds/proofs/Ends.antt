@@ -3,18 +3,19 @@ use mathlib.Core.Path.{_≡_, refl, sym, ap, _∙_, subst}
 use mathlib.Core.Logic.{⊎-elim}
 use denote.Enum.Declared.{tagOf}
 use types.Run.{OneOf}
-use mathlib.Core.Bool.{Bool, true, false}
+use mathlib.Core.Bool.{Bool, true, false, cond}
 use mathlib.Core.List.{List, [], _∷_, map}
-use Prim.Native.Nat.{ℕ, zero, suc, _+_, _*_, _≤_, _<_}
+use Prim.Native.Nat.{ℕ, zero, suc, _+_, _*_, _%_, _≤_, _<_}
 use native.Mathlib.Omega.{arith}
 use native.Mathlib.Numerals.{add-one}
+use lib.Dec.{eqb}
 use lib.ListN.{length}
 use lib.IntN.{ℤ}
 use lib.Ieee.Fits.{and-r}
 use Rattle.start.specs.Buffers.{Buffers}
-use Rattle.calls.specs.Run.{Given, Sheet, Place, fresh, place, count, area, among, sheetOk, placesOk}
+use Rattle.calls.specs.Run.{Given, Sheet, Place, fresh, place, count, area, coefs, among, sheetOk, placesOk}
 use Rattle.calls.specs.Buffers.{Plane, Prior, Gradient, Across, Down, Saved, Sized}
-use Rattle.calls.specs.Jobs.{fixed}
+use Rattle.calls.specs.Jobs.{project, turn, fixed, kept}
 use Rattle.calls.specs.Calls as Calls
 use Rattle.calls.specs.Calls.{State, done, all, allSix, lengths, startRefusal, settle, begin, start, final}
 use Rattle.calls.specs.Between.{GivenOk, Inv}
@@ -29,10 +30,10 @@ use Rattle.record.specs.declared.Run.{Run}
 use Rattle.record.specs.declared.Answer.{Answer}
 use Rattle.record.specs.declared.Answer.the-variants.{Refused, Done, Blown}
 use Rattle.record.proofs.Answer.{the-type}
-use Rattle.record.specs.Model.{sheetOf, placesOf, givenOf, answerOf}
+use Rattle.record.specs.Model.{sheetOf, placesOf, clippedOf, givenOf, answerOf}
 use Rattle.record.proofs.Placed.{sheet-stays, places-placed}
 use Rattle.run.specs.Public.{Result, stateOf, StartIs}
-use Rattle.rounds.specs.Whole.{jobCount, runBlows, Whole, last, runOf, SameLengths, Ended, Ends, RunIs}
+use Rattle.rounds.specs.Whole.{jobCount, runBlows, Whole, last, runOf, SameLengths, ClippedAre, Ended, Ends, RunIs}
 use Rattle.rounds.specs.Rounds.{AllAt, roundBlows, RoundAsks, RoundIs, RunAsks}
 use Rattle.rounds.proofs.Steps.{Kept, kept-of}
 
@@ -55,6 +56,31 @@ buffers-are G r B h =
     sym
     (joined-channels (area G) (count G) (fixed jobs G (jobCount G)) B (h .inv .sized)
     (λ c l. h .inv .as-fixed c l ∙ ap (λ (k : ℕ). fixed jobs G k c) (h .at-place c l)))
+
+-- and each channel keeps the number for them
+clipped-are : (G : Given) (r : Run) (B : Buffers) → AllAt G (jobCount G) r B → ClippedAre (runOf G) (clippedOf r)
+unfolding runOf
+clipped-are G r B h = λ c l. h .inv .as-kept c l ∙ ap (λ (k : ℕ). kept jobs G k c) (h .at-place c l)
+
+-- no more than the channel has coefficients
+pub kept-most : (G : Given) (p c : ℕ) → kept jobs G p c ≤ coefs (G .sheet) c
+unfolding kept
+kept-most G zero c = omega arith
+kept-most G (suc p) c = go (eqb (p % 5) (turn project)) (kept-most G p c)
+  where
+    go : (b : Bool) → kept jobs G p c ≤ coefs (G .sheet) c → cond b (jobs .clip G c (fixed jobs G p c)) (kept jobs G p c) ≤ coefs (G .sheet) c
+    go true before = laws .clip-most G c (fixed jobs G p c)
+    go false before = before
+
+-- the numbers may come from elsewhere
+pub renumber : (n : ℕ) (w : Whole) (B : Buffers) (a : Calls.Answer) (k k′ : ℕ → ℕ) (B′ : Buffers) → ((c : ℕ) → c < w .channels → k′ c ≡ k c)
+    → Ends n w B a k B′ → Ends n w B a k′ B′
+renumber (suc n) w B a k k′ B′ same e = e
+renumber zero w B a k k′ B′ same e = go (w .blown) e
+  where
+    go : (b : Bool) → Ended b w B a k B′ → Ended b w B a k′ B′
+    go true e = e
+    go false e = (e .0, e .1, e .2, λ c h. same c h ∙ e .3 c h)
 
 -- the loop: p of n rounds
 pub record Rounding (G : Given) (n p : ℕ) (r : Run) (B₀ B : Buffers) : Type 0 where
@@ -111,23 +137,23 @@ module _ (r₀ : Run) (levels : List ℤ) (tables : List ℕ) (B₀ : Buffers) (
                   kept = kept-of (count G * area G) B₀ B′ (asks .all .inv .sized) (s .0 .inv .sized);
                 }
 
-        pub stops : OneOf (0 ∷ 2 ∷ []) (tagOf the-type a) → Ends 0 (runOf G) B₀ Calls.blown B′
+        pub stops : OneOf (0 ∷ 2 ∷ []) (tagOf the-type a) → Ends 0 (runOf G) B₀ Calls.blown (clippedOf r′) B′
         unfolding runOf runBlows
         stops one = go a one said-of
           where
-            go : (a : Answer) → OneOf (0 ∷ 2 ∷ []) (tagOf the-type a) → RoundIs G p a r′ B′ → Ends 0 (runOf G) B₀ Calls.blown B′
+            go : (a : Answer) → OneOf (0 ∷ 2 ∷ []) (tagOf the-type a) → RoundIs G p a r′ B′ → Ends 0 (runOf G) B₀ Calls.blown (clippedOf r′) B′
             go (Refused m) one s = absurd s
             go Done one s = let y : ⊥ = ⊎-elim (λ e. omega arith) (λ e. omega arith) one in absurd y
             go Blown one s =
                 rw (among-true (jobCount G) (roundBlows G) p left (s .0))
                 (refl, same-lengths B₀ B′ (kept-of (count G * area G) B₀ B′ (asks .all .inv .sized) (s .1)))
 
-    pub ends : 5 * r₀ .n ≤ p → Ends 0 (runOf G) B₀ Calls.done B
+    pub ends : 5 * r₀ .n ≤ p → Ends 0 (runOf G) B₀ Calls.done (clippedOf r) B
     unfolding runOf runBlows
     ends l =
         let last : p ≡ jobCount G = omega (arith, h .most) in
         let none : among (jobCount G) (roundBlows G) ≡ false = rw last at (h .none) in
-        rw none (refl, buffers-are G r B (rw last at (h .all)), same-lengths B₀ B (h .kept))
+        rw none (refl, buffers-are G r B (rw last at (h .all)), same-lengths B₀ B (h .kept), clipped-are G r B (rw last at (h .all)))
 
 -- ---- start
 
@@ -155,12 +181,12 @@ module _ (r : Run) (levels : List ℤ) (tables : List ℕ) (B : Buffers) (a : An
   s = stateOf r B
 
   -- refused: as it was
-  pub refuses : OneOf (0 ∷ 2 ∷ []) (tagOf the-type a) → RunIs r levels tables B a B′
+  pub refuses : OneOf (0 ∷ 2 ∷ []) (tagOf the-type a) → RunIs r levels tables B a r′ B′
   unfolding start
   refuses one = go (startRefusal H (placesOf r) (lengths allSix B)) (ap (λ (y : Result). y .answer) h) (ap (λ (y : Result). y .buffers) h)
     where
       go : (n : ℕ) → settle n s (begin jobs H s) .answer ≡ answerOf a → settle n s (begin jobs H s) .after .buffers ≡ B′
-          → Ends n (runOf H) B (answerOf a) B′
+          → Ends n (runOf H) B (answerOf a) (clippedOf r′) B′
       go zero e f = absurd (not-done a one e)
       go (suc n) e f = (sym e, sym f)
 
@@ -223,16 +249,18 @@ module _ (r : Run) (levels : List ℤ) (tables : List ℕ) (B : Buffers) (a : An
           all = subst (λ (K : Given). AllAt K 0 r′ B′) (sym given-now) at-start;
         }
 
-    from-start : (b : Bool) (w : Whole) (d : Calls.Answer) (D : Buffers) → Ended b w B′ d D → Ended b w B d D
-    from-start b w d D = go b
+    from-start : (b : Bool) (w : Whole) (d : Calls.Answer) (k : ℕ → ℕ) (D : Buffers) → Ended b w B′ d k D → Ended b w B d k D
+    from-start b w d k D = go b
       where
         longs : SameLengths B B′
         longs = same-lengths B B′ (kept-of (count H * area H) B B′ sized (at-start .inv .sized))
 
-        go : (b : Bool) → Ended b w B′ d D → Ended b w B d D
+        go : (b : Bool) → Ended b w B′ d k D → Ended b w B d k D
         go true e = (e .0, λ n. e .1 n ∙ longs n)
-        go false e = (e .0, e .1, λ n. e .2 n ∙ longs n)
+        go false e = (e .0, e .1, λ n. e .2 n ∙ longs n, e .3)
 
     -- and ends as its rounds do
-    pub runs-on : (d : Answer) (D : Buffers) → Ends 0 (runOf (givenOf r′ levels tables)) B′ (answerOf d) D → RunIs r levels tables B d D
-    runs-on d D e = rw accepted (from-start (runOf H .blown) (runOf H) (answerOf d) D (subst (λ (K : Given). Ends 0 (runOf K) B′ (answerOf d) D) given-now e))
+    pub runs-on : (d : Answer) (u : Run) (D : Buffers) → Ends 0 (runOf (givenOf r′ levels tables)) B′ (answerOf d) (clippedOf u) D → RunIs r levels tables B d u D
+    runs-on d u D e =
+        rw accepted
+        (from-start (runOf H .blown) (runOf H) (answerOf d) (clippedOf u) D (subst (λ (K : Given). Ends 0 (runOf K) B′ (answerOf d) (clippedOf u) D) given-now e))

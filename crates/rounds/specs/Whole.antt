@@ -1,5 +1,5 @@
--- A run of all its jobs (document 01, "Whole run and picture"): the buffers that it leaves, when it blows, and how it ends.
-use Prim.Native.Nat.{ℕ, zero, suc, _*_, _%_}
+-- A run of all its jobs (document 01, "Whole run and picture"): the buffers and numbers that it leaves, when it blows, and how it ends.
+use Prim.Native.Nat.{ℕ, zero, suc, _*_, _%_, _<_}
 use mathlib.Core.Path.{_≡_}
 use mathlib.Core.Bool.{Bool, true, false, _&&_}
 use mathlib.Core.List.{List}
@@ -10,13 +10,13 @@ use lib.Ieee.{Float}
 use Rattle.start.specs.Buffers.{Buffers}
 use Rattle.calls.specs.Run.{Given, count, among}
 use Rattle.calls.specs.Buffers.{Name, get, joined}
-use Rattle.calls.specs.Jobs.{fixed, channelBlown}
+use Rattle.calls.specs.Jobs.{fixed, kept, channelBlown}
 use Rattle.calls.specs.Calls as Calls
 use Rattle.calls.specs.Calls.{lengths, allSix, startRefusal}
 use Rattle.demand.specs.Solver.{jobs}
 use Rattle.record.specs.declared.Run.{Run}
 use Rattle.record.specs.declared.Answer.{Answer}
-use Rattle.record.specs.Model.{placesOf, givenOf, answerOf}
+use Rattle.record.specs.Model.{placesOf, clippedOf, givenOf, answerOf}
 
 -- ---- what a run leaves, by what it is given
 
@@ -37,6 +37,9 @@ pub record Whole : Type 0 where
   pub buffers : Buffers
   -- a channel is blown
   pub blown : Bool
+  -- how many channels there are, and the number that each keeps: of coefficients that its last project clipped, 0 without steps (M-104)
+  pub channels : ℕ
+  pub clipped : ℕ → ℕ
 
 -- "`solve` is the plane after 5N jobs; N = 0 gives the unprojected start."
 unfoldable pub last : Given → ℕ → Buffers
@@ -44,7 +47,7 @@ last G c = fixed jobs G (jobCount G) c
 
 -- a run of all its jobs
 unfoldable pub runOf : Given → Whole
-runOf G = record { buffers = joined (count G) (last G); blown = runBlows G }
+runOf G = record { buffers = joined (count G) (last G); blown = runBlows G; channels = count G; clipped = kept jobs G (jobCount G) }
 
 -- ---- how a run ends
 
@@ -57,18 +60,23 @@ six plane prior gradient across down saved =
 abbrev pub SameLengths : Buffers → Buffers → Type 0
 SameLengths B B′ = (b : Name) → length (get b B′) ≡ length (get b B)
 
--- How a whole run that is not refused ends, by whether it blows: blown, the six being free but for their lengths; or done, with the six.
-abbrev pub Ended : Bool → Whole → Buffers → Calls.Answer → Buffers → Type 0
-Ended true w B a B′ = (a ≡ Calls.blown) × SameLengths B B′
-Ended false w B a B′ = (a ≡ Calls.done) × (B′ ≡ w .buffers) × SameLengths B B′
+-- k has each channel's number
+abbrev pub ClippedAre : Whole → (ℕ → ℕ) → Type 0
+ClippedAre w k = (c : ℕ) → c < w .channels → k c ≡ w .clipped c
+
+-- How a whole run that is not refused ends, by whether it blows: blown, the six being free but for their lengths, and the numbers k free; or done, with
+-- the six and the numbers.
+abbrev pub Ended : Bool → Whole → Buffers → Calls.Answer → (ℕ → ℕ) → Buffers → Type 0
+Ended true w B a k B′ = (a ≡ Calls.blown) × SameLengths B B′
+Ended false w B a k B′ = (a ≡ Calls.done) × (B′ ≡ w .buffers) × SameLengths B B′ × ClippedAre w k
 
 -- By its refusal, 0 for none: a refusal leaves the six as they were.
-abbrev pub Ends : ℕ → Whole → Buffers → Calls.Answer → Buffers → Type 0
-Ends (suc n) w B a B′ = (a ≡ Calls.refused (suc n)) × (B′ ≡ B)
-Ends zero w B a B′ = Ended (w .blown) w B a B′
+abbrev pub Ends : ℕ → Whole → Buffers → Calls.Answer → (ℕ → ℕ) → Buffers → Type 0
+Ends (suc n) w B a k B′ = (a ≡ Calls.refused (suc n)) × (B′ ≡ B)
+Ends zero w B a k B′ = Ended (w .blown) w B a k B′
 
--- the run of one record, from its start to its last job
-abbrev pub RunIs : Run → List ℤ → List ℕ → Buffers → Answer → Buffers → Type 0
-RunIs r levels tables B a B′ =
+-- the run of one record, from its start to its last job, which leaves the record r′
+abbrev pub RunIs : Run → List ℤ → List ℕ → Buffers → Answer → Run → Buffers → Type 0
+RunIs r levels tables B a r′ B′ =
     let G = givenOf r levels tables in
-    Ends (startRefusal G (placesOf r) (lengths allSix B)) (runOf G) B (answerOf a) B′
+    Ends (startRefusal G (placesOf r) (lengths allSix B)) (runOf G) B (answerOf a) (clippedOf r′) B′

@@ -5,7 +5,7 @@ use record::Answered;
 use record::Run;
 use run::values::start_value;
 ghost use mathlib.Core.Path.{_≡_};
-ghost use Rattle.record.specs.Model.{givenOf, answerOf};
+ghost use Rattle.record.specs.Model.{givenOf, answerOf, clippedOf};
 ghost use Rattle.rounds.specs.Whole.{six, runOf, Ends, RunIs};
 ghost use Rattle.rounds.specs.Rounds.{turns, RoundAsks, RoundIs, RunAsks};
 
@@ -61,7 +61,7 @@ fn round(
     }
 }
 
-// All rounds of a run that stands at its start: 5N of them.
+// All rounds of a run that stands at its start: 5N of them. Gives the record as it is after them.
 fn all_rounds(
     run: Run,
     levels: &[i16],
@@ -72,10 +72,10 @@ fn all_rounds(
     across: &mut [f32],
     down: &mut [f32],
     saved: &mut [f32],
-) -> Answer
+) -> Answered
     requires { ⌜ RunAsks run (now levels) (now tables) (six (now plane) (now prior) (now gradient) (now across) (now down) (now saved)) ⌝ }
     ensures { λ r. ⌜ Ends 0 (runOf (givenOf run (now (levels .entry)) (now (tables .entry))))
-        (six (now (plane .entry)) (now (prior .entry)) (now (gradient .entry)) (now (across .entry)) (now (down .entry)) (now (saved .entry))) (answerOf r)
+        (six (now (plane .entry)) (now (prior .entry)) (now (gradient .entry)) (now (across .entry)) (now (down .entry)) (now (saved .entry))) (answerOf (r .answer)) (clippedOf (r .run))
         (six (now (plane .exit)) (now (prior .exit)) (now (gradient .exit)) (now (across .exit)) (now (down .exit)) (now (saved .exit))) ⌝ }
 {
     let mut next = run;
@@ -94,15 +94,23 @@ fn all_rounds(
         );
         let a = t.answer;
         let Answer::Done = a else {
-            return Answer::Blown;
+            let stopped = t.run;
+            return Answered {
+                answer: Answer::Blown,
+                run: stopped,
+            };
         };
         next = t.run;
     }
-    Answer::Done
+    Answered {
+        answer: Answer::Done,
+        run: next,
+    }
 }
 
-// The run of a record, from its start to its last job.
-// Rules out: one step too many or too few, so that N = 0 is projected; planes handed back where a channel is blown.
+// The run of a record, from its start to its last job. Gives the record as it is afterwards, with each channel's number of clipped coefficients.
+// Rules out: one step too many or too few, so that N = 0 is projected; planes handed back where a channel is blown; a sum over the steps for the
+// number that the last one clipped.
 pub fn run_value(
     run: Run,
     levels: &[i16],
@@ -113,9 +121,9 @@ pub fn run_value(
     across: &mut [f32],
     down: &mut [f32],
     saved: &mut [f32],
-) -> Answer
+) -> Answered
     ensures { λ r. ⌜ RunIs run (now (levels .entry)) (now (tables .entry))
-        (six (now (plane .entry)) (now (prior .entry)) (now (gradient .entry)) (now (across .entry)) (now (down .entry)) (now (saved .entry))) r
+        (six (now (plane .entry)) (now (prior .entry)) (now (gradient .entry)) (now (across .entry)) (now (down .entry)) (now (saved .entry))) (r .answer) (r .run)
         (six (now (plane .exit)) (now (prior .exit)) (now (gradient .exit)) (now (across .exit)) (now (down .exit)) (now (saved .exit))) ⌝ }
 {
     let t = start_value(
@@ -131,7 +139,7 @@ pub fn run_value(
     );
     let a = t.answer;
     let Answer::Done = a else {
-        return a;
+        return t;
     };
     let started = t.run;
     all_rounds(

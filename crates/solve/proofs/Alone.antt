@@ -9,7 +9,8 @@ use Prim.Native.Nat.{ℕ, zero, suc, _+_, _-_, _*_, _≤_, _<_}
 use native.Mathlib.Nat.{eq-or-lt-of-le}
 use native.Mathlib.Omega.{arith}
 use native.Mathlib.Numerals.{add-one}
-use lib.ListN.{length, getD}
+use lib.ListN.{length, getD, set, length-set}
+use lib.Seq.{getD-set-same, getD-set-other}
 use lib.Dec.{T}
 use lib.IntN.{ℤ}
 use lib.Ieee.Fits.{and-l, and-r}
@@ -26,13 +27,13 @@ use Rattle.record.specs.declared.Run.{Run}
 use Rattle.record.specs.declared.Answer.{Answer}
 use Rattle.record.specs.declared.Answer.the-variants.{Refused, Done}
 use Rattle.record.proofs.Answer.{the-type}
-use Rattle.record.specs.Model.{Legal, ownOf, noChannel, sheetOf, placesOf, answerOf}
+use Rattle.record.specs.Model.{Legal, ownOf, noChannel, sheetOf, placesOf, clippedOf, answerOf}
 use Rattle.record.proofs.Channels.{at-own}
 use Rattle.record.proofs.Sizes.{count-3, levels-rise, levels-small}
-use Rattle.rounds.specs.Whole.{six, runBlows, Whole, last, runOf, Ended, Ends, RunIs}
+use Rattle.rounds.specs.Whole.{six, runBlows, Whole, last, runOf, ClippedAre, Ended, Ends, RunIs}
 use Rattle.rounds.proofs.Steps.{Kept, kept-of}
-use Rattle.rounds.proofs.Ends.{same-lengths, is-done, not-done}
-use Rattle.solve.specs.Solve.{joint, alone, jointGiven, aloneGiven, levelsFor, tablesFor, separately, wholeOf, isLegal, allLegal, solveRefusal, SolveIs}
+use Rattle.rounds.proofs.Ends.{same-lengths, renumber, is-done, not-done}
+use Rattle.solve.specs.Solve.{joint, alone, jointGiven, aloneGiven, levelsFor, tablesFor, aloneClipped, separately, wholeOf, numberIn, isLegal, allLegal, solveRefusal, SolveIs}
 use Rattle.solve.specs.Separate.{PartsAre, AloneAsks, AloneIs, SeparateAsks, SeparateIs}
 
 -- ---- what a sheet that is not refused has passed
@@ -123,6 +124,9 @@ same-coefs S ok c h =
     ap (λ (o : Numbers). o .width * o .height) (at-own (joint S) c (omega (arith, count-3 (joint S) ok, channels-3 S)) below)
     ∙ own-coefs S c (omega (arith, count-3 (joint S) ok))
 
+pub few-channels : (S : Sheet) → Legal (joint S) → S .header .channels ≤ 3
+few-channels S ok = omega (arith, count-3 (joint S) ok, joint-count S)
+
 -- ---- where channel c's part lies
 
 module _ (S : Sheet) (c : ℕ) (ok : Legal (joint S)) (below : c < S .header .channels) where
@@ -153,23 +157,23 @@ module _ (S : Sheet) (c : ℕ) (ok : Legal (joint S)) (below : c < S .header .ch
 
 -- a run on these parts is the channel's
 alone-run : (S : Sheet) (c : ℕ) (levels : List ℤ) (tables : List ℕ) (B : Buffers) (from to l m t u : ℕ) → PartsAre S c from to l m t u
-    → (r : Run) → r ≡ alone S c → (a : Answer) (x : Buffers)
+    → (r : Run) → r ≡ alone S c → (a : Answer) (r′ : Run) (x : Buffers)
     → RunIs r (part levels l m) (part tables t u)
-    (six (part (B .plane) from to) (part (B .prior) from to) (part (B .gradient) from to) (part (B .across) from to) (part (B .down) from to) (part (B .saved) from to)) a x
-    → RunIs (alone S c) (levelsFor S levels c) (tablesFor tables c) (channel (areaOf S) c B) a x
+    (six (part (B .plane) from to) (part (B .prior) from to) (part (B .gradient) from to) (part (B .across) from to) (part (B .down) from to) (part (B .saved) from to)) a r′ x
+    → RunIs (alone S c) (levelsFor S levels c) (tablesFor tables c) (channel (areaOf S) c B) a r′ x
 unfolding channel
-alone-run S c levels tables B from to l m t u p r e a x h = rw (e, p .from-is, p .to-is, p .l-is, p .m-is, p .t-is, p .u-is) at h
+alone-run S c levels tables B from to l m t u p r e a r′ x h = rw (e, p .from-is, p .to-is, p .l-is, p .m-is, p .t-is, p .u-is) at h
 
 pub alone-is : (S : Sheet) (c : ℕ) (levels : List ℤ) (tables : List ℕ) (B : Buffers) (from to l m t u : ℕ) → PartsAre S c from to l m t u
-    → (r : Run) → r ≡ alone S c → (a : Answer) (x : Buffers)
+    → (r : Run) → r ≡ alone S c → (a : Answer) (r′ : Run) (x : Buffers)
     → RunIs r (part levels l m) (part tables t u)
-    (six (part (B .plane) from to) (part (B .prior) from to) (part (B .gradient) from to) (part (B .across) from to) (part (B .down) from to) (part (B .saved) from to)) a x
-    → AloneIs S c levels tables B a
+    (six (part (B .plane) from to) (part (B .prior) from to) (part (B .gradient) from to) (part (B .across) from to) (part (B .down) from to) (part (B .saved) from to)) a r′ x
+    → AloneIs S c levels tables B a r′
     (six (splice (B .plane) from to (x .plane)) (splice (B .prior) from to (x .prior)) (splice (B .gradient) from to (x .gradient))
     (splice (B .across) from to (x .across)) (splice (B .down) from to (x .down)) (splice (B .saved) from to (x .saved)))
 unfolding putChannel
-alone-is S c levels tables B from to l m t u p r e a x h =
-    record { own = x; run = alone-run S c levels tables B from to l m t u p r e a x h; put = rw (p .from-is, p .to-is) }
+alone-is S c levels tables B from to l m t u p r e a r′ x h =
+    record { own = x; run = alone-run S c levels tables B from to l m t u p r e a r′ x h; put = rw (p .from-is, p .to-is) }
 
 -- ---- a channel's run is accepted where the sheet is
 
@@ -239,37 +243,42 @@ module _ (S : Sheet) (levels : List ℤ) (tables : List ℕ) (B₀ : Buffers) (z
           saved-long = long Saved;
         }
 
+    one-clipped : (k : ℕ → ℕ) → ClippedAre (runOf (aloneGiven S levels tables c)) k → k 0 ≡ aloneClipped S levels tables c
+    unfolding runOf alone
+    one-clipped k h = h 0 (omega arith)
+
     -- how the channel's run ended
-    module _ (a : Answer) (B′ : Buffers) (said : AloneIs S c levels tables B a B′) where
+    module _ (a : Answer) (r : Run) (B′ : Buffers) (said : AloneIs S c levels tables B a r B′) where
       abbrev run : Whole
       run = runOf (aloneGiven S levels tables c)
 
-      ended : Ends 0 (runOf (aloneGiven S levels tables c)) (channel (areaOf S) c B) (answerOf a) (said .own)
+      ended : Ends 0 (runOf (aloneGiven S levels tables c)) (channel (areaOf S) c B) (answerOf a) (clippedOf r) (said .own)
       ended = rw accepted at (said .run)
 
       own-sized : Sized (areaOf S) (said .own)
       own-sized b = go (run .blown) ended ∙ part-sized b
         where
-          go : (b′ : Bool) → Ended b′ run (channel (areaOf S) c B) (answerOf a) (said .own) → length (get b (said .own)) ≡ length (get b (channel (areaOf S) c B))
+          go : (b′ : Bool) → Ended b′ run (channel (areaOf S) c B) (answerOf a) (clippedOf r) (said .own) → length (get b (said .own)) ≡ length (get b (channel (areaOf S) c B))
           go true e = e .1 b
           go false e = e .2 b
 
       now-sized : Sized (S .header .channels * areaOf S) B′
       now-sized = subst (Sized (S .header .channels * areaOf S)) (sym (said .put)) (put-sized (areaOf S) c (S .header .channels) B long below (said .own) own-sized)
 
-      -- done: not blown, and its buffers are there; the other channels' are as they were
-      pub done-run : answerOf a ≡ done → (runBlows (aloneGiven S levels tables c) ≡ false) × (said .own ≡ last (aloneGiven S levels tables c) 0)
+      -- done: not blown, and its buffers and its number are there; the other channels' are as they were
+      pub done-run : answerOf a ≡ done
+          → (runBlows (aloneGiven S levels tables c) ≡ false) × (said .own ≡ last (aloneGiven S levels tables c) 0) × (clippedOf r 0 ≡ aloneClipped S levels tables c)
       done-run d = go (run .blown) refl ended
         where
-          go : (b : Bool) → run .blown ≡ b → Ended b run (channel (areaOf S) c B) (answerOf a) (said .own)
-              → (runBlows (aloneGiven S levels tables c) ≡ false) × (said .own ≡ last (aloneGiven S levels tables c) 0)
+          go : (b : Bool) → run .blown ≡ b → Ended b run (channel (areaOf S) c B) (answerOf a) (clippedOf r) (said .own)
+              → (runBlows (aloneGiven S levels tables c) ≡ false) × (said .own ≡ last (aloneGiven S levels tables c) 0) × (clippedOf r 0 ≡ aloneClipped S levels tables c)
           go true q e = let w : _≡_ {A = ℕ} 0 1 = cc (d, e .0) in absurd (omega arith)
-          go false q e = (sym same-blows ∙ q, e .1 ∙ one-run)
+          go false q e = (sym same-blows ∙ q, e .1 ∙ one-run, one-clipped (clippedOf r) (e .3))
 
       pub blown-run : (done ≡ answerOf a → ⊥) → (runBlows (aloneGiven S levels tables c) ≡ true) × (answerOf a ≡ blown)
       blown-run d = go (run .blown) refl ended
         where
-          go : (b : Bool) → run .blown ≡ b → Ended b run (channel (areaOf S) c B) (answerOf a) (said .own)
+          go : (b : Bool) → run .blown ≡ b → Ended b run (channel (areaOf S) c B) (answerOf a) (clippedOf r) (said .own)
               → (runBlows (aloneGiven S levels tables c) ≡ true) × (answerOf a ≡ blown)
           go true q e = (sym same-blows ∙ q, e .0)
           go false q e = absurd (d (sym (e .0)))
@@ -282,11 +291,13 @@ module _ (S : Sheet) (levels : List ℤ) (tables : List ℕ) (B₀ : Buffers) (z
 
 -- ---- the loop over the channels
 
-pub record Parting (S : Sheet) (levels : List ℤ) (tables : List ℕ) (n i : ℕ) (B₀ B : Buffers) : Type 0 where
+pub record Parting (S : Sheet) (levels : List ℤ) (tables : List ℕ) (n i : ℕ) (B₀ B : Buffers) (ks : List ℕ) : Type 0 where
   pub most : i ≤ n
   pub each : (c : ℕ) → c < i → channel (areaOf S) c B ≡ last (aloneGiven S levels tables c) 0
   pub none : among i (λ c. runBlows (aloneGiven S levels tables c)) ≡ false
   pub kept : Kept B₀ B
+  pub three : length ks ≡ 3
+  pub numbers : (c : ℕ) → c < i → numberIn ks c ≡ aloneClipped S levels tables c
 
 module _ (S : Sheet) (levels : List ℤ) (tables : List ℕ) (B₀ : Buffers) (asks : SeparateAsks S levels tables B₀) where
   abbrev z : solveRefusal S levels tables (lengths allSix B₀) ≡ 0
@@ -298,16 +309,18 @@ module _ (S : Sheet) (levels : List ℤ) (tables : List ℕ) (B₀ : Buffers) (a
   first-sized : Sized (S .header .channels * areaOf S) B₀
   first-sized = sized S levels tables B₀ z
 
-  pub begins : Parting S levels tables (S .header .channels) 0 B₀ B₀
-  begins =
+  pub begins : (ks : List ℕ) → length ks ≡ 3 → Parting S levels tables (S .header .channels) 0 B₀ B₀ ks
+  begins ks three =
       record {
         most = omega arith;
         each = λ c h. absurd (omega arith);
         none = refl;
         kept = kept-of (S .header .channels * areaOf S) B₀ B₀ first-sized first-sized;
+        three = three;
+        numbers = λ c h. absurd (omega arith);
       }
 
-  module _ (i : ℕ) (B : Buffers) (h : Parting S levels tables (S .header .channels) i B₀ B) where
+  module _ (i : ℕ) (B : Buffers) (ks : List ℕ) (h : Parting S levels tables (S .header .channels) i B₀ B ks) where
     long : Sized (S .header .channels * areaOf S) B
     long = sized-kept (S .header .channels * areaOf S) B₀ B first-sized (h .kept)
 
@@ -315,19 +328,21 @@ module _ (S : Sheet) (levels : List ℤ) (tables : List ℕ) (B₀ : Buffers) (a
       pub alone-asks : AloneAsks S i levels tables B
       alone-asks = asks-of S levels tables B₀ z i left B long
 
-      module _ (a : Answer) (B′ : Buffers) (said : AloneIs S i levels tables B a B′) where
+      module _ (a : Answer) (r : Run) (B′ : Buffers) (said : AloneIs S i levels tables B a r B′) where
         kept-now : Kept B₀ B′
-        kept-now = kept-of (S .header .channels * areaOf S) B₀ B′ first-sized (now-sized S levels tables B₀ z i left B long a B′ said)
+        kept-now = kept-of (S .header .channels * areaOf S) B₀ B′ first-sized (now-sized S levels tables B₀ z i left B long a r B′ said)
 
-        pub goes-on : OneOf (1 ∷ []) (tagOf the-type a) → Parting S levels tables (S .header .channels) (i + 1) B₀ B′
-        goes-on one =
-            let d = done-run S levels tables B₀ z i left B long a B′ said (is-done a one) in
+        pub goes-on : OneOf (1 ∷ []) (tagOf the-type a) → (k : ℕ) → k ≡ clippedOf r 0 → Parting S levels tables (S .header .channels) (i + 1) B₀ B′ (set ks i k)
+        goes-on one k e =
+            let d = done-run S levels tables B₀ z i left B long a r B′ said (is-done a one) in
             rw (add-one)
             record {
               most = omega arith;
               each = λ c l. go c (eq-or-lt-of-le l) (d .1);
               none = rw (h .none) (d .0);
               kept = kept-now;
+              three = length-set ks i k ∙ h .three;
+              numbers = λ c l. put c (eq-or-lt-of-le l) (e ∙ d .2);
             }
           where
             go : (c : ℕ) → (suc c ≡ suc i) ⊎ (suc c < suc i) → said .own ≡ last (aloneGiven S levels tables i) 0
@@ -335,17 +350,24 @@ module _ (S : Sheet) (levels : List ℤ) (tables : List ℕ) (B₀ : Buffers) (a
             go c (inl e) p =
                 let same : i ≡ c = omega arith in
                 subst (λ (k : ℕ). channel (areaOf S) k B′ ≡ last (aloneGiven S levels tables k) 0) same
-                (here S levels tables B₀ z i left B long a B′ said ∙ p)
+                (here S levels tables B₀ z i left B long a r B′ said ∙ p)
             go c (inr l) p =
-                elsewhere S levels tables B₀ z i left B long a B′ said c (omega arith) (λ e. omega arith) ∙ h .each c (omega arith)
+                elsewhere S levels tables B₀ z i left B long a r B′ said c (omega arith) (λ e. omega arith) ∙ h .each c (omega arith)
 
-        pub stops : OneOf (0 ∷ 2 ∷ []) (tagOf the-type a) → SeparateIs S levels tables B₀ a B′
+            put : (c : ℕ) → (suc c ≡ suc i) ⊎ (suc c < suc i) → k ≡ aloneClipped S levels tables i → numberIn (set ks i k) c ≡ aloneClipped S levels tables c
+            put c (inl e) p =
+                let same : i ≡ c = omega arith in
+                let few : i < length ks = omega (arith, h .three, few-channels S (ok S levels tables B₀ z)) in
+                subst (λ (d : ℕ). numberIn (set ks i k) d ≡ aloneClipped S levels tables d) same (getD-set-same ks i k 0 few ∙ p)
+            put c (inr l) p = getD-set-other ks i c k 0 (λ e. omega arith) ∙ h .numbers c (omega arith)
+
+        pub stops : OneOf (0 ∷ 2 ∷ []) (tagOf the-type a) → SeparateIs S levels tables B₀ a ks B′
         unfolding separately
         stops one =
-            let d = blown-run S levels tables B₀ z i left B long a B′ said (not-done a one) in
+            let d = blown-run S levels tables B₀ z i left B long a r B′ said (not-done a one) in
             rw (among-true (S .header .channels) (λ c. runBlows (aloneGiven S levels tables c)) i left (d .0)) (d .1, same-lengths B₀ B′ kept-now)
 
-    pub ends : S .header .channels ≤ i → SeparateIs S levels tables B₀ Done B
+    pub ends : S .header .channels ≤ i → SeparateIs S levels tables B₀ Done ks B
     unfolding separately
     ends l =
         let end : i ≡ S .header .channels = omega (arith, h .most) in
@@ -354,33 +376,49 @@ module _ (S : Sheet) (levels : List ℤ) (tables : List ℕ) (B₀ : Buffers) (a
           refl,
           sym (joined-channels (areaOf S) (S .header .channels) (λ c. last (aloneGiven S levels tables c) 0) B long (λ c q. h .each c (omega arith))),
           same-lengths B₀ B (h .kept),
+          λ c q. h .numbers c (omega arith),
         )
 
 -- ---- solve
 
 module _ (S : Sheet) (levels : List ℤ) (tables : List ℕ) (B : Buffers) where
-  pub solve-refused : (n : ℕ) → n ≡ solveRefusal S levels tables (lengths allSix B) → n ≢ 0 → SolveIs S levels tables B (Refused n) B
-  solve-refused zero e f = absurd (f refl)
-  solve-refused (suc n) e f = rw (← e) (refl, refl)
+  pub solve-refused : (n : ℕ) → n ≡ solveRefusal S levels tables (lengths allSix B) → n ≢ 0 → (ks : List ℕ) → SolveIs S levels tables B (Refused n) ks B
+  solve-refused zero e f ks = absurd (f refl)
+  solve-refused (suc n) e f ks = rw (← e) (refl, refl)
 
-  module _ (z : solveRefusal S levels tables (lengths allSix B) ≡ 0) (a : Answer) (B′ : Buffers) where
+  module _ (z : solveRefusal S levels tables (lengths allSix B) ≡ 0) (a : Answer) (ks : List ℕ) (B′ : Buffers) where
     -- by the mode
-    ends-in : (b : Bool) → S .header .joint ≡ b → Ends 0 (cond b (runOf (jointGiven S levels tables)) (separately S levels tables)) B (answerOf a) B′ → SolveIs S levels tables B a B′
+    ends-in : (b : Bool) → S .header .joint ≡ b → Ends 0 (cond b (runOf (jointGiven S levels tables)) (separately S levels tables)) B (answerOf a) (numberIn ks) B′
+        → SolveIs S levels tables B a ks B′
     unfolding wholeOf
     ends-in b j h =
-        subst (λ (n : ℕ). Ends n (wholeOf S levels tables) B (answerOf a) B′) (sym z)
-        (subst (λ (d : Bool). Ends 0 (cond d (runOf (jointGiven S levels tables)) (separately S levels tables)) B (answerOf a) B′) (sym j) h)
+        subst (λ (n : ℕ). Ends n (wholeOf S levels tables) B (answerOf a) (numberIn ks) B′) (sym z)
+        (subst (λ (d : Bool). Ends 0 (cond d (runOf (jointGiven S levels tables)) (separately S levels tables)) B (answerOf a) (numberIn ks) B′) (sym j) h)
 
-    pub solve-joint : S .header .joint ≡ true → RunIs (joint S) levels tables B a B′ → SolveIs S levels tables B a B′
-    solve-joint j h = ends-in true j (subst (λ (n : ℕ). Ends n (runOf (jointGiven S levels tables)) B (answerOf a) B′) (starts S levels tables B z) h)
+    -- the three numbers of the record that the run leaves
+    three-numbers : (r : Run) → ks ≡ clippedOf r 0 ∷ clippedOf r 1 ∷ clippedOf r 2 ∷ [] → (c : ℕ) → c < 3 → numberIn ks c ≡ clippedOf r c
+    three-numbers r e zero h = rw e
+    three-numbers r e (suc zero) h = rw e
+    three-numbers r e (suc (suc zero)) h = rw e
+    three-numbers r e (suc (suc (suc c))) h = absurd (omega arith)
 
-    pub solve-separate : S .header .joint ≡ false → SeparateIs S levels tables B a B′ → SolveIs S levels tables B a B′
+    run-channels : runOf (jointGiven S levels tables) .channels ≡ joint S .count
+    unfolding runOf
+    run-channels = refl
+
+    pub solve-joint : S .header .joint ≡ true → (r : Run) → ks ≡ clippedOf r 0 ∷ clippedOf r 1 ∷ clippedOf r 2 ∷ [] → RunIs (joint S) levels tables B a r B′
+        → SolveIs S levels tables B a ks B′
+    solve-joint j r e h =
+        let w = runOf (jointGiven S levels tables) in
+        ends-in true j
+        (renumber 0 w B (answerOf a) (clippedOf r) (numberIn ks) B′
+        (λ c l. three-numbers r e c (omega (arith, run-channels, count-3 (joint S) (joint-legal S levels tables B z))))
+        (subst (λ (n : ℕ). Ends n w B (answerOf a) (clippedOf r) B′) (starts S levels tables B z) h))
+
+    pub solve-separate : S .header .joint ≡ false → SeparateIs S levels tables B a ks B′ → SolveIs S levels tables B a ks B′
     solve-separate j h = ends-in false j h
 
 -- ---- the tests of both modes' records
-
-pub few-channels : (S : Sheet) → Legal (joint S) → S .header .channels ≤ 3
-few-channels S ok = omega (arith, count-3 (joint S) ok, joint-count S)
 
 module _ (S : Sheet) where
   pub not-all : isLegal (joint S) ≡ false → false ≡ allLegal S

@@ -1,6 +1,6 @@
 -- Laws of the whole run: no steps, and one channel.
-use mathlib.Core.Path.{_≡_, sym, ap, _∙_}
-use mathlib.Core.Bool.{false}
+use mathlib.Core.Path.{_≡_, refl, sym, ap, _∙_}
+use mathlib.Core.Bool.{Bool, true, false, cond}
 use mathlib.Core.List.{List, map}
 use Prim.Native.Nat.{ℕ, _-_, _*_}
 use native.Mathlib.Omega.{arith}
@@ -12,12 +12,12 @@ use Rattle.contents.specs.declared.Sheet.{Sheet}
 use Rattle.contents.specs.Weights.{valueOf}
 use Rattle.calls.specs.Run.{Given, levelsBefore, among}
 use Rattle.calls.specs.Buffers.{joined}
-use Rattle.calls.specs.Jobs.{fixed}
+use Rattle.calls.specs.Jobs.{fixed, kept}
 use Rattle.calls.specs.Calls.{lengths, allSix}
 use Rattle.demand.specs.Solver.{jobs}
 use Rattle.record.specs.Model.{ownOf, sheetOf}
-use Rattle.rounds.specs.Whole.{runBlows, last, runOf}
-use Rattle.solve.specs.Solve.{reorderOf, joint, alone, jointGiven, aloneGiven, levelsFor, tablesFor, separately, solveRefusal}
+use Rattle.rounds.specs.Whole.{jobCount, runBlows, last, runOf}
+use Rattle.solve.specs.Solve.{reorderOf, joint, alone, jointGiven, aloneGiven, levelsFor, tablesFor, separately, wholeOf, solveRefusal}
 use Rattle.solve.proofs.Alone.{levels-long, tables-long}
 
 -- "N = 0 gives the unprojected start", and nothing is blown.
@@ -28,6 +28,20 @@ no-steps G e c = ap (λ (n : ℕ). fixed jobs G (5 * n) c) e
 pub no-steps-fine : (G : Given) → G .sheet .N ≡ 0 → runBlows G ≡ false
 unfolding runBlows
 no-steps-fine G e = rw e
+
+-- "Without steps it is 0": the number of clipped coefficients (M-104)
+pub no-steps-clipped : (G : Given) → G .sheet .N ≡ 0 → (c : ℕ) → kept jobs G (jobCount G) c ≡ 0
+unfolding kept
+no-steps-clipped G e c = ap (λ (n : ℕ). kept jobs G (5 * n) c) e
+
+-- both modes have the sheet's channels
+pub whole-channels : (S : Sheet) (levels : List ℤ) (tables : List ℕ) → wholeOf S levels tables .channels ≡ S .header .channels
+unfolding wholeOf runOf separately joint
+whole-channels S levels tables = go (S .header .joint)
+  where
+    go : (b : Bool) → cond b (runOf (jointGiven S levels tables)) (separately S levels tables) .channels ≡ S .header .channels
+    go true = refl
+    go false = refl
 
 -- "With one channel the letters act alike": the runs of both modes are given the same, so what they leave is the same.
 module _ (S : Sheet) (levels : List ℤ) (tables : List ℕ) (B : Buffers) (accepted : solveRefusal S levels tables (lengths allSix B) ≡ 0) (one : S .header .channels ≡ 1) where
@@ -58,10 +72,14 @@ module _ (S : Sheet) (levels : List ℤ) (tables : List ℕ) (B : Buffers) (acce
   pub same-given : jointGiven S levels tables ≡ aloneGiven S levels tables 0
   same-given = λ i. record { sheet = same-sheet i; levels = sym all-levels i; tables = sym all-tables i }
 
-  pub same-run : runOf (jointGiven S levels tables) ≡ separately S levels tables
+  pub same-buffers : runOf (jointGiven S levels tables) .buffers ≡ separately S levels tables .buffers
   unfolding runOf separately joined alone
-  same-run =
-      ap runOf same-given
-      ∙ ap
-      (λ (n : ℕ). record { buffers = joined n (λ c. last (aloneGiven S levels tables c) 0); blown = among n (λ c. runBlows (aloneGiven S levels tables c)) })
-      (sym one)
+  same-buffers = ap (λ (G : Given). runOf G .buffers) same-given ∙ ap (λ (n : ℕ). joined n (λ c. last (aloneGiven S levels tables c) 0)) (sym one)
+
+  pub same-blown : runOf (jointGiven S levels tables) .blown ≡ separately S levels tables .blown
+  unfolding runOf separately alone
+  same-blown = ap (λ (G : Given). runOf G .blown) same-given ∙ ap (λ (n : ℕ). among n (λ c. runBlows (aloneGiven S levels tables c))) (sym one)
+
+  pub same-clipped : runOf (jointGiven S levels tables) .clipped 0 ≡ separately S levels tables .clipped 0
+  unfolding runOf separately
+  same-clipped = ap (λ (G : Given). runOf G .clipped 0) same-given

@@ -9,15 +9,16 @@ use Rattle.contents.specs.declared.Sheet.{Sheet}
 use Rattle.calls.specs.Run.{levelsBefore}
 use Rattle.calls.specs.Buffers.{channel, putChannel}
 use Rattle.calls.specs.Calls.{lengths, allSix}
+use Rattle.record.specs.declared.Run.{Run}
 use Rattle.record.specs.declared.Answer.{Answer}
 use Rattle.record.specs.Model.{Legal, sheetOf, answerOf}
 use Rattle.rounds.specs.Whole.{Ends, RunIs}
-use Rattle.solve.specs.Solve.{joint, alone, levelsFor, tablesFor, separately, solveRefusal}
+use Rattle.solve.specs.Solve.{joint, alone, levelsFor, tablesFor, separately, numberIn, solveRefusal}
 
--- channel c's run, on its part of the six
-pub record AloneIs (S : Sheet) (c : ℕ) (levels : List ℤ) (tables : List ℕ) (B : Buffers) (a : Answer) (B′ : Buffers) : Type 0 where
+-- channel c's run, on its part of the six, which leaves the record r
+pub record AloneIs (S : Sheet) (c : ℕ) (levels : List ℤ) (tables : List ℕ) (B : Buffers) (a : Answer) (r : Run) (B′ : Buffers) : Type 0 where
   pub own : Buffers
-  pub run : RunIs (alone S c) (levelsFor S levels c) (tablesFor tables c) (channel (S .header .width * S .header .height) c B) a own
+  pub run : RunIs (alone S c) (levelsFor S levels c) (tablesFor tables c) (channel (S .header .width * S .header .height) c B) a r own
   pub put : B′ ≡ putChannel (S .header .width * S .header .height) c B own
 
 -- where channel c's part lies in the lent buffers, in the levels and in the tables
@@ -53,6 +54,5 @@ pub record AloneAsks (S : Sheet) (c : ℕ) (levels : List ℤ) (tables : List �
 pub record SeparateAsks (S : Sheet) (levels : List ℤ) (tables : List ℕ) (B : Buffers) : Type 0 where
   pub accepted : solveRefusal S levels tables (lengths allSix B) ≡ 0
 
-abbrev pub SeparateIs : Sheet → List ℤ → List ℕ → Buffers → Answer → Buffers → Type 0
-SeparateIs S levels tables B a B′ =
-    Ends 0 (separately S levels tables) B (answerOf a) B′
+abbrev pub SeparateIs : Sheet → List ℤ → List ℕ → Buffers → Answer → List ℕ → Buffers → Type 0
+SeparateIs S levels tables B a ks B′ = Ends 0 (separately S levels tables) B (answerOf a) (numberIn ks) B′

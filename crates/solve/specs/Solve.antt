@@ -3,6 +3,7 @@ use Prim.Native.Nat.{ℕ, suc, _+_, _*_}
 use mathlib.Core.Bool.{Bool, false, _&&_, cond}
 use mathlib.Core.List.{List, [], _∷_}
 use lib.IntN.{ℤ}
+use lib.ListN.{getD}
 use lib.Dec.{eqb}
 use lib.Ieee.{Float}
 use Rattle.fold.specs.Part.{part}
@@ -23,14 +24,16 @@ use Rattle.record.specs.declared.Run.{Run}
 use Rattle.record.specs.declared.Channel.{Channel}
 use Rattle.record.specs.declared.Answer.{Answer}
 use Rattle.record.specs.Model.{sheetOf, placesOf, givenOf, answerOf}
-use Rattle.rounds.specs.Whole.{runBlows, Whole, last, runOf, Ends}
+use Rattle.calls.specs.Jobs.{kept}
+use Rattle.demand.specs.Solver.{jobs}
+use Rattle.rounds.specs.Whole.{jobCount, runBlows, Whole, last, runOf, Ends}
 
 -- ---- the runs of a sheet
 
 -- a channel line as a channel of a run with this data weight, at position 0 and not marked
 abbrev pub runChannel : Line.Channel → Weight → Channel
 runChannel x w =
-    record { width = x .width; height = x .height; across = x .across; down = x .down; weight = valueOf w; position = 0; mark = false }
+    record { width = x .width; height = x .height; across = x .across; down = x .down; weight = valueOf w; position = 0; mark = false; clipped = 0 }
 
 -- M-102's letter: "`m`, also the meaning when it is absent, is the start of document 01. `o` dequantises and transforms all blocks, then reorders once"
 abbrev pub reorderOf : Choice → Reorder
@@ -90,12 +93,18 @@ aloneGiven S levels tables c = givenOf (alone S c) (levelsFor S levels c) (table
 
 -- ---- what the runs leave, by what they are given
 
+-- the number that channel c's run alone leaves (M-104)
+abbrev pub aloneClipped : Sheet → List ℤ → List ℕ → ℕ → ℕ
+aloneClipped S levels tables c = kept jobs (aloneGiven S levels tables c) (jobCount (aloneGiven S levels tables c)) 0
+
 -- in separate mode the runs of all channels
 unfoldable pub separately : Sheet → List ℤ → List ℕ → Whole
 separately S levels tables =
     record {
       buffers = joined (S .header .channels) (λ c. last (aloneGiven S levels tables c) 0);
       blown = among (S .header .channels) (λ c. runBlows (aloneGiven S levels tables c));
+      channels = S .header .channels;
+      clipped = aloneClipped S levels tables;
     }
 
 -- both modes
@@ -110,6 +119,10 @@ planes S levels tables = wholeOf S levels tables .buffers .plane
 abbrev pub blows : Sheet → List ℤ → List ℕ → Bool
 blows S levels tables = wholeOf S levels tables .blown
 
+-- how many coefficients the last project of channel c clipped, "Without steps it is 0" (M-104)
+abbrev pub clippedAt : Sheet → List ℤ → List ℕ → ℕ → ℕ
+clippedAt S levels tables = wholeOf S levels tables .clipped
+
 -- ---- what solve promises
 
 abbrev pub isLegal : Run → Bool
@@ -123,6 +136,11 @@ allLegal S = isLegal (joint S) && every (S .header .channels) (λ c. isLegal (al
 unfoldable pub solveRefusal : Sheet → List ℤ → List ℕ → List ℕ → ℕ
 solveRefusal S levels tables ls = cond (allLegal S) (startRefusal (jointGiven S levels tables) (placesOf (joint S)) ls) 13
 
--- How `solve` ends: refused, with the six as they were; blown; or done, with the six that the sheet's mode gives after 5N jobs.
-abbrev pub SolveIs : Sheet → List ℤ → List ℕ → Buffers → Answer → Buffers → Type 0
-SolveIs S levels tables B a B′ = Ends (solveRefusal S levels tables (lengths allSix B)) (wholeOf S levels tables) B (answerOf a) B′
+-- the number of channel c among those that `solve` gives
+abbrev pub numberIn : List ℕ → ℕ → ℕ
+numberIn ks c = getD ks c 0
+
+-- How `solve` ends: refused, with the six as they were; blown; or done, with the six that the sheet's mode gives after 5N jobs, and each channel's
+-- number ks.
+abbrev pub SolveIs : Sheet → List ℤ → List ℕ → Buffers → Answer → List ℕ → Buffers → Type 0
+SolveIs S levels tables B a ks B′ = Ends (solveRefusal S levels tables (lengths allSix B)) (wholeOf S levels tables) B (answerOf a) (numberIn ks) B′

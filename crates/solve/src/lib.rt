@@ -1,15 +1,34 @@
 // The whole run of a sheet, in both modes.
-mod modes;
+pub mod modes;
 mod separate;
 
 use contents::Sheet;
 use record::Answer;
+use record::Run;
+use record::places::clipped_of;
 use rounds::run_value;
+ghost use mathlib.Core.Path.{_≡_};
+ghost use mathlib.Core.List.{[], _∷_};
+ghost use Rattle.record.specs.Model.{clippedOf};
 ghost use Rattle.rounds.specs.Whole.{six};
 ghost use Rattle.solve.specs.Solve.{SolveIs};
 
-// The six buffers of a sheet after 5N jobs, in its mode. It looks at everything first, and answers `Blown` where a channel is blown.
-// Rules out: the channel's own data weight in separate mode; the starting planes, or planes one step short, for those after the last job.
+// What a whole run answers, and each channel's number of clipped coefficients where it is done.
+pub struct Solved {
+    pub answer: Answer,
+    pub clipped: [u32; 3],
+}
+
+// The numbers that a run's channels keep.
+fn numbers_of(run: Run) -> [u32; 3]
+    ensures { λ r. ⌜ r ≡ clippedOf run 0 ∷ clippedOf run 1 ∷ clippedOf run 2 ∷ [] ⌝ }
+{
+    [clipped_of(run, 0), clipped_of(run, 1), clipped_of(run, 2)]
+}
+
+// The six buffers of a sheet after 5N jobs, in its mode, and each channel's number. It looks at everything first, and answers `Blown` where a channel is
+// blown. Rules out: the channel's own data weight in separate mode; the starting planes, or planes one step short, for those after the last job; in separate
+// mode the number of the last channel for each.
 pub fn solve(
     s: Sheet,
     levels: &[i16],
@@ -20,9 +39,9 @@ pub fn solve(
     across: &mut [f32],
     down: &mut [f32],
     saved: &mut [f32],
-) -> Answer
+) -> Solved
     ensures { λ r. ⌜ SolveIs s (now (levels .entry)) (now (tables .entry))
-        (six (now (plane .entry)) (now (prior .entry)) (now (gradient .entry)) (now (across .entry)) (now (down .entry)) (now (saved .entry))) r
+        (six (now (plane .entry)) (now (prior .entry)) (now (gradient .entry)) (now (across .entry)) (now (down .entry)) (now (saved .entry))) (r .answer) (r .clipped)
         (six (now (plane .exit)) (now (prior .exit)) (now (gradient .exit)) (now (across .exit)) (now (down .exit)) (now (saved .exit))) ⌝ }
 {
     let lengths = [
@@ -35,12 +54,16 @@ pub fn solve(
     ];
     let r = modes::solve_refusal(s, &lengths, levels, tables);
     if r != 0 {
-        return Answer::Refused(r);
+        let none = [0u32; 3];
+        return Solved {
+            answer: Answer::Refused(r),
+            clipped: none,
+        };
     }
     let h = s.header;
     if h.joint {
         let run = modes::joint_of(s);
-        return run_value(
+        let t = run_value(
             run,
             levels,
             tables,
@@ -51,6 +74,9 @@ pub fn solve(
             down,
             saved,
         );
+        let answer = t.answer;
+        let clipped = numbers_of(t.run);
+        return Solved { answer, clipped };
     }
     separate::separate(
         s,

@@ -24,6 +24,7 @@ fn run_channel(x: contents::Channel, weight: Weight) -> record::Channel
         weight: weight_value(weight),
         position: 0,
         mark: false,
+        clipped: 0,
     }
 }
 
@@ -130,7 +131,7 @@ pub fn alone_of(s: Sheet, c: u32) -> Run
 }
 
 // Whether the records of both modes are legal.
-fn all_legal(s: Sheet) -> bool
+pub fn all_legal(s: Sheet) -> bool
     ensures { λ r. ⌜ r ≡ allLegal s ⌝ }
 {
     if !legal(joint_of(s)) {

@@ -1,8 +1,11 @@
 // Separate mode: each channel is a run of its own, on its part of the lent buffers.
+use crate::Solved;
 use crate::modes::alone_of;
 use crate::modes::joint_of;
 use contents::Sheet;
 use record::Answer;
+use record::Answered;
+use record::places::clipped_of;
 use rounds::run_value;
 ghost use Prim.Native.Nat.{_<_};
 ghost use Rattle.record.specs.Model.{Legal};
@@ -39,7 +42,7 @@ fn parts_of(s: Sheet, c: u32) -> Parts
     }
 }
 
-// Channel c's run. Its part of each buffer is lent on to be written.
+// Channel c's run. Its part of each buffer is lent on to be written. Gives the run's record as it is afterwards.
 fn alone_value(
     s: Sheet,
     c: u32,
@@ -51,10 +54,10 @@ fn alone_value(
     across: &mut [f32],
     down: &mut [f32],
     saved: &mut [f32],
-) -> Answer
+) -> Answered
     requires { ⌜ AloneAsks s c (now levels) (now tables) (six (now plane) (now prior) (now gradient) (now across) (now down) (now saved)) ⌝ }
     ensures { λ r. ⌜ AloneIs s c (now (levels .entry)) (now (tables .entry))
-        (six (now (plane .entry)) (now (prior .entry)) (now (gradient .entry)) (now (across .entry)) (now (down .entry)) (now (saved .entry))) r
+        (six (now (plane .entry)) (now (prior .entry)) (now (gradient .entry)) (now (across .entry)) (now (down .entry)) (now (saved .entry))) (r .answer) (r .run)
         (six (now (plane .exit)) (now (prior .exit)) (now (gradient .exit)) (now (across .exit)) (now (down .exit)) (now (saved .exit))) ⌝ }
 {
     let p = parts_of(s, c);
@@ -88,15 +91,16 @@ pub fn separate(
     across: &mut [f32],
     down: &mut [f32],
     saved: &mut [f32],
-) -> Answer
+) -> Solved
     requires { ⌜ SeparateAsks s (now levels) (now tables) (six (now plane) (now prior) (now gradient) (now across) (now down) (now saved)) ⌝ }
     ensures { λ r. ⌜ SeparateIs s (now (levels .entry)) (now (tables .entry))
-        (six (now (plane .entry)) (now (prior .entry)) (now (gradient .entry)) (now (across .entry)) (now (down .entry)) (now (saved .entry))) r
+        (six (now (plane .entry)) (now (prior .entry)) (now (gradient .entry)) (now (across .entry)) (now (down .entry)) (now (saved .entry))) (r .answer) (r .clipped)
         (six (now (plane .exit)) (now (prior .exit)) (now (gradient .exit)) (now (across .exit)) (now (down .exit)) (now (saved .exit))) ⌝ }
 {
+    let mut clipped = [0u32; 3];
     let h = s.header;
     for c in 0..h.channels {
-        let a = alone_value(
+        let t = alone_value(
             s,
             c,
             levels,
@@ -108,9 +112,15 @@ pub fn separate(
             down,
             saved,
         );
+        let a = t.answer;
         let Answer::Done = a else {
-            return a;
+            return Solved { answer: a, clipped };
         };
+        let last = t.run;
+        clipped[c as usize] = clipped_of(last, 0);
     }
-    Answer::Done
+    Solved {
+        answer: Answer::Done,
+        clipped,
+    }
 }

@@ -9,7 +9,7 @@ use lib.Ieee.{Float, nan, ofBits, ofFields, eq}
 use lib.ListN.{getD, replicate, take, length}
 use Rattle.start.specs.Buffers.{Buffers}
 use Rattle.calls.specs.Run.{Place, place, sheetOk, headerOk, ownOk, placesOk, placeOk, weight}
-use Rattle.calls.specs.Jobs.{project, Call, on, fixed, channelBlown}
+use Rattle.calls.specs.Jobs.{project, Call, on, fixed, kept, channelBlown}
 use Rattle.calls.specs.Calls.{Answer, refused, done, blown, State, start, startRefusal, noneYet, plain, plainAnswers, plainPlaces}
 use Rattle.calls.specs.Demand.{Claim}
 use Rattle.calls.specs.Buffers.{Name, Plane, Gradient, Saved, get, joined}
@@ -41,35 +41,35 @@ differ xs ys = cond (eq (getD xs 0 nan) (getD ys 0 nan)) 0 1
 
 -- both projects
 over-5 : plain jobs low8 (on project 0) (at 4) .places ≡ at 5
-unfolding plain low8
+unfolding plain low8 kept
 over-5 = rw fine-5
 
 over-10 : plain jobs low8 (on project 0) (at 9) .places ≡ at 10
-unfolding plain low8
+unfolding plain low8 kept
 over-10 = rw fine-10
 
 place-1 : plainPlaces jobs low8 (take 1 inTurn) (noneYet low8) ≡ at 1
-unfolding plainPlaces plain low8
+unfolding plainPlaces plain low8 kept
 place-1 = refl
 
 place-6 : plainPlaces jobs low8 (take 6 inTurn) (noneYet low8) ≡ at 6
-unfolding plainPlaces plain low8
+unfolding plainPlaces plain low8 kept
 place-6 = ap (plainPlaces jobs low8 (take 1 step)) over-5
 
 place-7 : plainPlaces jobs low8 (take 7 inTurn) (noneYet low8) ≡ at 7
-unfolding plainPlaces plain low8
+unfolding plainPlaces plain low8 kept
 place-7 = ap (plainPlaces jobs low8 (take 2 step)) over-5
 
 place-8 : plainPlaces jobs low8 (take 8 inTurn) (noneYet low8) ≡ at 8
-unfolding plainPlaces plain low8
+unfolding plainPlaces plain low8 kept
 place-8 = ap (plainPlaces jobs low8 (take 3 step)) over-5
 
 place-9 : plainPlaces jobs low8 (take 9 inTurn) (noneYet low8) ≡ at 9
-unfolding plainPlaces plain low8
+unfolding plainPlaces plain low8 kept
 place-9 = ap (plainPlaces jobs low8 (take 4 step)) over-5
 
 place-10 : plainPlaces jobs low8 (take 10 inTurn) (noneYet low8) ≡ at 10
-unfolding plainPlaces plain low8
+unfolding plainPlaces plain low8 kept
 place-10 = ap (plainPlaces jobs low8 step) over-5 ∙ over-10
 
 -- "blown" or "turn" given early, every job refused: each of the ten answers is done
@@ -100,7 +100,7 @@ stands-still said t c e = let z : _≡_ {A = ℕ} 1 0 = sym (ap where-now (c .sa
 
 -- the small sheet is one that start accepts, at any values of the six
 pub accepted : (xs : List Float) → length xs ≡ 64 → start jobs low8 (lentTo xs) .answer ≡ done
-unfolding start startRefusal low8 sheetOk headerOk ownOk placesOk placeOk weight ofBits ofFields
+unfolding start startRefusal low8 sheetOk headerOk ownOk placesOk placeOk kept weight ofBits ofFields
 accepted xs e = rw e refl
 
 -- Where the buffer b that is fixed for n differs from that fixed for o, no solver that meets demand 3 has the latter after n calls in turn.

@@ -8,7 +8,7 @@ use lib.Ieee.{Float, binary32, ofBits}
 use Rattle.start.specs.declared.coef.Reorder.the-variants.{Each}
 use Rattle.calls.specs.Run.{Place, Given}
 use Rattle.calls.specs.Buffers.{make}
-use Rattle.calls.specs.Jobs.{push, fidelity, move, project, Call, on, blend}
+use Rattle.calls.specs.Jobs.{push, fidelity, move, project, Call, on, blend, kept}
 use Rattle.calls.specs.Calls.{Answer, State, noneYet, plainPlaces}
 use Rattle.calls.specs.Demand.{Claim}
 use Rattle.demand.specs.Solver.{jobs}
@@ -39,7 +39,7 @@ inTurn = on push 0 ∷ on fidelity 0 ∷ blend ∷ on move 0 ∷ on project 0 �
 
 -- its channel's place after p jobs
 abbrev pub at : ℕ → List Place
-at p = record { position = p; mark = false } ∷ []
+at p = record { position = p; mark = false; clipped = kept jobs low8 p 0 } ∷ []
 
 -- a record at its start, and six buffers that hold these values
 abbrev pub lentTo : List Float → State

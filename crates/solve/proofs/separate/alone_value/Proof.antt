@@ -135,7 +135,7 @@ returns c =
     let p = c .before .before .before .before .before .before .before .before .before .before .before .before .before .before .before .before .before .before .before .before .before .before .parts-of .result in
     let o = c .before .before .before .before .before .before .before .before .before .before .before .before .run-value in
     alone-is (a .s) (a .c) (a .levels .now) (a .tables .now) (six (a .plane .now) (a .prior .now) (a .gradient .now) (a .across .now) (a .down .now) (a .saved .now))
-    (p .from) (p .to) (p .«levels_from») (p .«levels_to») (p .«tables_from») (p .«tables_to») (c .before .before .before .before .before .before .before .before .before .before .before .before .before .before .before .before .before .before .before .before .before .before .parts-of .ensures) (c .before .before .before .before .before .before .before .before .before .before .before .before .before .before .before .before .before .before .before .before .before .alone-of .result) (c .before .before .before .before .before .before .before .before .before .before .before .before .before .before .before .before .before .before .before .before .before .alone-of .ensures) (o .result) _ (o .ensures)
+    (p .from) (p .to) (p .«levels_from») (p .«levels_to») (p .«tables_from») (p .«tables_to») (c .before .before .before .before .before .before .before .before .before .before .before .before .before .before .before .before .before .before .before .before .before .before .parts-of .ensures) (c .before .before .before .before .before .before .before .before .before .before .before .before .before .before .before .before .before .before .before .before .before .alone-of .result) (c .before .before .before .before .before .before .before .before .before .before .before .before .before .before .before .before .before .before .before .before .before .alone-of .ensures) (o .result .answer) (o .result .run) _ (o .ensures)
 
 pub alone-value-spec : {M : Type 1} → statement M
 alone-value-spec =
