@@ -29,7 +29,7 @@ use Rattle.calls.proofs.Legal.{places-ok}
 use Rattle.record.specs.declared.Run.{Run}
 use Rattle.record.specs.declared.Channel.{Channel}
 use Rattle.record.specs.Model.{sheetOf, placesOf, ownOf, placeOf, noChannel}
-use Rattle.record.proofs.Channels.{at-own, at-position, at-mark, first-long}
+use Rattle.record.proofs.Channels.{at-own, at-place, at-position, at-mark, first-long}
 use Rattle.solve.specs.Solve.{joint, alone, runChannel, jointGiven, isLegal, allLegal, solveRefusal}
 
 -- ---- tests from facts
@@ -73,6 +73,7 @@ record Fine (r : Run) : Type 0 where
   each : (c : ℕ) → c < r .count → T (ownOk (sheetOf r) (ownOf (getD (r .channels) c noChannel)))
   at-start : (c : ℕ) → c < r .count → getD (r .channels) c noChannel .position ≡ 0
   unmarked : (c : ℕ) → c < r .count → getD (r .channels) c noChannel .mark ≡ false
+  unclipped : (c : ℕ) → c < r .count → getD (r .channels) c noChannel .clipped ≡ 0
 
 pub counted : (n : ℕ) → (n ≡ 1) ⊎ (n ≡ 3) → T (eqb n 1 || eqb n 3)
 counted n (inl e) = subst (λ (k : ℕ). T (eqb k 1 || eqb k 3)) (sym e) tt
@@ -96,11 +97,14 @@ module _ (r : Run) (f : Fine r) where
   own-fine : (c : ℕ) → c < r .count → T (ownOk (sheetOf r) (own (sheetOf r) c))
   own-fine c h = subst (λ (o : Numbers). T (ownOk (sheetOf r) o)) (sym (at-own r c short h)) (f .each c h)
 
-  place-fine : (c : ℕ) → c < r .count → PlaceIs (sheetOf r) (place (placesOf r) c)
+  place-fine : (c : ℕ) → c < r .count → PlaceIs (sheetOf r) (own (sheetOf r) c) (place (placesOf r) c)
   place-fine c h =
+      let none : place (placesOf r) c .clipped ≡ 0 = ap (λ (p : Model.Place). p .clipped) (at-place r c short h) ∙ f .unclipped c h in
       record {
         within = omega (arith, at-position r c short h, f .at-start c h);
         marked = λ m. never (place (placesOf r) c .mark) (at-mark r c short h ∙ f .unmarked c h) m;
+        clipped-most = omega arith;
+        clipped-none = λ e. none;
       }
 
   run-legal : T (isLegal r)
@@ -187,6 +191,7 @@ module _ (limits : Limits) (S : Sheet) (ls : List ℤ) (ts : List ℕ) (l : Lega
             c (omega (arith, at-most (h .channels) (l .header .channels))) below;
         at-start = λ c below. below-3 (λ c. getD (joint S .channels) c noChannel .position ≡ 0) refl refl refl c (omega (arith, at-most (h .channels) (l .header .channels)));
         unmarked = λ c below. below-3 (λ c. getD (joint S .channels) c noChannel .mark ≡ false) refl refl refl c (omega (arith, at-most (h .channels) (l .header .channels)));
+        unclipped = λ c below. below-3 (λ c. getD (joint S .channels) c noChannel .clipped ≡ 0) refl refl refl c (omega (arith, at-most (h .channels) (l .header .channels)));
       }
 
   alone-fine : (c : ℕ) → c < S .header .channels → Fine (alone S c)
@@ -209,6 +214,7 @@ module _ (limits : Limits) (S : Sheet) (ls : List ℤ) (ts : List ℕ) (l : Lega
             (channel-test (alone S c) h (channelAt S c) (h .data0) refl refl (l .channel c below) (l .header .data0));
         at-start = λ d b. subst (λ (d : ℕ). getD (alone S c .channels) d noChannel .position ≡ 0) (sym (zero-of d b)) refl;
         unmarked = λ d b. subst (λ (d : ℕ). getD (alone S c .channels) d noChannel .mark ≡ false) (sym (zero-of d b)) refl;
+        unclipped = λ d b. subst (λ (d : ℕ). getD (alone S c .channels) d noChannel .clipped ≡ 0) (sym (zero-of d b)) refl;
       }
     where
       zero-of : (d : ℕ) → d < 1 → d ≡ 0
@@ -226,7 +232,7 @@ module _ (limits : Limits) (S : Sheet) (ls : List ℤ) (ts : List ℕ) (l : Lega
   joint-short = at-most (S .header .channels) (l .header .channels)
 
   -- channel c of the joint run has the sides of the sheet's
-  same-sides : (c : ℕ) → c < S .header .channels → coefs (sheetOf (joint S)) c ≡ channelAt S c .width * channelAt S c .height
+  pub same-sides : (c : ℕ) → c < S .header .channels → coefs (sheetOf (joint S)) c ≡ channelAt S c .width * channelAt S c .height
   unfolding joint
   same-sides c below =
       ap (λ (o : Numbers). o .width * o .height) (at-own (joint S) c joint-short below)

@@ -8,7 +8,7 @@ use mathlib.Core.Bool.{Bool, false, cond}
 use lib.ListN.{replicate}
 use lib.IntN.{ℤ, pos}
 use lib.Count.{trailingZeros}
-use lib.Ieee.{binary32, add, sub, mul, div, sum, round, units, odd, size, span, climb, ofBits, ofFields, neg, ne, eq, lt, ofInt, toUnsigned}
+use lib.Ieee.{Float, binary32, add, sub, mul, div, sum, round, units, odd, size, span, climb, ofBits, ofFields, neg, ne, eq, lt, ofInt, toUnsigned}
 use Rattle.fold.specs.Fold.{upto}
 use Rattle.float.specs.Ops.{mulAdd, product, clamp}
 use Rattle.utils.specs.Blocks.{fromBlocks}
@@ -17,7 +17,7 @@ use Rattle.utils.specs.Auxiliary.{upsamplePixels}
 use Rattle.interval.specs.Interval.{dequantised}
 use Rattle.start.specs.Coef.{dequantise, imageBlock, imageData, initDctTarget}
 use Rattle.start.specs.Auxiliary.{initPixels, auxInit}
-use Rattle.calls.specs.Jobs.{fixed}
+use Rattle.calls.specs.Jobs.{fixed, kept}
 use Rattle.demand.specs.Solver.{coefOf}
 use Rattle.contents.specs.declared.Weight.the-variants as weight
 use Rattle.text.specs.Numbers.{numberOf, numberAt}
@@ -30,13 +30,13 @@ use Rattle.sheet.specs.Lines.{rulesOf, fieldsFault, headerOf, channelOf, record
 use Rattle.contents.specs.Sheets.{held, noChannel, noSettings}
 use Rattle.sheet.specs.Reading.{contents, blank, lineTag, takenOf, lineFault, readText}
 use Rattle.rounds.specs.Whole.{runBlows, last, runOf}
-use Rattle.solve.specs.Solve.{joint, alone, separately, wholeOf, planes, blows}
+use Rattle.solve.specs.Solve.{joint, alone, separately, wholeOf, planes, blows, clippedAt}
 use Rattle.calls.specs.Buffers.{joined}
 use Rattle.picture.specs.declared.Rounding.the-variants as rounding
 use Rattle.picture.specs.Finish as Finish
 use Rattle.output.specs.Output as Output
-use Rattle.output.specs.Output.{pictureText, refusalText}
-use Rattle.program.specs.Printed.{limits, painted, sheetText, says, printed}
+use Rattle.output.specs.Output.{pictureText, refusalText, clippedText}
+use Rattle.program.specs.Printed.{limits, painted, clippedLines, sheetText, says, printed}
 
 -- the bytes of a text
 abbrev bytesFrom : String → ℕ → ℕ → List ℕ
@@ -96,20 +96,26 @@ start : planes sheet levels tables ≡ replicate 64 (ofBits binary32 0x3f7fffff)
 unfolding wholeOf runOf separately last joined fixed coefOf joint alone auxInit initPixels imageData imageBlock initDctTarget dequantise dequantised idct8x8 onLine idct8 fromBlocks upsamplePixels upto trailingZeros add sub mul div sum round units odd size span climb ofBits ofFields neg ne eq lt ofInt mulAdd product clamp
 start = refl
 
-kept : blows sheet levels tables ≡ false
+unblown : blows sheet levels tables ≡ false
 unfolding wholeOf runOf separately runBlows alone
-kept = refl
+unblown = refl
+
+-- "Without steps it is 0, and the whole example gains `K` tab `0` tab `0`" (M-104)
+unclipped : clippedLines 1 (clippedAt sheet levels tables) ≡ b "K\t0\t0\n"
+unfolding clippedLines upto wholeOf separately alone kept clippedText decimal
+unclipped = refl
 
 grey : painted rounding.Truncate (sheet .header) (replicate 64 (ofBits binary32 0x3f7fffff)) ≡ b "I\t2\t1\nR\t818181\t818181\n"
 unfolding painted pictureText Output.each Finish.pixel upto toUnsigned
 grey = refl
 
--- "`smooth` prints two lines, `I` tab `2` tab `1`, then `R` tab `818181` tab `818181`"
-pub whole-example : printed example ≡ b "I\t2\t1\nR\t818181\t818181\n"
+-- "`smooth` prints two lines, `I` tab `2` tab `1`, then `R` tab `818181` tab `818181`", after the line `K`
+pub whole-example : printed example ≡ b "K\t0\t0\nI\t2\t1\nR\t818181\t818181\n"
 unfolding printed says sheetText
 whole-example =
-    ap says reads ∙ ap (λ (x : Bool). cond x (refusalText 10 0) (painted rounding.Truncate (sheet .header) (planes sheet levels tables))) kept
-    ∙ ap (painted rounding.Truncate (sheet .header)) start ∙ grey
+    let k = clippedLines 1 (clippedAt sheet levels tables) in
+    ap says reads ∙ ap (λ (x : Bool). cond x (refusalText 10 0) (k ++ painted rounding.Truncate (sheet .header) (planes sheet levels tables))) unblown
+    ∙ ap (λ (ps : List Float). k ++ painted rounding.Truncate (sheet .header) ps) start ∙ (λ i. unclipped i ++ grey i)
 
 -- "For 7 it is the unended line, the one after the last when `E` is missing": no line at all
 pub empty-text : printed [] ≡ b "X\t7\t1\n"

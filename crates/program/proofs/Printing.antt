@@ -3,7 +3,7 @@ use mathlib.Core.Path.{_≡_, refl, sym, ap, _∙_, subst}
 use mathlib.Core.Logic.{⊎-elim}
 use mathlib.Core.Bool.{Bool, true, false}
 use mathlib.Core.List.{List, [], _∷_}
-use Prim.Native.Nat.{ℕ, zero, suc, _+_, _-_, _*_, _≤_}
+use Prim.Native.Nat.{ℕ, zero, suc, _+_, _-_, _*_, _≤_, _<_}
 use native.Mathlib.Nat.{suc-mul, mul-le-mul}
 use native.Mathlib.Omega.{arith}
 use denote.Enum.Declared.{tagOf}
@@ -37,15 +37,17 @@ use Rattle.record.specs.declared.Answer.{Answer}
 use Rattle.record.specs.Model.{answerOf}
 use Rattle.record.proofs.Answer.{the-type}
 use Rattle.calls.proofs.Tests.{sized-names}
-use Rattle.rounds.specs.Whole.{Ended, Ends}
-use Rattle.solve.specs.Solve.{wholeOf, planes, blows, SolveIs}
+use Rattle.rounds.specs.Whole.{ClippedAre, Ended, Ends}
+use Rattle.solve.specs.Solve.{wholeOf, planes, blows, clippedAt, numberIn, SolveIs}
 use Rattle.rounds.proofs.Ends.{is-done, not-done}
+use Rattle.solve.proofs.Laws.{whole-channels}
 use Rattle.picture.specs.declared.Rounding.{Rounding}
 use Rattle.picture.specs.Finish as Finish
 use Rattle.picture.proofs.Pixels.{picture-length}
 use Rattle.output.specs.Output.{Wrote, pictureInto, refusalText, refusalInto}
-use Rattle.output.proofs.Fronts.{wrote-as}
-use Rattle.program.specs.Printed.{limits, roundingOf, painted, sheetText, says, printed, mostPrinted, printedInto, SixLong}
+use Rattle.output.proofs.Fronts.{wrote-as, wrote-more}
+use Rattle.program.specs.Printed.{limits, roundingOf, painted, clippedLines, sheetText, says, printed, mostPicture, mostPrinted, printedInto, SixLong}
+use Rattle.program.proofs.Clipped.{clipped-small, lines-same}
 use Rattle.program.proofs.Accepts.{at-most, accepts}
 use Rattle.sheet.proofs.BoundLaws.{LineTo, line-bound}
 use Rattle.program.proofs.Sizes.{values-small, finished, written, refused}
@@ -55,19 +57,19 @@ use Rattle.program.proofs.Sizes.{values-small, finished, written, refus
 pub paints : (f : Rounding) (h : Header) → LegalHeader limits h → (ps : List Float) → length ps ≡ h .channels * (h .width * h .height)
     → (rgb rgb′ : List ℕ) → length rgb ≡ 3 * (h .«picture_width» * h .«picture_height») → (t : Finish.Verdict)
     → record { answer = t; bytes = rgb′ } ≡ Finish.finishing f (h .width) (h .height) (h .«picture_width») (h .«picture_height») (h .channels) ps rgb
-    → (out : List ℕ) (r : ℕ) (out′ : List ℕ) → mostPrinted ≤ length out
-    → Wrote 0 (pictureInto (h .«picture_width») (h .«picture_height») rgb′ (length out - 0)) out r out′ → Wrote 0 (painted f h ps) out r out′
-paints f h l ps long rgb rgb′ room t e out r out′ m w =
+    → (at : ℕ) (out : List ℕ) (r : ℕ) (out′ : List ℕ) → at + mostPicture ≤ length out
+    → Wrote at (pictureInto (h .«picture_width») (h .«picture_height») rgb′ (length out - at)) out r out′ → Wrote at (painted f h ps) out r out′
+paints f h l ps long rgb rgb′ room t e at out r out′ m w =
     let is : rgb′ ≡ Finish.picture (Finish.toByte f) (h .width) (h .height) (h .«picture_width») (h .«picture_height») (h .channels) ps =
     ap (λ (o : Finish.Finished). o .bytes) (e ∙ finished h l f ps long rgb room) in
     wrote-as
-    (written h l f ps rgb′ (length out - 0) is (ap length is ∙ picture-length (Finish.toByte f) (h .width) (h .height) (h .«picture_width») (h .«picture_height») (h .channels) ps) (omega arith))
+    (written h l f ps rgb′ (length out - at) is (ap length is ∙ picture-length (Finish.toByte f) (h .width) (h .height) (h .«picture_width») (h .«picture_height») (h .channels) ps) (omega arith))
     w
 
 -- ---- solved_with: how solving a legal sheet ends
 
 module _ (S : Sheet) (ls : List ℤ) (ts : List ℕ) (l : LegalSheet limits S (held ls ts)) (B : Buffers)
-    (long : SixLong (S .header) (B .plane) (B .prior) (B .gradient) (B .across) (B .down) (B .saved)) (a : Answer) (B′ : Buffers) (said : SolveIs S ls ts B a B′) where
+    (long : SixLong (S .header) (B .plane) (B .prior) (B .gradient) (B .across) (B .down) (B .saved)) (a : Answer) (ks : List ℕ) (B′ : Buffers) (said : SolveIs S ls ts B a ks B′) where
   abbrev size : ℕ
   size = S .header .channels * (S .header .width * S .header .height)
 
@@ -79,28 +81,36 @@ module _ (S : Sheet) (ls : List ℤ) (ts : List ℕ) (l : LegalSheet limits S (h
   sized Down = long .4
   sized Saved = long .5
 
-  ended : Ended (blows S ls ts) (wholeOf S ls ts) B (answerOf a) B′
-  ended = subst (λ (n : ℕ). Ends n (wholeOf S ls ts) B (answerOf a) B′) (accepts limits S ls ts l (lengths allSix B) (sized-names size B sized allSix)) said
+  ended : Ended (blows S ls ts) (wholeOf S ls ts) B (answerOf a) (numberIn ks) B′
+  ended = subst (λ (n : ℕ). Ends n (wholeOf S ls ts) B (answerOf a) (numberIn ks) B′) (accepts limits S ls ts l (lengths allSix B) (sized-names size B sized allSix)) said
 
-  -- done: it did not blow, and the planes are there
+  -- done: it did not blow, and the planes and the numbers are there
   module _ (one : OneOf (1 ∷ []) (tagOf the-type a)) where
-    not-blown : (b : Bool) → Ended b (wholeOf S ls ts) B (answerOf a) B′ → (b ≡ false) × (B′ .plane ≡ planes S ls ts) × (length (B′ .plane) ≡ size)
+    not-blown : (b : Bool) → Ended b (wholeOf S ls ts) B (answerOf a) (numberIn ks) B′
+        → (b ≡ false) × (B′ .plane ≡ planes S ls ts) × (length (B′ .plane) ≡ size) × ClippedAre (wholeOf S ls ts) (numberIn ks)
     not-blown true e = let z : _≡_ {A = ℕ} 0 1 = cc (e .0, is-done a one) in absurd (omega arith)
-    not-blown false e = (refl, ap (λ (X : Buffers). X .plane) (e .1), e .2 Plane ∙ sized Plane)
+    not-blown false e = (refl, ap (λ (X : Buffers). X .plane) (e .1), e .2 Plane ∙ sized Plane, e .3)
+
+    numbers : (c : ℕ) → c < S .header .channels → numberIn ks c ≡ clippedAt S ls ts c
+    numbers c h = not-blown (blows S ls ts) ended .3 c (omega (arith, whole-channels S ls ts))
+
+    pub numbers-small : (c : ℕ) → c < S .header .channels → numberIn ks c ≤ 1024
+    numbers-small c h = omega (arith, numbers c h, clipped-small S ls ts l c h)
 
     pub done-long : length (B′ .plane) ≡ size
     done-long = not-blown (blows S ls ts) ended .2
 
-    pub done-text : (f : Rounding) → f ≡ roundingOf (S .settings .rounding) → (out : List ℕ) (r : ℕ) (out′ : List ℕ) → Wrote 0 (painted f (S .header) (B′ .plane)) out r out′
-        → Wrote 0 (sheetText S ls ts) out r out′
+    pub done-text : (f : Rounding) → f ≡ roundingOf (S .settings .rounding) → (out : List ℕ) (at : ℕ) (mid : List ℕ) → Wrote 0 (clippedLines (S .header .channels) (numberIn ks)) out at mid → at ≤ length out
+        → (r : ℕ) (out′ : List ℕ) → Wrote at (painted f (S .header) (B′ .plane)) mid r out′ → Wrote 0 (sheetText S ls ts) out r out′
     unfolding sheetText
-    done-text f q out r out′ w =
+    done-text f q out at mid k m r out′ w =
         let d = not-blown (blows S ls ts) ended in
-        rw (d .0) (wrote-as (λ i. painted (q i) (S .header) (d .1 i)) w)
+        rw (d .0)
+        (wrote-more (wrote-as (lines-same (S .header .channels) (numberIn ks) (clippedAt S ls ts) numbers) k) m (wrote-as (λ i. painted (q i) (S .header) (d .1 i)) w))
 
   -- any other answer: it blew
   module _ (other : OneOf (0 ∷ 2 ∷ []) (tagOf the-type a)) where
-    blown : (b : Bool) → Ended b (wholeOf S ls ts) B (answerOf a) B′ → b ≡ true
+    blown : (b : Bool) → Ended b (wholeOf S ls ts) B (answerOf a) (numberIn ks) B′ → b ≡ true
     blown true e = refl
     blown false e = absurd (not-done a other (sym (e .0)))
 

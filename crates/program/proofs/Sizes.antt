@@ -15,7 +15,7 @@ use Rattle.picture.specs.declared.Rounding.{Rounding}
 use Rattle.picture.specs.Finish as Finish
 use Rattle.output.specs.Output.{pictureText, pictureInto, refusalText, refusalInto}
 use Rattle.output.proofs.Sizes.{room-more, picture-into, refusal-into}
-use Rattle.program.specs.Printed.{limits, painted, mostPrinted}
+use Rattle.program.specs.Printed.{limits, painted, mostPicture, mostPrinted}
 use Rattle.program.proofs.Accepts.{at-most, is-true, counted, wider, full-test}
 
 module _ (h : Header) (l : LegalHeader limits h) where
@@ -61,7 +61,7 @@ module _ (h : Header) (l : LegalHeader limits h) where
   -- the picture's text fits
   pub written : (f : Rounding) (planes : List Float) (bytes : List ℕ) (room : ℕ)
       → bytes ≡ Finish.picture (Finish.toByte f) (h .width) (h .height) (h .«picture_width») (h .«picture_height») (h .channels) planes
-      → length bytes ≡ 3 * (h .«picture_width» * h .«picture_height») → mostPrinted ≤ room
+      → length bytes ≡ 3 * (h .«picture_width» * h .«picture_height») → mostPicture ≤ room
       → pictureInto (h .«picture_width») (h .«picture_height») bytes room ≡ painted f h planes
   unfolding painted
   written f planes bytes room e n r =

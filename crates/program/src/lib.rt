@@ -8,20 +8,21 @@ use record::Answer;
 use sheet::Measured;
 use solve::solve;
 ghost use mathlib.Core.Path.{_≡_};
-ghost use Prim.Native.Nat.{_*_, _≤_};
+ghost use Prim.Native.Nat.{ℕ, _+_, _*_, _≤_, _<_};
 ghost use lib.ListN.{length};
 ghost use Rattle.contents.specs.Sheets.{held};
 ghost use Rattle.sheet.specs.Calls.{measuring, Lengths};
 ghost use Rattle.sheet.specs.Longest.{decisive};
 ghost use Rattle.sheet.specs.Reading.Outcome.{Gives};
 ghost use Rattle.contents.specs.Legal.{LegalHeader, LegalSheet};
+ghost use Rattle.solve.specs.Solve.{numberIn};
 ghost use Rattle.output.specs.Output.{Wrote};
-ghost use Rattle.program.specs.Printed.{limits, roundingOf, painted, sheetText, printed, mostPrinted, printedInto, SixLong};
+ghost use Rattle.program.specs.Printed.{limits, roundingOf, painted, clippedLines, sheetText, printed, mostPicture, mostPrinted, printedInto, SixLong};
 
 // So many bytes of a text decide what is printed for it: `decisive 32`.
 const DECISIVE: usize = 20461;
 // No text that is printed takes more bytes: `mostPrinted`.
-const MOST_PRINTED: usize = 7242;
+const MOST_PRINTED: usize = 7269;
 
 // How the letter of line F rounds; without it t holds.
 fn rounding_of(c: Choice) -> Rounding
@@ -34,16 +35,29 @@ fn rounding_of(c: Choice) -> Rounding
     }
 }
 
-// The text of the picture of solved planes; rgb is room for its bytes.
+// The lines `K` of n channels at the front of `out`, and where they end.
+fn write_numbers(n: u32, clipped: [u32; 3], out: &mut [u8]) -> usize
+    requires { ⌜ (n ≤ 3) × ((c : ℕ) → c < n → numberIn clipped c ≤ 1024) × (mostPrinted ≤ length (now out)) ⌝ }
+    ensures { λ r. ⌜ Wrote 0 (clippedLines n (numberIn clipped)) (now (out .entry)) r (now (out .exit)) × (r ≤ 27) ⌝ }
+{
+    let mut at = 0;
+    for c in 0..n as usize {
+        at = output::write_clipped(c, clipped[c] as usize, out, at);
+    }
+    at
+}
+
+// The text of the picture of solved planes, from place `at` on; rgb is room for its bytes.
 fn paint_with(
     rounding: Rounding,
     h: Header,
     planes: &[f32],
     rgb: &mut [u8],
     out: &mut [u8],
+    at: usize,
 ) -> usize
-    requires { ⌜ LegalHeader limits h × (length (now planes) ≡ h .channels * (h .width * h .height)) × (length (now rgb) ≡ 3 * (h .«picture_width» * h .«picture_height»)) × (mostPrinted ≤ length (now out)) ⌝ }
-    ensures { λ r. ⌜ Wrote 0 (painted rounding h (now (planes .entry))) (now (out .entry)) r (now (out .exit)) ⌝ }
+    requires { ⌜ LegalHeader limits h × (length (now planes) ≡ h .channels * (h .width * h .height)) × (length (now rgb) ≡ 3 * (h .«picture_width» * h .«picture_height»)) × (at + mostPicture ≤ length (now out)) ⌝ }
+    ensures { λ r. ⌜ Wrote at (painted rounding h (now (planes .entry))) (now (out .entry)) r (now (out .exit)) ⌝ }
 {
     let width = h.picture_width;
     let height = h.picture_height;
@@ -57,20 +71,20 @@ fn paint_with(
         planes,
         rgb,
     );
-    output::write_picture(width, height, &rgb[..], out, 0)
+    output::write_picture(width, height, &rgb[..], out, at)
 }
 
 // The same, with room of its own.
-fn paint(rounding: Rounding, h: Header, planes: &[f32], out: &mut [u8]) -> usize
-    requires { ⌜ LegalHeader limits h × (length (now planes) ≡ h .channels * (h .width * h .height)) × (mostPrinted ≤ length (now out)) ⌝ }
-    ensures { λ r. ⌜ Wrote 0 (painted rounding h (now (planes .entry))) (now (out .entry)) r (now (out .exit)) ⌝ }
+fn paint(rounding: Rounding, h: Header, planes: &[f32], out: &mut [u8], at: usize) -> usize
+    requires { ⌜ LegalHeader limits h × (length (now planes) ≡ h .channels * (h .width * h .height)) × (at + mostPicture ≤ length (now out)) ⌝ }
+    ensures { λ r. ⌜ Wrote at (painted rounding h (now (planes .entry))) (now (out .entry)) r (now (out .exit)) ⌝ }
 {
     let mut rgb = [0u8; 3072];
     let n = 3 * ((h.picture_width as usize) * (h.picture_height as usize));
-    paint_with(rounding, h, planes, &mut rgb[0..n], out)
+    paint_with(rounding, h, planes, &mut rgb[0..n], out, at)
 }
 
-// The text of a sheet that was read: its picture, or 10. The six are room for its runs.
+// The text of a sheet that was read: its lines `K` and its picture, or 10. The six are room for its runs.
 fn solved_with(
     s: Sheet,
     levels: &[i16],
@@ -90,7 +104,7 @@ fn solved_with(
     let settings = s.settings;
     let choice = settings.rounding;
     let rounding = rounding_of(choice);
-    let answer = solve(
+    let t = solve(
         s,
         levels,
         tables,
@@ -101,10 +115,13 @@ fn solved_with(
         down,
         saved,
     );
+    let answer = t.answer;
     let Answer::Done = answer else {
         return output::write_refusal(10, 0, out);
     };
-    paint(rounding, h, &plane[..], out)
+    let clipped = t.clipped;
+    let at = write_numbers(h.channels, clipped, out);
+    paint(rounding, h, &plane[..], out, at)
 }
 
 // The same, with room of its own.

@@ -8,7 +8,7 @@ returns : tie.Need-returns
 returns c =
     let a = c .before .before .before .before .before .before .before .before .before .before .before .before .args in
     let p = c .before .before .before .before .before .before .before .before .before .before .before .before .pre in
-    paints (a .rounding) (a .h) (p .0) (a .planes .now) (p .1) (a .rgb .now) _ (p .2) _ (c .before .before .before .before .before .before .before .finish .ensures) (a .out .now) _ _ (p .3) (c .before .before .write-picture .ensures)
+    paints (a .rounding) (a .h) (p .0) (a .planes .now) (p .1) (a .rgb .now) _ (p .2) _ (c .before .before .before .before .before .before .before .finish .ensures) (a .at) (a .out .now) _ _ (p .3) (c .before .before .write-picture .ensures)
 
 pub paint-with-spec : {M : Type 1} → statement M
 paint-with-spec =
