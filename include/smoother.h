@@ -42,7 +42,7 @@ enum smoother_answer {
     SMOOTHER_BLOWN = 10,   /* the channel, or for blend any channel, is marked */
     SMOOTHER_DONE = 11,    /* the channel, or for blend any channel, has had all its steps */
     SMOOTHER_CHANNEL = 12, /* there is no such channel */
-    SMOOTHER_RECORD = 13,  /* sizes, factors, weights, iterations, letter, positions or marks of no legal record */
+    SMOOTHER_RECORD = 13,  /* sizes, factors, weights, iterations, letter, positions, marks or clipped numbers of no legal record */
     SMOOTHER_PAGE = 15,    /* an iteration count within 1,000 but above the caller's limit */
     SMOOTHER_SEGMENT = 19,   /* a DQT segment with a wrong marker or stated length, or with fewer than 64 bytes left for a table */
     SMOOTHER_PRECISION = 20, /* a table of a DQT segment with a precision other than 0 or a destination above 3 */
@@ -97,6 +97,7 @@ struct smoother_channel {
     float weight;      /* data weight: finite, sign bit clear */
     uint32_t position; /* accepted jobs, 0 to 5N; its remainder modulo 5 is the next job's number */
     bool mark;         /* blown */
+    uint32_t clipped;  /* coefficients that its last project clipped, at most w x h; 0 before position 5, the end of the first */
 };
 
 /* The run's record. Joint mode is one run of all channels, with the sheet's first iteration count and first smoothing weight, and
@@ -122,7 +123,7 @@ uint32_t smoother_sheet_numbers(void);
  * that it reads or writes, whole. All calls look for 13 first, then 8, then (where levels and tables are lent) 4 and 5 in all
  * channels, then 12, 10, 11, 9. */
 
-/* A fresh run: plane and prior are the start, saved is level x quantiser, the rest 0; positions become 0, marks are cleared.
+/* A fresh run: plane and prior are the start, saved is level x quantiser, the rest 0; positions become 0, marks and clipped numbers are cleared.
  * Takes any legal record, at any position. 0, 13, 8, 4, 5. */
 uint32_t smoother_start(struct smoother_run *run, const int16_t *levels, size_t levels_len, const uint16_t *tables, size_t tables_len,
                         float *plane, size_t plane_len, float *prior, size_t prior_len, float *gradient, size_t gradient_len,
@@ -143,7 +144,8 @@ uint32_t smoother_blend(struct smoother_run *run, const float *plane, size_t pla
 uint32_t smoother_move(struct smoother_run *run, uint32_t c, float *plane, size_t plane_len, const float *gradient, size_t gradient_len);
 
 /* Job 4 of channel c: back into the intervals that the levels allow. 0, or 255 where a plane value or saved coefficient is now NaN or
- * infinite: the job is done, and the channel is marked. 13, 8, 4, 5, 12, 10, 11, 9. */
+ * infinite: the job is done, and the channel is marked. Either way run->channels[c].clipped is the number of coefficients that were clipped:
+ * those that lay below or above their interval, not at an end of it; a NaN is none. 13, 8, 4, 5, 12, 10, 11, 9. */
 uint32_t smoother_project(struct smoother_run *run, uint32_t c, const int16_t *levels, size_t levels_len, const uint16_t *tables,
                           size_t tables_len, float *plane, size_t plane_len, float *across, size_t across_len, float *down,
                           size_t down_len, float *saved, size_t saved_len);
@@ -162,15 +164,16 @@ uint32_t smoother_serve(struct smoother_run *run, const uint8_t *jobs, size_t jo
 
 /* The whole run of a sheet, in its mode, by the SMOOTHER_NUMBERS numbers that smoother_read lends out: joint mode is one run, in separate mode
  * each channel is one. plane, prior, gradient, across, down and saved have channels x W x H values each in either mode; what they hold before
- * does not matter. Fields that no run of the sheet uses are not looked at.
- * 0: the six hold each channel's after its last job, channel after channel; plane the planes.
- * 255: a channel is blown; the contents of the six are not promised.
- * 8 for another count of numbers, 13 for a mode or a reordering that is not 0 or 1 and for numbers of no legal sheet, 8, 4, 5: all six are
- * unchanged. */
+ * does not matter. clipped has one place for each channel. Fields that no run of the sheet uses are not looked at.
+ * 0: the six hold each channel's after its last job, channel after channel; plane the planes, and clipped the number of coefficients that each
+ * channel's last project clipped, 0 without steps.
+ * 255: a channel is blown; the contents of the six are not promised, and clipped is unchanged.
+ * 8 for another count of numbers, 13 for a mode or a reordering that is not 0 or 1 and for numbers of no legal sheet, 8, 4, 5: all six and
+ * clipped are unchanged. */
 uint32_t smoother_solve(const uint32_t *header, size_t header_len, const int16_t *levels, size_t levels_len, const uint16_t *tables,
                         size_t tables_len, float *plane, size_t plane_len, float *prior, size_t prior_len, float *gradient,
                         size_t gradient_len, float *across, size_t across_len, float *down, size_t down_len, float *saved,
-                        size_t saved_len);
+                        size_t saved_len, uint32_t *clipped, size_t clipped_len);
 
 /* The picture of solved planes: channels x W x H values, only read. rgb has 3 x picture width x picture height bytes: red, green and blue
  * of each pixel, row by row. Adds 128 to channel 0, converts, clamps and rounds; NaN gives 0. rounding is 0 (truncated, as the published Rust) or

@@ -14,7 +14,7 @@ ghost use Rattle.start.specs.Auxiliary.{auxInit};
 ghost use Rattle.projection.specs.Blown.{isBlown};
 ghost use Rattle.start.specs.Coef.{Covers, Lent, coef};
 ghost use Rattle.fidelity.specs.DctGradient.{dataGradient};
-ghost use Rattle.projection.specs.Projection.{projectOntoBox};
+ghost use Rattle.projection.specs.Projection.{clipped, projectOntoBox, transformed};
 ghost use Rattle.probe.specs.Jobs.{own, reorderFrom};
 
 fn reorder_from(n: u32) -> Reorder
@@ -179,7 +179,7 @@ pub extern "C" fn probe_move(
     steps::step::move_plane(plane, gradient, k);
 }
 
-// Job 5 of one channel, without the test for the mark.
+// Job 5 of one channel, without the test for the mark. Gives how many coefficients it clipped.
 #[no_mangle]
 pub extern "C" fn probe_project(
     plane: &mut [f32],
@@ -194,13 +194,16 @@ pub extern "C" fn probe_project(
     h: usize,
     levels: &[i16],
     table: &[u16],
-)
+) -> usize
     requires { ⌜ Covers (own width height fx fy) w h
         × Lent (own width height fx fy) (now levels) (now table)
         × (length (now plane) ≡ w * h) × (length (now across) ≡ w * h) × (length (now down) ≡ w * h) × (length (now saved) ≡ w * h) ⌝ }
-    ensures { λ _. ⌜ record { plane = now (plane .exit); across = now (across .exit); down = now (down .exit); saved = now (saved .exit) }
+    ensures { λ r. ⌜ (record { plane = now (plane .exit); across = now (across .exit); down = now (down .exit); saved = now (saved .exit) }
         ≡ projectOntoBox (coef (own width height fx fy) (now (levels .entry)) (now (table .entry))) w h
-        (record { plane = now (plane .entry); across = now (across .entry); down = now (down .entry); saved = now (saved .entry) }) ⌝ }
+        (record { plane = now (plane .entry); across = now (across .entry); down = now (down .entry); saved = now (saved .entry) }))
+        × (r ≡ clipped (coef (own width height fx fy) (now (levels .entry)) (now (table .entry)))
+        (transformed (coef (own width height fx fy) (now (levels .entry)) (now (table .entry))) w h
+        (record { plane = now (plane .entry); across = now (across .entry); down = now (down .entry); saved = now (saved .entry) }))) ⌝ }
 {
     let o = Own {
         width: width,
@@ -208,7 +211,7 @@ pub extern "C" fn probe_project(
         horizontal: fx,
         vertical: fy,
     };
-    projection::projection::project_onto_box(plane, across, down, saved, o, w, h, levels, table);
+    projection::projection::project_onto_box(plane, across, down, saved, o, w, h, levels, table)
 }
 
 // The condition of job 5, of the plane and the n saved coefficients: 1 where it holds, 0 where not.

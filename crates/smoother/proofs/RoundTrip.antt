@@ -1,10 +1,12 @@
 -- A sheet's record lent out as numbers and given back: what the whole run refuses and what it leaves are those of the sheet, in either form
 -- of its weights.
 use mathlib.Core.Path.{_≡_, refl, sym, ap, _∙_, fun-ext}
+use mathlib.Core.Logic.{_≢_}
 use Prim.Native.Nat.{ℕ, suc}
 use mathlib.Core.Bool.{Bool, true, false, cond, _&&_}
 use mathlib.Core.List.{List}
 use lib.Dec.{T, eqb, leb}
+use lib.ListN.{length}
 use lib.IntN.{ℤ, pos}
 use lib.Ieee.{Float, binary32, ofBits, toBits, fits, ofInt}
 use lib.Ieee.Bits.{ofBits-toBits, ofBits-fits}
@@ -19,14 +21,16 @@ use Rattle.fold.specs.Part.{part}
 use Rattle.start.specs.Buffers.{Buffers}
 use Rattle.calls.specs.Run.{Given, levelsBefore, every, among}
 use Rattle.calls.specs.Buffers.{joined}
+use Rattle.calls.specs.Jobs.{kept}
+use Rattle.demand.specs.Solver.{jobs}
 use Rattle.calls.specs.Calls.{Answer, startRefusal, lengths, allSix}
 use Rattle.serve.specs.Serve.{byteOf}
 use Rattle.record.specs.declared.Run.{Run}
 use Rattle.record.specs.Model.{sheetOf, placesOf, givenOf}
-use Rattle.rounds.specs.Whole.{runBlows, Whole, last, runOf, Ends}
-use Rattle.solve.specs.Solve.{reorderOf, joint, alone, tablesFor, separately, wholeOf, isLegal, allLegal, solveRefusal}
+use Rattle.rounds.specs.Whole.{jobCount, runBlows, Whole, last, runOf, Ends}
+use Rattle.solve.specs.Solve.{reorderOf, joint, alone, tablesFor, separately, wholeOf, isLegal, allLegal, solveRefusal, numberIn}
 use Rattle.smoother.specs.Sheets.{choiceNumber, numbersOf, weightBits}
-use Rattle.smoother.specs.Whole.{choiceFrom, sheetOfNumbers, numbersRefusal, SolveNumbers}
+use Rattle.smoother.specs.Whole.{choiceFrom, sheetOfNumbers, sheetRefusal, numbersRefusal, SolveNumbers}
 
 value-fits : (w : Weight) → T (fits binary32 (valueOf w))
 unfolding valueOf
@@ -70,10 +74,18 @@ module _ (levels : List ℤ) (tables : List ℕ) where
   abbrev refusalBy : List ℕ → ℕ → Run → (ℕ → Run) → ℕ
   refusalBy ls n J A = cond (isLegal J && every n (λ c. isLegal (A c))) (startRefusal (givenOf J levels tables) (placesOf J) ls) 13
 
+  abbrev lentBy : List ℕ → ℕ → ℕ → Run → (ℕ → Run) → ℕ
+  lentBy ls m n J A = cond (isLegal J && every n (λ c. isLegal (A c))) (cond (eqb m n) (refusalBy ls n J A) 8) 13
+
   abbrev wholeBy : Bool → ℕ → Run → (ℕ → Run) → Whole
   wholeBy b n J A =
       cond b (runOf (givenOf J levels tables))
-      (record { buffers = joined n (λ c. last (ownGiven J A c) 0); blown = among n (λ c. runBlows (ownGiven J A c)) })
+      (record {
+        buffers = joined n (λ c. last (ownGiven J A c) 0);
+        blown = among n (λ c. runBlows (ownGiven J A c));
+        channels = n;
+        clipped = λ c. kept jobs (ownGiven J A c) (jobCount (ownGiven J A c)) 0;
+      })
 
 module _ (S : Sheet) where
   abbrev S′ : Sheet
@@ -105,11 +117,17 @@ module _ (S : Sheet) where
     unfolding wholeOf separately
     same-whole = λ i. wholeBy levels tables (mode-kept i) (same-count i) (same-joint i) (fun-ext same-alone i)
 
-    same-numbers : (ls : List ℕ) → numbersRefusal (numbersOf S) levels tables ls ≡ solveRefusal S levels tables ls
+    same-sheet-refusal : (ls : List ℕ) (m : ℕ) → sheetRefusal S′ levels tables ls m ≡ sheetRefusal S levels tables ls m
+    unfolding sheetRefusal solveRefusal allLegal
+    same-sheet-refusal ls m = λ i. lentBy levels tables ls m (same-count i) (same-joint i) (fun-ext same-alone i)
+
+    same-numbers : (ls : List ℕ) (m : ℕ) → numbersRefusal (numbersOf S) levels tables ls m ≡ sheetRefusal S levels tables ls m
     unfolding numbersRefusal numbersOf
-    same-numbers ls = ap (λ (b : Bool). cond b (solveRefusal S′ levels tables ls) 13) (both-letters (S .header .joint) (S .settings .start)) ∙ same-refusal ls
+    same-numbers ls m = ap (λ (b : Bool). cond b (sheetRefusal S′ levels tables ls m) 13) (both-letters (S .header .joint) (S .settings .start)) ∙ same-sheet-refusal ls m
 
     -- the exported call, lent the numbers of a sheet, does what `solve` does of the sheet
-    pub as-of-sheet : (B : Buffers) (k : ℕ) (B′ : Buffers)
-        → SolveNumbers (numbersOf S) levels tables B k B′ ≡ ((a : Answer) × (k ≡ byteOf a) × Ends (solveRefusal S levels tables (lengths allSix B)) (wholeOf S levels tables) B a B′)
-    as-of-sheet B k B′ = λ i. (a : Answer) × (k ≡ byteOf a) × Ends (same-numbers (lengths allSix B) i) (same-whole i) B a B′
+    pub as-of-sheet : (B : Buffers) (ks : List ℕ) (k : ℕ) (B′ : Buffers) (ks′ : List ℕ)
+        → SolveNumbers (numbersOf S) levels tables B ks k B′ ks′
+        ≡ ((a : Answer) × (k ≡ byteOf a) × Ends (sheetRefusal S levels tables (lengths allSix B) (length ks)) (wholeOf S levels tables) B a (numberIn ks′) B′ × (k ≢ 0 → ks′ ≡ ks))
+    as-of-sheet B ks k B′ ks′ =
+        λ i. (a : Answer) × (k ≡ byteOf a) × Ends (same-numbers (lengths allSix B) (length ks) i) (same-whole i) B a (numberIn ks′) B′ × (k ≢ 0 → ks′ ≡ ks)

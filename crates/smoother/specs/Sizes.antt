@@ -8,12 +8,12 @@ use Rattle.record.specs.declared.Channel.{Channel}
 use Rattle.record.specs.Model.{noChannel}
 use Rattle.smoother.specs.declared.LentRun.{LentRun}
 
--- C's layout of these fields, one after the other: four bytes for a u32 or an f32, one for a bool, and the struct ends at a multiple of four
+-- C's layout of these fields: four bytes for a u32 or an f32, one for a bool, and what follows it, a field or the struct's end, at a multiple of four
 abbrev pub structBytes : List ℕ → List Float → List Bool → ℕ
 structBytes numbers floats bools = (length numbers * 4 + length floats * 4 + length bools + 3) / 4 * 4
 
 abbrev pub channelBytes : Channel → ℕ
-channelBytes x = structBytes (x .width ∷ x .height ∷ x .across ∷ x .down ∷ x .position ∷ []) (x .weight ∷ []) (x .mark ∷ [])
+channelBytes x = structBytes (x .width ∷ x .height ∷ x .across ∷ x .down ∷ x .position ∷ x .clipped ∷ []) (x .weight ∷ []) (x .mark ∷ [])
 
 -- the record's own fields, and three channels
 abbrev pub runBytes : LentRun → ℕ

@@ -9,9 +9,10 @@ use contents::Sheet;
 use contents::Weight;
 use fold::flags::both;
 use picture::Rounding;
+use solve::modes::all_legal;
 ghost use mathlib.Core.Path.{_≡_};
-ghost use Prim.Native.Nat.{_+_, _<_};
-ghost use lib.ListN.{length};
+ghost use Prim.Native.Nat.{_+_, _≤_, _<_};
+ghost use lib.ListN.{length, take};
 ghost use Rattle.rounds.specs.Whole.{six};
 ghost use Rattle.smoother.specs.Sheets.{recordCount};
 ghost use Rattle.smoother.specs.Whole.{headerFrom, channelFrom, choiceFrom, settingsFrom, sheetOfNumbers, SolveNumbers, roundingFrom, FinishNumbers};
@@ -84,8 +85,20 @@ fn sheet_of(numbers: &[u32]) -> Sheet
     }
 }
 
+// The buffer becomes the first of the three numbers, as many as it has places.
+fn put_clipped(from: [u32; 3], to: &mut [u32])
+    requires { ⌜ length (now to) ≤ 3 ⌝ }
+    ensures { λ _. ⌜ now (to .exit) ≡ take (length (now (to .entry))) from ⌝ }
+{
+    for k in 0..to.len() {
+        to[k] = from[k];
+    }
+}
+
 // The whole run of a sheet, by the numbers that `smoother_read` lends out. 8 for another count of them, 13 for a mode or a letter of line A that is neither 0 nor 1, and
-// else what `solve` answers. Ruled out: the planes of separate mode for a record whose mode is 1; 8 for six good buffers where a weight is infinite (13).
+// else what `solve` answers, with 8 also for a buffer `clipped` that has not one place for each channel. Where done, that has each channel's number of clipped
+// coefficients. Ruled out: the planes of separate mode for a record whose mode is 1; 8 for six good buffers where a weight is infinite (13); numbers changed by a
+// refusal.
 #[no_mangle]
 pub extern "C" fn smoother_solve(
     numbers: &[u32],
@@ -97,10 +110,11 @@ pub extern "C" fn smoother_solve(
     across: &mut [f32],
     down: &mut [f32],
     saved: &mut [f32],
+    clipped: &mut [u32],
 ) -> u32
     ensures { λ r. ⌜ SolveNumbers (now (numbers .entry)) (now (levels .entry)) (now (tables .entry))
-        (six (now (plane .entry)) (now (prior .entry)) (now (gradient .entry)) (now (across .entry)) (now (down .entry)) (now (saved .entry))) r
-        (six (now (plane .exit)) (now (prior .exit)) (now (gradient .exit)) (now (across .exit)) (now (down .exit)) (now (saved .exit))) ⌝ }
+        (six (now (plane .entry)) (now (prior .entry)) (now (gradient .entry)) (now (across .entry)) (now (down .entry)) (now (saved .entry))) (now (clipped .entry)) r
+        (six (now (plane .exit)) (now (prior .exit)) (now (gradient .exit)) (now (across .exit)) (now (down .exit)) (now (saved .exit))) (now (clipped .exit)) ⌝ }
 {
     if numbers.len() != NUMBERS {
         return 8;
@@ -111,7 +125,14 @@ pub extern "C" fn smoother_solve(
         return 13;
     }
     let s = sheet_of(numbers);
-    let a = solve::solve(
+    if !all_legal(s) {
+        return 13;
+    }
+    let h = s.header;
+    if clipped.len() != h.channels as usize {
+        return 8;
+    }
+    let t = solve::solve(
         s,
         levels,
         tables,
@@ -122,7 +143,14 @@ pub extern "C" fn smoother_solve(
         down,
         saved,
     );
-    runs::number_of(a)
+    let a = t.answer;
+    let k = runs::number_of(a);
+    if k != 0 {
+        return k;
+    }
+    let numbers = t.clipped;
+    put_clipped(numbers, clipped);
+    0
 }
 
 fn rounding_from(n: u32) -> Rounding

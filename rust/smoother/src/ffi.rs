@@ -143,6 +143,8 @@ exports! {
         down_len: usize,
         saved: *mut f32,
         saved_len: usize,
+        clipped: *mut u32,
+        clipped_len: usize,
     ) -> u32;
     pub fn smoother_finish(
         rounding: u32,

@@ -26,9 +26,11 @@ mod tapes;
 
 pub use refusal::{Error, Fault, Refusal};
 pub use run::{
-    Answers, Buffers, Channel, Job, Outcome, Reorder, Run, blend, call, data, move_plane, project, push, serve,
-    serve_numbers, start,
+    Answers, Buffers, Channel, Job, Outcome, Projected, Reorder, Run, blend, call, data, move_plane, project, push,
+    serve, serve_numbers, start,
 };
 pub use segments::{QUANTISERS, SEGMENT, dqt_export, dqt_export_into, dqt_import};
-pub use sheet::{Lengths, Limits, NUMBERS, Own, Rounding, Sheet, finish_into, measure, read, read_into, solve_into};
+pub use sheet::{
+    Lengths, Limits, NUMBERS, Own, Rounding, Sheet, Solved, finish_into, measure, read, read_into, solve_into,
+};
 pub use tapes::{rearrange, rearrange_into, restore, restore_into};

@@ -83,7 +83,7 @@ impl Refusal {
             Blown => "the channel's values overflowed in an earlier step",
             Done => "the channel has had all its steps",
             Channel => "there is no such channel",
-            Record => "sizes, factors, weights, iterations, positions or marks of no legal record",
+            Record => "sizes, factors, weights, iterations, positions, marks or clipped numbers of no legal record",
             Page => "an iteration count within 1,000 but above the caller's limit",
             Segment => {
                 "a DQT segment with a wrong marker or stated length, or with fewer than 64 bytes left for a table"

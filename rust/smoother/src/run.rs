@@ -19,6 +19,8 @@ pub struct Channel {
     pub position: u32,
     /// Whether it is blown.
     pub mark: bool,
+    /// How many coefficients its last project clipped; 0 before the first.
+    pub clipped: u32,
 }
 
 /// When start reorders a channel's image.
@@ -85,6 +87,13 @@ pub enum Outcome {
     Blown,
 }
 
+/// What an accepted project says: how many coefficients lay outside their intervals, which the record keeps.
+#[derive(Clone, Copy, Debug, PartialEq, Eq, Hash)]
+pub struct Projected {
+    pub outcome: Outcome,
+    pub clipped: u32,
+}
+
 /// The five jobs of a step, each with its number.
 #[derive(Clone, Copy, Debug, PartialEq, Eq, Hash)]
 #[repr(u8)]
@@ -120,7 +129,7 @@ fn lent(run: &mut Run) -> &mut Run {
 // SAFETY, of every call below: each pointer and length are of one slice or vector, `&mut` keeps them apart, and the library writes only within the
 // lengths and only legal records.
 
-/// A fresh run: plane and prior are the start, saved is level × quantiser, other values 0; positions 0, no marks. Takes any legal record.
+/// A fresh run: plane and prior are the start, saved is level × quantiser, other values 0; positions 0, no marks, nothing clipped. Takes any legal record.
 pub fn start(run: &mut Run, levels: &[i16], tables: &[u16], b: &mut Buffers) -> Result<Outcome, Error> {
     plain(unsafe { lend!(smoother_start(lent(run), read levels, read tables, six b)) })
 }
@@ -146,12 +155,13 @@ pub fn move_plane(run: &mut Run, c: u32, b: &mut Buffers) -> Result<Outcome, Err
 }
 
 /// Project of channel `c`: writes its part of plane, across, down and saved.
-pub fn project(run: &mut Run, c: u32, levels: &[i16], tables: &[u16], b: &mut Buffers) -> Result<Outcome, Error> {
-    told(unsafe {
+pub fn project(run: &mut Run, c: u32, levels: &[i16], tables: &[u16], b: &mut Buffers) -> Result<Projected, Error> {
+    let outcome = told(unsafe {
         lend!(smoother_project(
             lent(run), c, read levels, read tables, write b.plane, write b.across, write b.down, write b.saved
         ))
-    })
+    })?;
+    Ok(Projected { outcome, clipped: run.channels[c as usize].clipped }) // c is a channel's number, or the call was refused
 }
 
 /// The call of any job. Blend looks at no channel number.
@@ -168,7 +178,7 @@ pub fn call(
         Job::Data => data(run, c, levels, tables, b),
         Job::Blend => blend(run, b),
         Job::Move => move_plane(run, c, b),
-        Job::Project => project(run, c, levels, tables, b),
+        Job::Project => project(run, c, levels, tables, b).map(|said| said.outcome),
     }
 }
 

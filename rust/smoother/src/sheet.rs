@@ -134,12 +134,21 @@ impl Own {
     /// The channel at position 0, unmarked, with this data weight.
     pub fn channel(self, weight: f32) -> Channel {
         let Self { width, height, across, down } = self;
-        Channel { width, height, across, down, weight, position: 0, mark: false }
+        Channel { width, height, across, down, weight, position: 0, mark: false, clipped: 0 }
     }
 
     fn area(self) -> usize {
         self.width as usize * self.height as usize
     }
+}
+
+/// What the whole run of a sheet leaves.
+#[derive(Clone, Debug, PartialEq)]
+pub struct Solved {
+    /// The planes of all channels, one after the other.
+    pub planes: Vec<f32>,
+    /// How many coefficients each channel's last project clipped; 0 without steps.
+    pub clipped: Vec<u32>,
 }
 
 impl Sheet {
@@ -208,11 +217,12 @@ impl Sheet {
         n
     }
 
-    /// The planes after the sheet's last job, in its mode; none where a channel blew in the run.
-    pub fn solve(&self) -> Result<Option<Vec<f32>>, Error> {
+    /// What the sheet's run leaves after its last job, in its mode; none where a channel blew in the run.
+    pub fn solve(&self) -> Result<Option<Solved>, Error> {
         let mut b = self.joint_run().buffers();
-        let outcome = solve_into(&self.numbers(), &self.levels, &self.tables, &mut b)?;
-        Ok((outcome == Outcome::Done).then_some(b.plane))
+        let mut clipped = vec![0; self.count.min(3) as usize];
+        let outcome = solve_into(&self.numbers(), &self.levels, &self.tables, &mut b, &mut clipped)?;
+        Ok((outcome == Outcome::Done).then_some(Solved { planes: b.plane, clipped }))
     }
 
     /// The picture of solved planes: red, green and blue of each pixel, row by row.
@@ -226,10 +236,17 @@ impl Sheet {
 }
 
 /// The whole run of a sheet by its record's numbers, in lent buffers of channels × W × H values each, which become each channel's after its last
-/// job. `Outcome::Blown`: a channel blew in the run, and nothing is promised of the buffers.
-pub fn solve_into(header: &[u32], levels: &[i16], tables: &[u16], b: &mut Buffers) -> Result<Outcome, Error> {
+/// job; `clipped` has a place for each channel, which becomes the number of coefficients that its last project clipped. `Outcome::Blown`: a channel
+/// blew in the run, nothing is promised of the buffers, and `clipped` is as it was.
+pub fn solve_into(
+    header: &[u32],
+    levels: &[i16],
+    tables: &[u16],
+    b: &mut Buffers,
+    clipped: &mut [u32],
+) -> Result<Outcome, Error> {
     // SAFETY: each pointer and length are of one slice, and the slices do not overlap.
-    told(unsafe { lend!(smoother_solve(read header, read levels, read tables, six b)) })
+    told(unsafe { lend!(smoother_solve(read header, read levels, read tables, six b, write clipped)) })
 }
 
 /// The picture of planes, in lent bytes; `sides` are W, H and the picture's.

@@ -119,7 +119,7 @@ fn start_reordered_repeatedly_and_once() {
             let due = |i: usize| if i / 16 % step == 0 && i % 16 < 8 { 1.0 - 2.0_f32.powi(-24) } else { 0.0 };
             let due: Vec<f32> = (0..128).map(due).collect();
             assert_eq!(started(&sheet).1.plane, due);
-            assert_eq!(sheet.solve().expect("legal"), Some(due));
+            assert_eq!(sheet.solve().expect("legal"), Some(Solved { planes: due, clipped: vec![0] }));
         }
     }
 }
@@ -237,7 +237,9 @@ fn calls_refused() {
     refused(Refusal::Length, &mut run, &mut short, |run, b| data(run, 0, levels, tables, b));
     refused(Refusal::Length, &mut run, &mut short, blend);
     refused(Refusal::Length, &mut run, &mut short, |run, b| move_plane(run, 0, b));
-    refused(Refusal::Length, &mut run, &mut short, |run, b| project(run, 0, levels, tables, b));
+    refused(Refusal::Length, &mut run, &mut short, |run, b| {
+        project(run, 0, levels, tables, b).map(|said| said.outcome)
+    });
     refused(Refusal::Length, &mut run, &mut short, |run, b| start(run, levels, tables, b));
     refused(Refusal::Length, &mut run, &mut b, |run, b| start(run, &levels[1..], tables, b));
     refused(Refusal::Length, &mut run, &mut b, |run, b| data(run, 0, levels, &tables[1..], b));
@@ -250,7 +252,9 @@ fn calls_refused() {
     refused(Refusal::Level, &mut run, &mut b, |run, b| start(run, &bad_levels, tables, b));
     // 12, 9
     refused(Refusal::Channel, &mut run, &mut b, |run, b| push(run, 3, b));
-    refused(Refusal::Channel, &mut run, &mut b, |run, b| project(run, u32::MAX, levels, tables, b));
+    refused(Refusal::Channel, &mut run, &mut b, |run, b| {
+        project(run, u32::MAX, levels, tables, b).map(|said| said.outcome)
+    });
     refused(Refusal::Turn, &mut run, &mut b, |run, b| data(run, 0, levels, tables, b));
     refused(Refusal::Turn, &mut run, &mut b, blend);
     assert_eq!(push(&mut run, 1, &mut b), Ok(Outcome::Done));
@@ -367,8 +371,9 @@ fn separate_runs_of_a_sheet() {
 #[test]
 fn whole_example() {
     let sheet = sheet_of(&whole());
-    let planes = sheet.solve().expect("legal").expect("planes");
-    assert_eq!(sheet.finish(&planes), Ok(vec![0x81; 6]));
+    let solved = sheet.solve().expect("legal").expect("planes");
+    assert_eq!(solved.clipped, [0]);
+    assert_eq!(sheet.finish(&solved.planes), Ok(vec![0x81; 6]));
 }
 
 #[test]
@@ -400,7 +405,38 @@ fn solve_is_the_calls() {
         }
     }
     let bits = |values: &[f32]| values.iter().map(|x| x.to_bits()).collect::<Vec<_>>();
-    assert_eq!(bits(&sheet.solve().expect("legal").expect("planes")), bits(&b.plane));
+    let solved = sheet.solve().expect("legal").expect("planes");
+    assert_eq!(bits(&solved.planes), bits(&b.plane));
+    assert_eq!(solved.clipped, run.channels.map(|c| c.clipped));
+    assert!(solved.clipped.iter().any(|n| *n > 0));
+}
+
+#[test]
+fn clipped_numbers() {
+    let sheet = sheet_of(&joint(1, "w1 w1 w1"));
+    let (levels, tables) = (&sheet.levels, &sheet.tables);
+    let (mut run, mut b) = started(&sheet);
+    for (job, c) in step(run.count) {
+        if job == Job::Project {
+            let said = project(&mut run, c, levels, tables, &mut b);
+            let clipped = run.channels[c as usize].clipped;
+            assert_eq!(said, Ok(Projected { outcome: Outcome::Done, clipped }));
+        } else {
+            assert_eq!(call(&mut run, job, c, levels, tables, &mut b), Ok(Outcome::Done));
+        }
+    }
+    assert!(run.channels.iter().any(|c| c.clipped > 0));
+    // at most w × h, and 0 before the first project has ended; a start clears them
+    let most = run.channels[0].width * run.channels[0].height;
+    for (position, clipped, due) in [(5, most, None), (5, most + 1, Some(())), (4, 1, Some(())), (4, 0, None)] {
+        let mut damaged = run;
+        (damaged.channels[0].position, damaged.channels[0].clipped) = (position, clipped);
+        let due = due.map_or(Ok(Outcome::Done), |()| Err(Refusal::Record.into()));
+        assert_eq!(start(&mut damaged, levels, tables, &mut b), due);
+        if due.is_ok() {
+            assert!(damaged.channels.iter().all(|c| c.clipped == 0));
+        }
+    }
 }
 
 #[test]
@@ -408,7 +444,9 @@ fn solve_blows() {
     // document 01: "First data weight h7f000000, first iteration count 1: channel 0 blows in step 1."
     let sheet = sheet_of(&joint(1, "h7f000000 w1 w1"));
     let mut b = sheet.joint_run().buffers();
-    assert_eq!(solve_into(&sheet.numbers(), &sheet.levels, &sheet.tables, &mut b), Ok(Outcome::Blown));
+    let mut clipped = [7; 3];
+    assert_eq!(solve_into(&sheet.numbers(), &sheet.levels, &sheet.tables, &mut b, &mut clipped), Ok(Outcome::Blown));
+    assert_eq!(clipped, [7; 3]);
     assert_eq!(sheet.solve(), Ok(None));
 }
 
@@ -427,7 +465,13 @@ fn solve_refuses() {
         (&numbers, &sheet.levels, Refusal::Record),
         (&no_letter, &sheet.levels, Refusal::Record),
     ] {
-        assert_eq!(solve_into(numbers, levels, &sheet.tables, &mut b), Err(why.into()));
+        let mut clipped = [7; 3];
+        assert_eq!(solve_into(numbers, levels, &sheet.tables, &mut b, &mut clipped), Err(why.into()));
+        assert_eq!(clipped, [7; 3]);
+    }
+    // one place for each channel; 13 comes first
+    for (numbers, why) in [(&sheet.numbers(), Refusal::Length), (&numbers, Refusal::Record)] {
+        assert_eq!(solve_into(numbers, &sheet.levels, &sheet.tables, &mut b, &mut [0; 2]), Err(why.into()));
     }
     assert_eq!(bits(&b), before);
     assert_eq!(
