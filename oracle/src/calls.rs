@@ -19,6 +19,8 @@ pub struct Channel {
     pub weight: f32,
     pub position: u32,
     pub mark: bool,
+    /// How many coefficients the last project moved.
+    pub clipped: u32,
 }
 
 /// The run's record; its channels are the first `count`.
@@ -36,7 +38,7 @@ pub struct Record {
 }
 
 pub const NO_CHANNEL: Channel =
-    Channel { width: 0, height: 0, across: 0, down: 0, weight: 0.0, position: 0, mark: false };
+    Channel { width: 0, height: 0, across: 0, down: 0, weight: 0.0, position: 0, mark: false, clipped: 0 };
 
 #[derive(Clone, Copy, Debug, PartialEq)]
 pub enum Job {
@@ -119,8 +121,9 @@ impl Record {
     }
 
     pub fn numbers(&self) -> Vec<u32> {
-        let channel =
-            |c: &Channel| [c.width, c.height, c.across, c.down, bits(c.weight), c.position, u32::from(c.mark)];
+        let channel = |c: &Channel| {
+            [c.width, c.height, c.across, c.down, bits(c.weight), c.position, u32::from(c.mark), c.clipped]
+        };
         let first = [self.w, self.h, self.n, bits(self.smoothing), self.reorder, self.count];
         first.into_iter().chain(self.channels.iter().flat_map(channel)).collect()
     }
@@ -134,7 +137,8 @@ impl Record {
         &mut self.channels[..self.count as usize]
     }
 
-    /// "Legal records: numbers within the sheet's rules, equal blends in all channels, marks only at positive multiples of 5."
+    /// "Legal records: numbers within the sheet's rules, equal blends in all channels, marks only at positive multiples of 5." "A kept number above w × h, or
+    /// not 0 before the first project, is 13" (M-104).
     pub fn is_legal(&self) -> bool {
         let full = |side: u32| side % 8 == 0 && (8..=512).contains(&side);
         if !full(self.w) || !full(self.h) || self.n > 1000 || !weight_ok(self.smoothing) || self.reorder > 1 {
@@ -156,6 +160,8 @@ impl Record {
                 && weight_ok(c.weight)
                 && c.position <= last
                 && (!c.mark || c.position > 0 && c.position % 5 == 0)
+                && c.clipped <= c.width * c.height
+                && (c.clipped == 0 || c.position >= 5)
                 && blends(c.position) == blends(self.channels[0].position)
         })
     }
@@ -257,9 +263,10 @@ impl Lent {
             self.keep(&run, c);
             self.record.channels[c].position += 1;
         }
-        if job == Project && run.marks[c] {
-            self.record.channels[c].mark = true;
-            return BLOWN;
+        if job == Project {
+            let own = &mut self.record.channels[c];
+            (own.mark, own.clipped) = (run.marks[c], run.clipped[c]);
+            return if own.mark { BLOWN } else { 0 };
         }
         0
     }
@@ -324,7 +331,7 @@ impl Lent {
     }
 
     /// "Plane and prior are the upsampled start, saved coefficients are level × quantiser, other values 0. Start .. sets positions to 0 and
-    /// clears marks."
+    /// clears marks." The kept numbers are "0 after start".
     fn start(&mut self) {
         let r = self.record;
         let sheet = Sheet {
@@ -343,7 +350,7 @@ impl Lent {
         let run = crate::run::runs(&sheet).remove(0);
         self.buffers[SAVED].fill(0.0);
         (0..r.count as usize).for_each(|c| self.keep(&run, c));
-        self.record.owns_mut().iter_mut().for_each(|c| (c.position, c.mark) = (0, false));
+        self.record.owns_mut().iter_mut().for_each(|c| (c.position, c.mark, c.clipped) = (0, false, 0));
     }
 
     /// A fresh run and a list of calls on it, each by its job's number and a channel: the answers' bytes go to `answers`. All is refused with nothing
@@ -485,7 +492,17 @@ mod tests {
         assert_eq!(x.call(Push, 0), 13, "no blend of step 1");
         x.record.channels[2].position = 3;
         assert_eq!(x.call(Blend, 0), 11);
+        let most = x.record.channels[1].width * x.record.channels[1].height;
+        x.record.channels.iter_mut().for_each(|c| c.position = 5);
+        x.record.channels[1].clipped = most + 1;
+        assert_eq!(x.call(Blend, 0), 13, "more than w x h");
+        x.record.channels[1].clipped = most;
+        assert_eq!(x.call(Blend, 0), 11);
+        x.record.channels.iter_mut().for_each(|c| c.position = 4);
+        assert_eq!(x.call(Project, 1), 13, "kept before the first project");
+        x.record.channels[1].position = 5;
+        assert_eq!(x.call(Project, 1), 11);
         assert_eq!(x.call(Start, 0), 0);
-        assert!(x.record.channels.iter().all(|c| c.position == 0));
+        assert!(x.record.channels.iter().all(|c| c.position == 0 && c.clipped == 0));
     }
 }

@@ -29,6 +29,8 @@ pub struct Lent {
     reorder: u32,
     channels: Vec<Own>,
     pub buffers: Buffers,
+    /// How many coefficients the last project moved.
+    pub clipped: u32,
 }
 
 /// A run of all channels in joint mode, and of each channel in separate mode, as `run::runs` has them. The buffers hold `fill`.
@@ -50,6 +52,7 @@ pub fn runs(sheet: &sheet::Sheet, fill: f32) -> Vec<Lent> {
         reorder: u32::from(sheet.reorders() == Reorder::Once),
         buffers: [0; 6].map(|_| vec![fill; channels.len() * (sheet.w * sheet.h) as usize]),
         channels,
+        clipped: 0,
     };
     let each = sheet.channels.iter();
     if sheet.joint {
@@ -130,10 +133,10 @@ impl Lent {
             },
             "move" => unsafe { probe_move(plane, n, gradient, n, w, h, iterations, weight, step) },
             "project" => unsafe {
-                probe_project(
+                self.clipped = probe_project(
                     plane, n, across, n, down, n, saved, n, o.w, o.h, o.across, o.down, full_w, full_h, levels,
                     levels_len, table, 64,
-                );
+                ) as u32;
             },
             _ => panic!("{job} is no job"),
         }

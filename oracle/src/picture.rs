@@ -1,4 +1,4 @@
-//! The whole program: a sheet text to the lines of a picture, by the published `solve_cpu` and `finish` of lib.rs. The jobs of `run` find blown channels. The rounding of line
+//! The whole program: a sheet text to the lines that are printed, by the published `solve_cpu` and `finish` of lib.rs. The jobs of `run` find blown channels. The rounding of line
 //! `F n` (M-100) is written here, beside the published `finish`; for `A o` (M-102) `solve_cpu` is built with the one reordering.
 use crate::{
     floats::same,
@@ -14,27 +14,36 @@ use artefact::{
 
 /// What the program `smooth` prints for a text.
 pub fn smooth(text: &[u8]) -> String {
-    match read(text, SMOOTH).and_then(|sheet| picture(&sheet).ok_or((10, 0))) {
-        Ok(image) => lines(&image),
+    match read(text, SMOOTH).and_then(|sheet| printed(&sheet).ok_or((10, 0))) {
+        Ok(lines) => lines,
         Err((number, line)) => format!("X\t{number}\t{line}\n"),
     }
 }
 
-fn lines(image: &RgbImage) -> String {
+/// "on a line `K`, channel, number, channels rising, between the `T` lines and `I`" (M-104), then the picture. None where a channel is blown.
+fn printed(sheet: &Sheet) -> Option<String> {
+    let ended = ended(sheet)?;
+    let clipped = ended.clipped.iter().enumerate().map(|(c, number)| format!("K\t{c}\t{number}\n"));
+    Some(clipped.collect::<String>() + &picture_lines(&drawn(sheet, ended.planes)))
+}
+
+fn picture_lines(image: &RgbImage) -> String {
     let pixel = |p: &[u8]| format!("{:02x}{:02x}{:02x}", p[0], p[1], p[2]);
     let rows = image.bytes.chunks(3 * image.width as usize);
     let rows = rows.map(|row| format!("R\t{}\n", joined(row.chunks(3).map(pixel), "\t")));
     format!("I\t{}\t{}\n{}", image.width, image.height, rows.collect::<String>())
 }
 
-/// None where a channel is blown.
-pub fn picture(sheet: &Sheet) -> Option<RgbImage> {
-    planes(sheet).map(|solved| drawn(sheet, solved))
+/// What the runs of a sheet leave, channel after channel: the planes, and how many coefficients the last projection moved.
+pub struct Ended {
+    pub planes: Vec<Vec<f32>>,
+    pub clipped: Vec<u32>,
 }
 
-/// The planes of all channels; none where a channel is blown.
-pub fn planes(sheet: &Sheet) -> Option<Vec<Vec<f32>>> {
+/// None where a channel is blown.
+pub fn ended(sheet: &Sheet) -> Option<Ended> {
     let mut planes: Vec<AlignedF32> = vec![];
+    let mut clipped = vec![];
     for mut run in runs(sheet) {
         while !run.is_done() {
             run.step(|_, _, _| ());
@@ -42,12 +51,13 @@ pub fn planes(sheet: &Sheet) -> Option<Vec<Vec<f32>>> {
                 return None;
             }
         }
+        clipped.extend(&run.clipped);
         planes.extend(run.auxs.into_iter().map(|aux| aux.fdata));
     }
     let solved = solved(sheet);
     let mut pairs = solved.iter().flatten().zip(planes.iter().flat_map(|p| p.iter()));
     assert!(pairs.all(|(x, y)| same(*x, *y)), "the jobs' planes differ from those of `solve_cpu`");
-    Some(solved)
+    Some(Ended { planes: solved, clipped })
 }
 
 /// The published `solve_cpu`.
@@ -101,7 +111,7 @@ mod tests {
 
     #[test]
     fn whole_example() {
-        assert_eq!(smooth(&example()), "I\t2\t1\nR\t818181\t818181\n");
+        assert_eq!(smooth(&example()), "K\t0\t0\nI\t2\t1\nR\t818181\t818181\n");
         assert_eq!(smooth(&[example(), b"\n".into()].concat()), "X\t7\t5\n");
     }
 
@@ -120,10 +130,10 @@ mod tests {
     fn rounding_by_line_f() {
         let f = |letter: &str| String::from_utf8_lossy(&example()).replacen("\nC", &format!("\nF\t{letter}\nC"), 1);
         let with = |old: &str, new: &str, letter: &str| smooth(f(letter).replacen(old, new, 1).as_bytes());
-        assert_eq!(with("", "", "t"), "I\t2\t1\nR\t818181\t818181\n");
+        assert_eq!(with("", "", "t"), "K\t0\t0\nI\t2\t1\nR\t818181\t818181\n");
         // y = 128.5 and 127.5
-        assert_eq!(with("1\t1\t8", "1\t1\t4", "n"), "I\t2\t1\nR\t818181\t818181\n");
-        assert_eq!(with("1\t1\t8", "1\t1\t4", "t"), "I\t2\t1\nR\t808080\t808080\n");
+        assert_eq!(with("1\t1\t8", "1\t1\t4", "n"), "K\t0\t0\nI\t2\t1\nR\t818181\t818181\n");
+        assert_eq!(with("1\t1\t8", "1\t1\t4", "t"), "K\t0\t0\nI\t2\t1\nR\t808080\t808080\n");
     }
 
     #[test]

@@ -154,7 +154,7 @@ mod probes {
             levels_len: usize,
             table: *const u16,
             table_len: usize,
-        );
+        ) -> usize;
         pub fn probe_blown(plane: *const f32, plane_len: usize, saved: *const f32, saved_len: usize, n: usize) -> u32;
     }
 }
@@ -181,11 +181,12 @@ pub fn read(
     }
 }
 
-pub fn solve(header: &[u32], levels: &[i16], tables: &[u16], six: &mut Buffers) -> u32 {
+pub fn solve(header: &[u32], levels: &[i16], tables: &[u16], six: &mut Buffers, clipped: &mut [u32]) -> u32 {
     let [plane, prior, gradient, across, down, saved] = six;
     unsafe {
         lend!(smoother_solve(
-            read header, read levels, read tables, write plane, write prior, write gradient, write across, write down, write saved
+            read header, read levels, read tables, write plane, write prior, write gradient, write across, write down, write saved,
+            write clipped
         ))
     }
 }

@@ -14,7 +14,7 @@ pub enum Ending {
 }
 
 /// Runs the program with the text as standard input. It may leave its input unread. It is killed when its time is over, also where it prints
-/// more than a pipe holds, 64 KiB; `smooth` prints at most 7,240 bytes.
+/// more than a pipe holds, 64 KiB; `smooth` prints at most 7,267 bytes.
 pub fn run(program: &str, text: &[u8], limit: Duration) -> Ending {
     let mut command = Command::new(program);
     let command = command.stdin(Stdio::piped()).stdout(Stdio::piped()).stderr(Stdio::piped());
@@ -80,27 +80,32 @@ fn number(field: &str) -> Option<u32> {
     if plain { field.parse().ok() } else { None }
 }
 
-/// Whether this is one complete picture, or one refusal that `smooth` can give.
+/// Whether this is one refusal that `smooth` can give, or the numbers of one or three channels and one complete picture.
 pub fn well_formed(printed: &[u8]) -> bool {
     let Some(text) = std::str::from_utf8(printed).ok().and_then(|text| text.strip_suffix('\n')) else { return false };
     let lines: Vec<Vec<&str>> = text.split('\n').map(|line| line.split('\t').collect()).collect();
-    let pixel = |p: &&str| p.len() == 6 && p.bytes().all(|b| matches!(b, b'0'..=b'9' | b'a'..=b'f'));
-    match lines[0][..] {
-        ["X", refusal, line] => match (number(refusal), number(line)) {
+    if let ["X", refusal, line] = lines[0][..] {
+        return match (number(refusal), number(line)) {
             (Some(1..=7), Some(line)) => line > 0 && lines.len() == 1,
             (Some(10), Some(0)) => lines.len() == 1,
             _ => false,
-        },
-        ["I", w, h] => match (number(w), number(h)) {
-            (Some(w @ 1..=32), Some(h @ 1..=32)) => {
-                let row =
-                    |line: &Vec<&str>| line[0] == "R" && line.len() == w as usize + 1 && line[1..].iter().all(pixel);
-                lines.len() == h as usize + 1 && lines[1..].iter().all(row)
-            }
-            _ => false,
-        },
-        _ => false,
+        };
     }
+    let (clipped, picture) = lines.split_at(lines.iter().take_while(|line| line[0] == "K").count());
+    // at most 32 x 32 coefficients
+    let kept = |(c, line): (usize, &Vec<&str>)| match line[1..] {
+        [channel, moved] => number(channel) == Some(c as u32) && number(moved).is_some_and(|n| n <= 1024),
+        _ => false,
+    };
+    matches!(clipped.len(), 1 | 3) && clipped.iter().enumerate().all(kept) && is_picture(picture)
+}
+
+fn is_picture(lines: &[Vec<&str>]) -> bool {
+    let pixel = |p: &&str| p.len() == 6 && p.bytes().all(|b| matches!(b, b'0'..=b'9' | b'a'..=b'f'));
+    let Some(["I", w, h]) = lines.first().map(|line| &line[..]) else { return false };
+    let (Some(w @ 1..=32), Some(h @ 1..=32)) = (number(w), number(h)) else { return false };
+    let row = |line: &Vec<&str>| line[0] == "R" && line.len() == w as usize + 1 && line[1..].iter().all(pixel);
+    lines.len() == h as usize + 1 && lines[1..].iter().all(row)
 }
 
 #[cfg(test)]
@@ -110,11 +115,12 @@ mod tests {
     #[test]
     fn forms() {
         let good = [
-            "I\t2\t1\nR\t818181\t818181\n",
+            "K\t0\t0\nI\t2\t1\nR\t818181\t818181\n",
+            "K\t0\t64\nK\t1\t0\nK\t2\t1024\nI\t2\t1\nR\t818181\t818181\n",
             "X\t7\t1\n",
             "X\t1\t54\n",
             "X\t10\t0\n",
-            "I\t1\t2\nR\t0a0b0c\nR\t000000\n",
+            "K\t0\t0\nI\t1\t2\nR\t0a0b0c\nR\t000000\n",
         ];
         let bad = [
             "",
@@ -128,15 +134,25 @@ mod tests {
             "X\t07\t1\n",
             "X\t7\t+1\n",
             "X 7 1\n",
-            "I\t2\t1\n",
-            "I\t2\t1\nR\t818181\n",
-            "I\t2\t1\nR\t818181\t818181",
-            "I\t2\t1\nR\t818181\t81818\n",
-            "I\t2\t1\nR\t818181\t81818A\n",
-            "I\t2\t1\nR\t818181\t818181\nR\t818181\t818181\n",
-            "I\t2\t1\nR\t818181\t818181\nX\t7\t1\n",
-            "I\t0\t0\n",
-            "I\t1\t33\n",
+            "K\t0\t0\n",
+            "K\t0\t0\nX\t10\t0\n",
+            "I\t2\t1\nR\t818181\t818181\n",
+            "I\t2\t1\nR\t818181\t818181\nK\t0\t0\n",
+            "K\t1\t0\nI\t2\t1\nR\t818181\t818181\n",
+            "K\t0\t1025\nI\t2\t1\nR\t818181\t818181\n",
+            "K\t0\t00\nI\t2\t1\nR\t818181\t818181\n",
+            "K\t0\nI\t2\t1\nR\t818181\t818181\n",
+            "K\t0\t0\nK\t1\t0\nI\t2\t1\nR\t818181\t818181\n",
+            "K\t0\t0\nK\t2\t0\nK\t1\t0\nI\t2\t1\nR\t818181\t818181\n",
+            "K\t0\t0\nI\t2\t1\n",
+            "K\t0\t0\nI\t2\t1\nR\t818181\n",
+            "K\t0\t0\nI\t2\t1\nR\t818181\t818181",
+            "K\t0\t0\nI\t2\t1\nR\t818181\t81818\n",
+            "K\t0\t0\nI\t2\t1\nR\t818181\t81818A\n",
+            "K\t0\t0\nI\t2\t1\nR\t818181\t818181\nR\t818181\t818181\n",
+            "K\t0\t0\nI\t2\t1\nR\t818181\t818181\nX\t7\t1\n",
+            "K\t0\t0\nI\t0\t0\n",
+            "K\t0\t0\nI\t1\t33\n",
         ];
         assert!(good.iter().all(|text| well_formed(text.as_bytes())));
         for text in bad {

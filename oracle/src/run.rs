@@ -50,6 +50,13 @@ fn converted(own: &sheet::Channel, reorder: Reorder) -> ScalarCoef {
     }
 }
 
+/// "block places where the transformed value lay outside its interval", which runs from (2d - 1) q / 2 to (2d + 1) q / 2: all is exact in f64. A NaN is neither below nor
+/// above (M-104).
+fn outside(x: f32, level: i32, quantiser: u32) -> bool {
+    let (twice, level, quantiser) = (2.0 * f64::from(x), f64::from(level), f64::from(quantiser));
+    twice < (2.0 * level - 1.0) * quantiser || twice > (2.0 * level + 1.0) * quantiser
+}
+
 /// "The step constants of a sheet are four f32 values."
 #[derive(Clone, Copy)]
 pub struct Constants {
@@ -65,6 +72,8 @@ pub struct Run {
     pub iterations: usize,
     pub positions: Vec<usize>,
     pub marks: Vec<bool>,
+    /// How many coefficients the channel's last projection moved; 0 before the first (M-104).
+    pub clipped: Vec<u32>,
     pub auxs: Vec<Aux>,
     coefs: Vec<ScalarCoef>,
     owns: Vec<sheet::Channel>,
@@ -103,6 +112,7 @@ impl Run {
             iterations: sheet.counts[c] as usize,
             positions: vec![0; coefs.len()],
             marks: vec![false; coefs.len()],
+            clipped: vec![0; coefs.len()],
             auxs: coefs.iter().map(|coef| Aux::init(w, h, (w * h) as usize, coef)).collect(),
             coefs,
             owns: owns.to_vec(),
@@ -136,6 +146,7 @@ impl Run {
             iterations,
             positions: vec![0; owns.len()],
             marks: vec![false; owns.len()],
+            clipped: vec![0; owns.len()],
             auxs: buffers.into_iter().map(aux).collect(),
             coefs: owns.iter().map(|own| without_image(&each::coefficient(own))).collect(),
             owns,
@@ -214,11 +225,35 @@ impl Run {
         self.positions[c] += 1;
     }
 
+    /// A channel's coefficients as the projection finds them: those that the published one keeps where each interval has no end, the quantisers being infinite.
+    fn transformed(&self, c: usize) -> AlignedF32 {
+        let (aux, given) = (&self.auxs[c], each::coefficient(&self.owns[c]));
+        let free = ScalarCoef {
+            dct_coefs: vec![0.0; given.dct_coefs.len()],
+            quant_table: [f32::INFINITY; 64],
+            ..without_image(&given)
+        };
+        let pixel_diff = PixelDifference { x: aux.pixel_diff.x.clone(), y: aux.pixel_diff.y.clone() };
+        let [cos, obj_gradient, fista] = [(); 3].map(|()| AlignedF32::zeros(0));
+        let mut copy = Aux { cos, obj_gradient, pixel_diff, fdata: aux.fdata.clone(), fista };
+        project_onto_box(self.w, self.h, &mut copy, &free);
+        copy.cos
+    }
+
+    /// The published projection. The own count of the values that lay outside is held against it: it keeps the others as they were, and only those.
     pub fn project(&mut self, c: usize) {
+        let found = self.transformed(c);
         project_onto_box(self.w, self.h, &mut self.auxs[c], &self.coefs[c]);
         self.positions[c] += 1;
         let own = self.coefs[c].rounded_px_count as usize;
         let aux = &self.auxs[c];
+        let (levels, table) = (&self.owns[c].levels, &self.owns[c].table);
+        let moved = |k: &usize| outside(found[*k], levels[*k], table[*k % 64]);
+        assert!(
+            (0..own).all(|k| moved(&k) != same(found[k], aux.cos[k])),
+            "the own count and the published projection"
+        );
+        self.clipped[c] = (0..own).filter(moved).count() as u32;
         self.marks[c] = !aux.fdata.iter().chain(&aux.cos[..own]).all(|x| x.is_finite());
     }
 
@@ -286,6 +321,20 @@ impl Run {
 mod tests {
     use super::*;
     use crate::{random::Random, texts::legal};
+
+    #[test]
+    fn only_beyond_an_end_is_outside() {
+        for (level, quantiser) in [(0, 1), (1, 8), (-2047, 255), (2047, 254), (-3, 7)] {
+            for end in [2 * level - 1, 2 * level + 1] {
+                let end = (end * quantiser as i32) as f32 / 2.0;
+                let beyond = if end < level as f32 * quantiser as f32 { end.next_down() } else { end.next_up() };
+                assert!(!outside(end, level, quantiser) && outside(beyond, level, quantiser));
+            }
+            assert!(!outside(f32::NAN, level, quantiser));
+            assert!(outside(f32::INFINITY, level, quantiser) && outside(f32::NEG_INFINITY, level, quantiser));
+        }
+        assert!(!outside(-0.0, 0, 1));
+    }
 
     #[test]
     fn planes_are_those_of_solve() {

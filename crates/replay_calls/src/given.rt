@@ -1,5 +1,5 @@
 // A line's words, in hexadecimal: `serve`, the digest, what all values of the six buffers are before, the lengths of the six, of levels, tables, jobs, channels
-// and answers, the record's 27 numbers, the levels modulo 2^16, the quantisers, the jobs' numbers and the channels.
+// and answers, the record's 30 numbers, the levels modulo 2^16, the quantisers, the jobs' numbers and the channels.
 use crate::served;
 use float::bits::from_bits;
 use record::Channel;
@@ -112,7 +112,7 @@ fn reorder_of(n: u32) -> Reorder {
     Reorder::Each
 }
 
-// The channel whose seven numbers start at word k.
+// The channel whose eight numbers start at word k.
 fn read_channel(s: &[u8], at: usize, k: usize) -> Channel
     requires { ⌜ (at ≤ length (now s)) × (k ≤ 100) ⌝ }
 {
@@ -124,6 +124,7 @@ fn read_channel(s: &[u8], at: usize, k: usize) -> Channel
         weight: from_bits(word(s, at, k + 4)),
         position: word(s, at, k + 5),
         mark: word(s, at, k + 6) == 1,
+        clipped: word(s, at, k + 7),
     }
 }
 
@@ -131,8 +132,8 @@ fn read_run(s: &[u8], at: usize) -> Run
     requires { ⌜ at ≤ length (now s) ⌝ }
 {
     let a = read_channel(s, at, 20);
-    let b = read_channel(s, at, 27);
-    let c = read_channel(s, at, 34);
+    let b = read_channel(s, at, 28);
+    let c = read_channel(s, at, 36);
     Run {
         w: word(s, at, 14),
         h: word(s, at, 15),
@@ -218,7 +219,7 @@ pub fn same_line(s: &[u8], at: usize) -> bool
     let mut tables = [0u16; 256];
     let n = length_of(s, at, 9, 3072);
     let m = length_of(s, at, 10, 256);
-    let i = read_levels(s, word_at(s, at, 41), &mut levels, n);
+    let i = read_levels(s, word_at(s, at, 44), &mut levels, n);
     let j = read_tables(s, i, &mut tables, m);
     same_calls(s, at, j, &levels[0..n], &tables[0..m])
 }

@@ -67,7 +67,8 @@ fn with_channel(digest: u64, c: Channel) -> u64
     let g = with(f, c.down);
     let h = with(g, to_bits(c.weight));
     let i = with(h, c.position);
-    with(i, mark_number(c.mark))
+    let j = with(i, mark_number(c.mark));
+    with(j, c.clipped)
 }
 
 fn with_run(digest: u64, run: Run) -> u64

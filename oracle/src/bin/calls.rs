@@ -72,7 +72,7 @@ fn refill(r: &mut Random, x: &mut Lent) {
     x.buffers.iter_mut().for_each(|b| *b = (0..all).map(|_| make(r)).collect());
 }
 
-/// Other places, legal ones: "equal blends in all channels, marks only at positive multiples of 5".
+/// Other places, legal ones: "equal blends in all channels, marks only at positive multiples of 5", kept numbers only after the first project.
 fn displace(r: &mut Random, x: &mut Lent) {
     let n = x.record.n;
     let blends = r.between(0, n.into()) as u32;
@@ -81,6 +81,8 @@ fn displace(r: &mut Random, x: &mut Lent) {
     for c in &mut x.record.channels[..x.record.count as usize] {
         c.position = r.between(low.into(), high.into()) as u32;
         c.mark = c.position > 0 && c.position % 5 == 0 && r.one_in(3);
+        let most = if c.position < 5 { 0 } else { c.width * c.height };
+        c.clipped = if r.one_in(4) { most } else { r.between(0, most.into()) as u32 };
     }
     assert!(x.record.is_legal());
 }
@@ -163,7 +165,7 @@ fn damage_record(r: &mut Random, record: &mut Record) {
     const SIDES: [u32; 14] = [0, 1, 4, 7, 8, 9, 12, 16, 512, 516, 520, 1 << 16, 1 << 31, u32::MAX - 7];
     let c = if r.one_in(6) { 2 } else { r.below(record.count.clamp(1, 3) as usize) };
     let own = &mut record.channels[c];
-    match r.below(17) {
+    match r.below(19) {
         0 => record.w = r.pick(&SIDES),
         1 => record.h = r.pick(&SIDES),
         2 => record.n = r.pick(&[0, 1, 2, 1000, 1001, 1 << 30, u32::MAX]),
@@ -179,7 +181,12 @@ fn damage_record(r: &mut Random, record: &mut Record) {
                 r.pick(&[0, own.position.wrapping_add(5), own.position ^ 1, 5 * record.n.min(1000) + 1, u32::MAX])
         }
         13 => own.position = r.between(0, 5 * i64::from(record.n.min(1000))) as u32,
-        14 => record.reorder = r.pick(&[0, 1, 2, 109, 111, 1 << 8, 1 << 31, u32::MAX]),
+        14 | 15 => {
+            let own_count = own.width.wrapping_mul(own.height);
+            own.clipped =
+                r.pick(&[0, 1, own_count, own_count.wrapping_add(1), record.w.wrapping_mul(record.h), u32::MAX]);
+        }
+        16 => record.reorder = r.pick(&[0, 1, 2, 109, 111, 1 << 8, 1 << 31, u32::MAX]),
         _ => own.mark = !own.mark,
     }
 }
@@ -194,6 +201,7 @@ enum Fault {
     Blown,
     Position,
     Mark,
+    Clipped,
     Value,
     Sign,
     Rest,
@@ -202,11 +210,12 @@ enum Fault {
     ServeByte,
 }
 
-const FAULTS: [Fault; 10] = [
+const FAULTS: [Fault; 11] = [
     Fault::Answer,
     Fault::Blown,
     Fault::Position,
     Fault::Mark,
+    Fault::Clipped,
     Fault::Value,
     Fault::Sign,
     Fault::Rest,
@@ -298,6 +307,10 @@ impl Compare {
                 theirs.record.channels[c].mark = false;
                 true
             }
+            Fault::Clipped if accepted && job == Job::Project => {
+                theirs.record.channels[c].clipped ^= 1;
+                true
+            }
             Fault::Value if accepted => value.filter(|x| x.is_finite()).is_some_and(|x| {
                 *x = f32::from_bits(x.to_bits() ^ 1);
                 true
@@ -376,6 +389,9 @@ impl Compare {
         }
         if done {
             self.met("lists with all jobs done");
+        }
+        if ends.iter().any(|c| c.clipped > 0) {
+            self.met("lists with a kept number at the end");
         }
     }
 

@@ -1,4 +1,5 @@
-//! The proved jobs beside the published ones: all six buffers and the condition of job 5 after start and after each job, bit for bit.
+//! The proved jobs beside the published ones: all six buffers and the condition of job 5 after start and after each job, bit for bit, and how many coefficients each
+//! project moved.
 //!
 //!     jobs [SEED [COUNT]]     COUNT sheets (2,400) of sides up to 64, job after job; as many with other values in the buffers before each
 //!                             job; and eight of 512 by 512
@@ -97,7 +98,7 @@ struct Compare {
     tally: Tally,
     values: u64,
     met: BTreeMap<&'static str, u64>,
-    /// A wrong answer of the proved side, planted to see that it is reported: which, a buffer's name or `blown`, and how often.
+    /// A wrong answer of the proved side, planted to see that it is reported: which, a buffer's name, `blown` or `clipped`, and how often.
     fault: &'static str,
     planted: u64,
 }
@@ -134,6 +135,18 @@ impl Compare {
         self.tally.count_in(&format!("{kind}: blown"), equal, || format!("channel {c} after {job}"));
     }
 
+    /// The number of the project just done on both sides, in channel c.
+    fn clipped(&mut self, kind: &str, run: &Run, lent: &Lent, c: usize) {
+        let planted = self.fault == "clipped";
+        self.planted += u64::from(planted);
+        let (due, number) = (run.clipped[c], lent.clipped ^ u32::from(planted));
+        self.met("projects that moved coefficients", (due > 0).into());
+        self.met("coefficients moved", due.into());
+        self.tally.count_in(&format!("{kind}: clipped"), due == number, || {
+            format!("channel {c}: own count {due}, proved {number}, position {}", run.positions[c])
+        });
+    }
+
     /// A sheet's runs, job after job, on after a mark as `solve` does.
     fn sheet(&mut self, kind: &str, sheet: &Sheet, fill: f32) {
         let alone = sheet.channels.len() == 1;
@@ -168,6 +181,7 @@ impl Compare {
                     }
                     self.look(kind, job, run, &lent, c);
                     if job == "project" {
+                        self.clipped(kind, run, &lent, c);
                         self.met("marks after project", run.marks[c].into());
                         self.tally.count_in("marks", run.marks[c] == lent.is_blown(c), || kind.into());
                     }
@@ -189,6 +203,9 @@ impl Compare {
                     fill(&mut run, &mut lent, |_, n| (0..n).map(|_| make(r)).collect());
                     rust(&mut run, job, c, step);
                     lent.job(job, c, step);
+                    if *job == "project" {
+                        self.clipped("other buffers", &run, &lent, c);
+                    }
                     channels.clone().for_each(|c| self.look("other buffers", job, &run, &lent, c));
                 }
             }
@@ -291,7 +308,7 @@ fn compare(all: &mut Compare, r: &mut Random, count: u64) {
     }
 }
 
-const FAULTS: [&str; 7] = ["plane", "prior", "gradient", "across", "down", "saved", "blown"];
+const FAULTS: [&str; 8] = ["plane", "prior", "gradient", "across", "down", "saved", "blown", "clipped"];
 
 /// Each has to be reported as often as it was planted, at least once.
 fn faults() -> ExitCode {

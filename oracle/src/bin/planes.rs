@@ -9,7 +9,7 @@
 use oracle::{
     bench::best,
     floats::{any, same},
-    picture::{drawn, nearest, planes, solved},
+    picture::{drawn, ended, nearest, solved},
     probe,
     random::Random,
     sheet::{Channel, MOST, Reorder, Rounding, Sheet, Weight},
@@ -40,6 +40,8 @@ struct Lent {
     levels: Vec<i16>,
     tables: Vec<u16>,
     six: [Vec<f32>; 6],
+    /// Each channel's number of the last project.
+    clipped: Vec<u32>,
 }
 
 impl Lent {
@@ -53,11 +55,12 @@ impl Lent {
         let all = (numbers[4] * numbers[0] * numbers[1]) as usize;
         let left = any(r);
         let six = [0; 6].map(|_| (0..all).map(|i| if i % 7 == 0 { any(r) } else { left }).collect());
-        Self { numbers, levels, tables, six }
+        let clipped = vec![77; numbers[4] as usize];
+        Self { numbers, levels, tables, six, clipped }
     }
 
     fn solve(&mut self) -> u32 {
-        probe::solve(&self.numbers, &self.levels, &self.tables, &mut self.six)
+        probe::solve(&self.numbers, &self.levels, &self.tables, &mut self.six, &mut self.clipped)
     }
 
     /// By document 01 and docs/DECISIONS.md, in order: no record (8), no legal record (13), lengths (8), quantisers (4), levels (5).
@@ -72,7 +75,8 @@ impl Lent {
         let count = n[4] as usize;
         let all = count * (n[0] * n[1]) as usize;
         let own: usize = (0..count).map(|c| (n[15 + 4 * c] * n[16 + 4 * c]) as usize).sum();
-        if self.six.iter().any(|x| x.len() != all) || self.levels.len() != own || self.tables.len() != 64 * count {
+        let inputs = self.levels.len() == own && self.tables.len() == 64 * count;
+        if !inputs || self.six.iter().any(|x| x.len() != all) || self.clipped.len() != count {
             8
         } else if self.tables.iter().any(|q| !(1..=255).contains(q)) {
             4
@@ -154,7 +158,8 @@ fn damage(r: &mut Random, x: &mut Lent) {
         0xbf80_0000,
         u32::MAX,
     ];
-    match r.below(10) {
+    match r.below(11) {
+        10 => x.clipped.resize(r.pick(&[0, 1, 2, 3, 4]), 77),
         0 => x.numbers.resize(r.pick(&[0, 1, 27, 28, 30, 58]), 1),
         1 => x.levels.resize(longer(r, x.levels.len()), 0),
         2 => x.tables.resize(longer(r, x.tables.len()), 1),
@@ -226,12 +231,14 @@ fn full(r: &mut Random, side: u32, joint: bool, steps: u32) -> Sheet {
     }
 }
 
-const FAULTS: [&str; 11] = [
+const FAULTS: [&str; 13] = [
     "the other mode",
     "the other start",
     "the second data weight for the first",
     "one step less",
     "the lowest bit of the last value",
+    "one coefficient more",
+    "a number changed by a refusal",
     "done where blown",
     "a value changed by a refusal",
     "another number of a refusal",
@@ -256,10 +263,11 @@ fn compare(count: u64, seed: u64, fault: &str) -> (Tally, BTreeMap<u32, u64>) {
                 *answers.entry(answer).or_default() += 1;
                 match fault {
                     "a value changed by a refusal" => x.six[0].iter_mut().take(1).for_each(|v| *v = 1.5),
+                    "a number changed by a refusal" => x.clipped.iter_mut().take(1).for_each(|n| *n = 78),
                     "another number of a refusal" => answer = 21 - answer,
                     _ => (),
                 }
-                let kept = x.six.iter().zip(&before.six).all(|(a, b)| equal(a, b));
+                let kept = x.six.iter().zip(&before.six).all(|(a, b)| equal(a, b)) && x.clipped == before.clipped;
                 tally.count_in("refused", answer == due && kept, || format!("{answer} for {due}, {:?}", x.numbers));
             } else {
                 let sheet = x.sheet();
@@ -310,7 +318,7 @@ fn ties(tally: &mut Tally) {
     }
 }
 
-/// Solves, and holds the planes against the published ones; gives the proved planes.
+/// Solves, and holds the planes against the published ones and the numbers against the own count; gives the proved planes.
 fn solved_as(
     tally: &mut Tally,
     answers: &mut BTreeMap<u32, u64>,
@@ -327,19 +335,20 @@ fn solved_as(
         _ => (),
     }
     let mut answer = x.solve();
-    let [mut plane, ..] = x.six;
+    let ([mut plane, ..], mut clipped) = (x.six, x.clipped);
     *answers.entry(answer).or_default() += 1;
     match fault {
         "the lowest bit of the last value" => {
             plane.iter_mut().last().into_iter().for_each(|v| *v = f32::from_bits(v.to_bits() ^ 1));
         }
+        "one coefficient more" => clipped[0] += 1,
         "done where blown" if answer == 255 => answer = 0,
         _ => (),
     }
-    let due = planes(sheet);
+    let due = ended(sheet);
     let equal = match &due {
-        None => answer == 255,
-        Some(due) => answer == 0 && equal(&plane, &due.concat()),
+        None => answer == 255 && clipped.iter().all(|n| *n == 77),
+        Some(due) => answer == 0 && equal(&plane, &due.planes.concat()) && clipped == due.clipped,
     };
     tally.count_in(kind, equal, || format!("answer {answer}, blown {}, numbers {:?}", due.is_none(), x.numbers));
     (answer == 0).then_some(plane)

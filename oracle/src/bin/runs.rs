@@ -110,7 +110,8 @@ fn lent(sheet: &Sheet, c: usize, fill: f32) -> Lent {
 fn traced(run: &Run, mut record: Record) -> (Record, Buffers) {
     let mut buffers = Buffers::default();
     for c in 0..run.channels() {
-        (record.channels[c].position, record.channels[c].mark) = (run.positions[c] as u32, run.marks[c]);
+        let own = &mut record.channels[c];
+        (own.position, own.mark, own.clipped) = (run.positions[c] as u32, run.marks[c], run.clipped[c]);
         for (all, (_, values)) in buffers.iter_mut().zip(run.buffers(c)) {
             all.extend(values);
         }

@@ -3,7 +3,8 @@
 //!     trace FILE.tsv      or a sheet text on standard input with `trace --trace`
 //!
 //! `K`, run, step, then the step constants' bits: term, factor, step size, second-order weight.
-//! `J`, run, step (0 for start), job, channel of the run, position, mark (0 or 1); then a line per buffer: its name and the bits of its values.
+//! `J`, run, step (0 for start), job, channel of the run, position, mark (0 or 1), how many coefficients the last project moved; then a line per buffer: its
+//! name and the bits of its values.
 //! Fields are parted by one tab. Runs are counted from 0, steps from 1. Nothing follows a step that marks a channel. At each run's end its planes are held
 //! against the published `solve`.
 use oracle::{
@@ -23,8 +24,8 @@ fn hex(values: &[f32]) -> String {
 
 fn show(out: &mut impl Write, number: usize, run: &Run, job: &str, c: usize) {
     let p = run.positions[c];
-    let mark = u8::from(run.marks[c]);
-    let mut text = format!("J\t{number}\t{}\t{job}\t{c}\t{p}\t{mark}\n", p.div_ceil(5));
+    let (mark, clipped) = (u8::from(run.marks[c]), run.clipped[c]);
+    let mut text = format!("J\t{number}\t{}\t{job}\t{c}\t{p}\t{mark}\t{clipped}\n", p.div_ceil(5));
     for (name, values) in run.buffers(c) {
         text += &format!("{name}\t{}\n", hex(&values));
     }
