@@ -6,9 +6,9 @@
 //!
 //! A list is made on a sheet of sides up to 40, in joint mode or one channel of it, with at most a few iterations: a start on any legal record and any
 //! values, then calls in any order, most of them the next of some channel. Between them stand calls on a changed copy of what is lent: a length, a quantiser, a level or a
-//! field of the record, or two of them; or other legal places and values.
+//! field of the record, or two of them; or other legal places and values. Each list ends with a call on a record with another kept number.
 use oracle::{
-    calls::{BLOWN, JOBS, Job, Lent, NAMES, Record, lent, proved, proved_serve},
+    calls::{BLOWN, Channel, JOBS, Job, Lent, NAMES, Record, lent, proved, proved_serve},
     floats::{any, at, bits, same, special, subnormal},
     random::Random,
     replay::{Calls, digest, fits, line},
@@ -182,13 +182,18 @@ fn damage_record(r: &mut Random, record: &mut Record) {
         }
         13 => own.position = r.between(0, 5 * i64::from(record.n.min(1000))) as u32,
         14 | 15 => {
-            let own_count = own.width.wrapping_mul(own.height);
-            own.clipped =
-                r.pick(&[0, 1, own_count, own_count.wrapping_add(1), record.w.wrapping_mul(record.h), u32::MAX]);
+            let full = record.w.wrapping_mul(record.h);
+            own.clipped = kept_number(r, own, full);
         }
         16 => record.reorder = r.pick(&[0, 1, 2, 109, 111, 1 << 8, 1 << 31, u32::MAX]),
         _ => own.mark = !own.mark,
     }
+}
+
+/// A kept number at or beyond the ends of what is legal.
+fn kept_number(r: &mut Random, own: &Channel, full: u32) -> u32 {
+    let most = own.width.wrapping_mul(own.height);
+    r.pick(&[0, 1, most, most.wrapping_add(1), full, u32::MAX])
 }
 
 // ---- comparison
@@ -366,6 +371,18 @@ impl Compare {
         self.call("changed", &mut mine, &mut theirs, job, c);
     }
 
+    /// A call at any places with another kept number in one channel.
+    fn kept(&mut self, r: &mut Random, x: &Lent) {
+        let mut mine = x.clone();
+        displace(r, &mut mine);
+        let (c, full) = (r.below(mine.record.count as usize), mine.record.w * mine.record.h);
+        let own = &mut mine.record.channels[c];
+        own.clipped = kept_number(r, own, full);
+        let mut theirs = mine.clone();
+        let (job, c) = if r.one_in(4) { (Job::Start, 0) } else { choose(r, &mine, 3) };
+        self.call("kept number", &mut mine, &mut theirs, job, c);
+    }
+
     /// A start and calls in any order.
     fn list(&mut self, r: &mut Random, limit: u32) {
         let mut mine = fresh(r, limit);
@@ -381,6 +398,7 @@ impl Compare {
             let (job, c) = choose(r, &mine, likely);
             self.call("list", &mut mine, &mut theirs, job, c);
         }
+        self.kept(r, &mine);
         let ends = mine.record.owns();
         let at_end = ends.iter().all(|c| c.position == 5 * mine.record.n);
         let (marked, done) = (ends.iter().any(|c| c.mark), at_end && mine.record.n > 0);
