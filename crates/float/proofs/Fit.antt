@@ -1,10 +1,10 @@
--- Each operation's result is a value that f32 holds. Assumes nothing.
+-- Each operation's result is a value that its format holds. Assumes nothing.
 use Prim.Native.Nat.{zero, suc, _*_, _/_, _^_}
 use mathlib.Core.Bool.{Bool, true, false}
 use lib.Dec.{T}
-use lib.Ieee.{Float, nan, inf, fin, binary32, up, down, mul, fits, lt}
+use lib.Ieee.{Float, Format, nan, inf, fin, binary32, up, down, mul, fits, lt}
 use lib.Ieee.Fits.{add-fits, mul-fits, round-fits, nan-fits, cond-fits}
-use Rattle.float.specs.Ops.{mulAdd, square, product, fused, half, midpoint, halves, root, clamp, atLeast}
+use Rattle.float.specs.Ops.{mulAdd, square, product, fusedAt, fused, half, midpoint, halves, root, clamp, atLeast}
 
 pub mulAdd-fits : (a b c : Float) → T (fits binary32 (mulAdd a b c))
 unfolding mulAdd
@@ -14,9 +14,13 @@ pub square-fits : (x : Float) → T (fits binary32 (square x))
 unfolding square
 square-fits x = mul-fits binary32 x x
 
+pub fused-at-fits : (f : Format) (a b c : Float) → T (fits f (fusedAt f a b c))
+unfolding fusedAt
+fused-at-fits f a b c = add-fits f (product a b) c
+
 pub fused-fits : (a b c : Float) → T (fits binary32 (fused a b c))
 unfolding fused
-fused-fits a b c = add-fits binary32 (product a b) c
+fused-fits = fused-at-fits binary32
 
 pub midpoint-fits : (a b : Float) → T (fits binary32 (midpoint a b))
 unfolding midpoint

@@ -1,4 +1,4 @@
--- A sum, the fused product and the midpoint are the nearest values to the exact ones. Assumes nothing.
+-- A sum, a product, the fused product and the midpoint are the nearest values to the exact ones: over the format, then cited for f32 and f64. Assumes nothing.
 use mathlib.Core.Path.{_≡_, refl, sym, ap, ap₂, _∙_, subst}
 use mathlib.Core.Logic.{_⊎_, inl, inr}
 use Prim.Native.Nat.{ℕ, _+_, _-_, _*_, _≤_, _<_}
@@ -8,11 +8,11 @@ use mathlib.Core.Bool.{Bool, true, false, not, Bool·beq}
 use borrow.Author.Tests.{ltb-true, ltb-false}
 use lib.Dec.{T, ltb, lit<}
 use lib.IntN.{ℤ, pos, _+ℤ_, _*ℤ_}
-use lib.Ieee.{Float, Format, nan, inf, fin, binary32, unlike, up, down, sum, add}
+use lib.Ieee.{Float, Format, nan, inf, fin, binary32, binary64, unlike, up, down, sum, add, mul}
 use lib.Ieee.Fits.{down-pos}
 use lib.Ieee.Exact.{HasValue}
 use lib.Ieee.Scale.{finite}
-use Rattle.float.specs.Ops.{product, fused, half, midpoint}
+use Rattle.float.specs.Ops.{product, fusedAt, fused, half, midpoint}
 use Rattle.float.specs.Nearest.{Nearest, signed, top, bottom}
 use Rattle.float.proofs.Signs.{signed-times, signed-product, signed-zero, add-like, add-unlike, add-unlike-less}
 use Rattle.float.proofs.SumCases.{sum-like, sum-less, sum-more, sum-even, add-value}
@@ -69,16 +69,26 @@ add-nearest f (fin s m e) (fin t n d) p q =
     (sym (ap₂ _+ℤ_ (signed-times s (m * up e) (down d)) (signed-times t (n * up d) (down e))))
     (sum-nearest f (m * up e * down d) (n * up d * down e) (down e * down d) (mul-pos (down-pos e) (down-pos d)) s t)
 
+pub mul-nearest : (f : Format) (x y : Float) → T (finite x) → T (finite y) → Nearest f (top x *ℤ top y) (bottom x * bottom y) (mul f x y)
+unfolding mul
+mul-nearest f nan y p q = absurd p
+mul-nearest f (inf s) y p q = absurd p
+mul-nearest f (fin s m e) nan p q = absurd q
+mul-nearest f (fin s m e) (inf t) p q = absurd q
+mul-nearest f (fin s m e) (fin t n d) p q =
+    rw (signed-product s t (m * up e) (n * up d)) (round-nearest f (unlike s t) (m * up e * (n * up d)) (down e * down d) (mul-pos (down-pos e) (down-pos d)))
+
 -- the product of two finite values and a third, added exactly and rounded once
-pub product-nearest : (f : Format) (a b c : Float) → T (finite a) → T (finite b) → T (finite c)
-    → Nearest f (top a *ℤ top b *ℤ pos (bottom c) +ℤ top c *ℤ pos (bottom a * bottom b)) (bottom a * bottom b * bottom c) (add f (product a b) c)
-product-nearest f nan b c p q r = absurd p
-product-nearest f (inf s) b c p q r = absurd p
-product-nearest f (fin s m e) nan c p q r = absurd q
-product-nearest f (fin s m e) (inf t) c p q r = absurd q
-product-nearest f (fin s m e) (fin t n d) nan p q r = absurd r
-product-nearest f (fin s m e) (fin t n d) (inf u) p q r = absurd r
-product-nearest f (fin s m e) (fin t n d) (fin u k g) p q r =
+pub fused-at-nearest : (f : Format) (a b c : Float) → T (finite a) → T (finite b) → T (finite c)
+    → Nearest f (top a *ℤ top b *ℤ pos (bottom c) +ℤ top c *ℤ pos (bottom a * bottom b)) (bottom a * bottom b * bottom c) (fusedAt f a b c)
+unfolding fusedAt
+fused-at-nearest f nan b c p q r = absurd p
+fused-at-nearest f (inf s) b c p q r = absurd p
+fused-at-nearest f (fin s m e) nan c p q r = absurd q
+fused-at-nearest f (fin s m e) (inf t) c p q r = absurd q
+fused-at-nearest f (fin s m e) (fin t n d) nan p q r = absurd r
+fused-at-nearest f (fin s m e) (fin t n d) (inf u) p q r = absurd r
+fused-at-nearest f (fin s m e) (fin t n d) (fin u k g) p q r =
     let a = fin s m e in
     let b = fin t n d in
     let c = fin u k g in
@@ -94,7 +104,16 @@ product-nearest f (fin s m e) (fin t n d) (fin u k g) p q r =
 pub fused-nearest : (a b c : Float) → T (finite a) → T (finite b) → T (finite c)
     → Nearest binary32 (top a *ℤ top b *ℤ pos (bottom c) +ℤ top c *ℤ pos (bottom a * bottom b)) (bottom a * bottom b * bottom c) (fused a b c)
 unfolding fused
-fused-nearest = product-nearest binary32
+fused-nearest = fused-at-nearest binary32
+
+-- the f64 operations of the totals: `f64::mul_add` and `+`
+pub fused-nearest-64 : (a b c : Float) → T (finite a) → T (finite b) → T (finite c)
+    → Nearest binary64 (top a *ℤ top b *ℤ pos (bottom c) +ℤ top c *ℤ pos (bottom a * bottom b)) (bottom a * bottom b * bottom c) (fusedAt binary64 a b c)
+fused-nearest-64 = fused-at-nearest binary64
+
+pub add-nearest-64 : (x y : Float) → T (finite x) → T (finite y)
+    → Nearest binary64 (top x *ℤ pos (bottom y) +ℤ top y *ℤ pos (bottom x)) (bottom x * bottom y) (add binary64 x y)
+add-nearest-64 = add-nearest binary64
 
 -- `f32::midpoint`: nothing is nearer to (a + b) / 2
 pub midpoint-nearest : (a b : Float) → T (finite a) → T (finite b)

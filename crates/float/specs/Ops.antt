@@ -1,11 +1,11 @@
--- The f32 operations of document 01, "Arithmetic below the Rust", over lib.Ieee. Definitions only.
--- Each works out its result exactly and rounds it once, but `mulAdd`, which rounds twice.
+-- The operations of document 01, "Arithmetic below the Rust", over lib.Ieee, and the f64 ones of the totals (document 02, M-103). Definitions only.
+-- Each works out its result exactly and rounds it once, but `mulAdd`, which rounds twice. What names no format is of f32.
 use mathlib.Core.Path.{_≡_}
 use Prim.Native.Nat.{ℕ, zero, suc, _+_, _*_, _/_, _^_}
 use mathlib.Core.Bool.{Bool, true, false, cond}
 use lib.IntN.{pos, negsuc, _+ℤ_}
 use lib.Dec.{leb, eqb}
-use lib.Ieee.{Float, nan, inf, fin, binary32, unlike, up, down, size, round, add, mul, lt}
+use lib.Ieee.{Float, Format, nan, inf, fin, binary32, unlike, up, down, size, round, add, mul, lt}
 
 -- the macro `mul_add!`: the product is rounded, then the sum
 unfoldable pub mulAdd : Float → Float → Float → Float
@@ -27,10 +27,15 @@ product (fin s m e) nan = nan
 product (fin s m e) (inf t) = cond (eqb m 0) nan (inf (unlike s t))
 product (fin s m e) (fin t n d) = fin (unlike s t) (m * n) (e +ℤ d)
 
--- `f32::mul_add`: a * b + c, rounded once
-unfoldable pub fused : Float → Float → Float → Float
+-- the method `mul_add` of f32 or f64: a * b + c, rounded once
+unfoldable pub fusedAt : Format → Float → Float → Float → Float
 unfolding product add
-fused a b c = add binary32 (product a b) c
+fusedAt f a b c = add f (product a b) c
+
+-- `f32::mul_add`
+unfoldable pub fused : Float → Float → Float → Float
+unfolding fusedAt
+fused a b c = fusedAt binary32 a b c
 
 -- x / 2 exactly, in no format
 unfoldable pub half : Float → Float

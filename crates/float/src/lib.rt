@@ -2,6 +2,7 @@
 // macro `mul_add!`, `powi(2)` and `clamp`. Each is total: NaN, infinities, subnormals and both zeros included.
 pub mod add;
 pub mod bits;
+pub mod double;
 pub mod parts;
 pub mod root;
 pub mod round;
