@@ -9,9 +9,16 @@ ghost use mathlib.Core.Path.{_≡_};
 ghost use Prim.Native.Nat.{_≤_};
 ghost use lib.ListN.{length};
 ghost use Rattle.gradients.specs.Grid.{Fills};
-ghost use Rattle.gradients.specs.Blend.{blended};
+ghost use Rattle.gradients.specs.Blend.{blended, totals};
+
+// What tv_gradient and tgv_gradient return.
+pub struct Totals {
+    pub tv: f64,
+    pub tgv: f64,
+}
 
 // Job 3: the first-order term, then the second-order term, on the buffers of all channels. The plane is only read.
+// Returned are the totals of both.
 // Rules out: the second-order term of the differences before this step's, and the divisor √n left out.
 pub fn blend(
     plane: &[f32],
@@ -20,13 +27,16 @@ pub fn blend(
     down: &mut [f32],
     g: Grid,
     k: Constants,
-)
+) -> Totals
     requires { ⌜ (g .n ≤ 3) × Fills g (length (now plane)) × Fills g (length (now gradient))
         × Fills g (length (now across)) × Fills g (length (now down)) ⌝ }
-    ensures { λ _. ⌜ record { gradient = now (gradient .exit); across = now (across .exit); down = now (down .exit) }
+    ensures { λ r. ⌜ (record { gradient = now (gradient .exit); across = now (across .exit); down = now (down .exit) }
         ≡ blended (g .w) (g .h) (g .n) (k .second) (now (plane .entry))
-        (record { gradient = now (gradient .entry); across = now (across .entry); down = now (down .entry) }) ⌝ }
+        (record { gradient = now (gradient .entry); across = now (across .entry); down = now (down .entry) }))
+        × (r ≡ totals (g .w) (g .h) (g .n) (k .second) (now (plane .entry))
+        (record { gradient = now (gradient .entry); across = now (across .entry); down = now (down .entry) })) ⌝ }
 {
-    tv::tv_gradient(plane, gradient, across, down, g);
-    tgv::tgv_gradient(&across[..], &down[..], gradient, g, k.second);
+    let tv = tv::tv_gradient(plane, gradient, across, down, g);
+    let tgv = tgv::tgv_gradient(&across[..], &down[..], gradient, g, k.second);
+    Totals { tv, tgv }
 }

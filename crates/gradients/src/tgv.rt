@@ -10,7 +10,7 @@ ghost use lib.Ieee.{neg};
 ghost use Rattle.float.specs.Ops.{mulAdd, square};
 ghost use Rattle.float.specs.Names.{_⊗_, f2};
 ghost use Rattle.gradients.specs.Grid.{Inside, Fills};
-ghost use Rattle.gradients.specs.Tgv.{tgvDifferences, g2NormOf, tgvBeside, tgvUpDown, tgvCorners, tgvChannelDerivatives, tgvDerivatives, tgvGradientPx, tgvAlpha, tgvGradient};
+ghost use Rattle.gradients.specs.Tgv.{tgvDifferences, g2NormOf, tgvBeside, tgvUpDown, tgvCorners, tgvChannelDerivatives, tgvDerivatives, tgvGradientPx, tgvTotalPx, tgvAlpha, tgvGradient, tgvTotal};
 
 // g_xxs, g_xy_syms and g_yys: a pixel's differences of differences, by channel.
 pub struct Second {
@@ -273,7 +273,7 @@ fn derivatives(
     }
 }
 
-// tgv_gradient_px: every channel's gradient.
+// tgv_gradient_px: every channel's gradient. The total so far, tv2, is taken and given back.
 fn tgv_gradient_px(
     across: &[f32],
     down: &[f32],
@@ -282,15 +282,18 @@ fn tgv_gradient_px(
     alpha: f32,
     y: usize,
     x: usize,
-)
+    tv2: f64,
+) -> f64
     requires { ⌜ (g .n ≤ 3) × Inside g y x × Fills g (length (now across)) × Fills g (length (now down)) × Fills g (length (now gradient)) ⌝ }
-    ensures { λ _. ⌜ now (gradient .exit)
-        ≡ tgvGradientPx (g .w) (g .h) (g .n) alpha (now (across .entry)) (now (down .entry)) y x (now (gradient .entry)) ⌝ }
+    ensures { λ r. ⌜ (now (gradient .exit)
+        ≡ tgvGradientPx (g .w) (g .h) (g .n) alpha (now (across .entry)) (now (down .entry)) y x (now (gradient .entry)))
+        × (r ≡ tgvTotalPx (g .w) (g .h) (g .n) alpha (now (across .entry)) (now (down .entry)) y x tv2) ⌝ }
 {
     let n = g.n;
     let d = differences(across, down, g, y, x);
     let g2_norm = g2_norm_of(n, d);
     derivatives(gradient, g, alpha, g2_norm, d, y, x);
+    float::double::add_product(tv2, alpha, g2_norm)
 }
 
 // alpha /= (nchannel as f32).sqrt(), the same in each pixel.
@@ -301,19 +304,23 @@ fn alpha_of(n: usize, alpha: f32) -> f32
     alpha / steps::solve::root_of(n as u32)
 }
 
-// tgv_gradient: every pixel, row by row. Rules out: alpha not divided by √n, and a NaN norm taken for 0.
-pub fn tgv_gradient(across: &[f32], down: &[f32], gradient: &mut [f32], g: Grid, alpha: f32)
+// tgv_gradient: every pixel, row by row. The total is returned. Rules out: alpha not divided by √n, a NaN norm taken for 0,
+// and a total of products that are not rounded to f32 first.
+pub fn tgv_gradient(across: &[f32], down: &[f32], gradient: &mut [f32], g: Grid, alpha: f32) -> f64
     requires { ⌜ (g .n ≤ 3) × Fills g (length (now across)) × Fills g (length (now down)) × Fills g (length (now gradient)) ⌝ }
-    ensures { λ _. ⌜ now (gradient .exit)
-        ≡ tgvGradient (g .w) (g .h) (g .n) alpha (now (across .entry)) (now (down .entry)) (now (gradient .entry)) ⌝ }
+    ensures { λ r. ⌜ (now (gradient .exit)
+        ≡ tgvGradient (g .w) (g .h) (g .n) alpha (now (across .entry)) (now (down .entry)) (now (gradient .entry)))
+        × (r ≡ tgvTotal (g .w) (g .h) (g .n) alpha (now (across .entry)) (now (down .entry))) ⌝ }
 {
     let n = g.n;
     let w = g.w;
     let h = g.h;
     let alpha_over_root = alpha_of(n, alpha);
+    let mut tv2 = 0.0f64;
     for y in 0..h {
         for x in 0..w {
-            tgv_gradient_px(across, down, gradient, g, alpha_over_root, y, x);
+            tv2 = tgv_gradient_px(across, down, gradient, g, alpha_over_root, y, x, tv2);
         }
     }
+    tv2
 }

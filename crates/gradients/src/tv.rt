@@ -6,7 +6,7 @@ ghost use mathlib.Core.Path.{_≡_};
 ghost use Prim.Native.Nat.{_<_, _≤_};
 ghost use lib.ListN.{length};
 ghost use Rattle.gradients.specs.Grid.{Inside, Fills};
-ghost use Rattle.gradients.specs.Tv.{tvDifferences, gNormOf, tvChannelDerivatives, tvDerivatives, store, tvGradientPx, tvAlpha, tvGradient};
+ghost use Rattle.gradients.specs.Tv.{tvDifferences, gNormOf, tvChannelDerivatives, tvDerivatives, store, tvGradientPx, tvTotalPx, tvAlpha, tvGradient, tvTotal};
 
 // g_xs and g_ys: a pixel's forward differences, by channel.
 pub struct Forward {
@@ -105,7 +105,7 @@ fn store(buffer: &mut [f32], g: Grid, vs: [f32; 3], y: usize, x: usize)
     }
 }
 
-// tv_gradient_px: every channel's gradient and differences.
+// tv_gradient_px: every channel's gradient and differences. The total so far, tv, is taken and given back.
 fn tv_gradient_px(
     plane: &[f32],
     gradient: &mut [f32],
@@ -115,12 +115,14 @@ fn tv_gradient_px(
     alpha: f32,
     y: usize,
     x: usize,
-)
+    tv: f64,
+) -> f64
     requires { ⌜ (g .n ≤ 3) × Inside g y x × Fills g (length (now plane)) × Fills g (length (now gradient))
         × Fills g (length (now across)) × Fills g (length (now down)) ⌝ }
-    ensures { λ _. ⌜ record { gradient = now (gradient .exit); across = now (across .exit); down = now (down .exit) }
+    ensures { λ r. ⌜ (record { gradient = now (gradient .exit); across = now (across .exit); down = now (down .exit) }
         ≡ tvGradientPx (g .w) (g .h) (g .n) alpha (now (plane .entry)) y x
-        (record { gradient = now (gradient .entry); across = now (across .entry); down = now (down .entry) }) ⌝ }
+        (record { gradient = now (gradient .entry); across = now (across .entry); down = now (down .entry) }))
+        × (r ≡ tvTotalPx (g .w) (g .h) (g .n) alpha (now (plane .entry)) y x tv) ⌝ }
 {
     let d = differences(plane, g, y, x);
     let n = g.n;
@@ -130,6 +132,7 @@ fn tv_gradient_px(
     let g_ys = d.g_ys;
     store(across, g, g_xs, y, x);
     store(down, g, g_ys, y, x);
+    float::double::mul_add(alpha, g_norm, tv)
 }
 
 // alpha = 1.0 / (nchannel as f32).sqrt(), the same in each pixel.
@@ -140,27 +143,31 @@ fn alpha_of(n: usize) -> f32
     1.0 / steps::solve::root_of(n as u32)
 }
 
-// tv_gradient: every pixel, row by row. Rules out: a norm of each channel alone, and a pixel whose differences are left as they were.
+// tv_gradient: every pixel, row by row. The total is returned. Rules out: a norm of each channel alone, a pixel whose differences are left as they were,
+// and a total of rounded products, or one summed in f32 or channel by channel.
 pub fn tv_gradient(
     plane: &[f32],
     gradient: &mut [f32],
     across: &mut [f32],
     down: &mut [f32],
     g: Grid,
-)
+) -> f64
     requires { ⌜ (g .n ≤ 3) × Fills g (length (now plane)) × Fills g (length (now gradient))
         × Fills g (length (now across)) × Fills g (length (now down)) ⌝ }
-    ensures { λ _. ⌜ record { gradient = now (gradient .exit); across = now (across .exit); down = now (down .exit) }
+    ensures { λ r. ⌜ (record { gradient = now (gradient .exit); across = now (across .exit); down = now (down .exit) }
         ≡ tvGradient (g .w) (g .h) (g .n) (now (plane .entry))
-        (record { gradient = now (gradient .entry); across = now (across .entry); down = now (down .entry) }) ⌝ }
+        (record { gradient = now (gradient .entry); across = now (across .entry); down = now (down .entry) }))
+        × (r ≡ tvTotal (g .w) (g .h) (g .n) (now (plane .entry))) ⌝ }
 {
     let n = g.n;
     let w = g.w;
     let h = g.h;
     let alpha = alpha_of(n);
+    let mut tv = 0.0f64;
     for y in 0..h {
         for x in 0..w {
-            tv_gradient_px(plane, gradient, across, down, g, alpha, y, x);
+            tv = tv_gradient_px(plane, gradient, across, down, g, alpha, y, x, tv);
         }
     }
+    tv
 }

@@ -9,13 +9,13 @@ ghost use Prim.Native.Nat.{_*_, _≤_};
 ghost use lib.ListN.{length};
 ghost use Rattle.steps.specs.Solve.{constants, pushed};
 ghost use Rattle.steps.specs.Step.{moved};
-ghost use Rattle.gradients.specs.Blend.{blended};
+ghost use Rattle.gradients.specs.Blend.{blended, totals};
 ghost use Rattle.start.specs.Auxiliary.{auxInit};
 ghost use Rattle.projection.specs.Blown.{isBlown};
 ghost use Rattle.start.specs.Coef.{Covers, Lent, coef};
 ghost use Rattle.fidelity.specs.DctGradient.{dataGradient};
 ghost use Rattle.projection.specs.Projection.{clipped, projectOntoBox, transformed};
-ghost use Rattle.probe.specs.Jobs.{own, reorderFrom};
+ghost use Rattle.probe.specs.Jobs.{own, reorderFrom, bitsOf};
 
 fn reorder_from(n: u32) -> Reorder
     ensures { λ r. ⌜ r ≡ reorderFrom n ⌝ }
@@ -132,7 +132,7 @@ pub extern "C" fn probe_data(
     fidelity::dct_gradient::data(saved, gradient, o, w, h, weight, levels, table);
 }
 
-// Job 3 of a run with n channels.
+// Job 3 of a run with n channels. Both totals are written by their bits.
 #[no_mangle]
 pub extern "C" fn probe_blend(
     plane: &[f32],
@@ -145,12 +145,15 @@ pub extern "C" fn probe_blend(
     iterations: u32,
     weight: f32,
     step: u32,
+    both: &mut [u64],
 )
     requires { ⌜ (w ≤ 512) × (h ≤ 512) × (n ≤ 3) × (length (now plane) ≡ n * (w * h)) × (length (now gradient) ≡ n * (w * h))
-        × (length (now across) ≡ n * (w * h)) × (length (now down) ≡ n * (w * h)) ⌝ }
-    ensures { λ _. ⌜ record { gradient = now (gradient .exit); across = now (across .exit); down = now (down .exit) }
+        × (length (now across) ≡ n * (w * h)) × (length (now down) ≡ n * (w * h)) × (length (now both) ≡ 2) ⌝ }
+    ensures { λ _. ⌜ (record { gradient = now (gradient .exit); across = now (across .exit); down = now (down .exit) }
         ≡ blended w h n (constants w h iterations weight step .second) (now (plane .entry))
-        (record { gradient = now (gradient .entry); across = now (across .entry); down = now (down .entry) }) ⌝ }
+        (record { gradient = now (gradient .entry); across = now (across .entry); down = now (down .entry) }))
+        × (now (both .exit) ≡ bitsOf (totals w h n (constants w h iterations weight step .second) (now (plane .entry))
+        (record { gradient = now (gradient .entry); across = now (across .entry); down = now (down .entry) }))) ⌝ }
 {
     let k = step_constants(w, h, iterations, weight, step);
     let g = Grid {
@@ -158,7 +161,9 @@ pub extern "C" fn probe_blend(
         w: w as usize,
         h: h as usize,
     };
-    gradients::blend(plane, gradient, across, down, g, k);
+    let t = gradients::blend(plane, gradient, across, down, g, k);
+    both[0] = float::double::to_bits(t.tv);
+    both[1] = float::double::to_bits(t.tgv);
 }
 
 // Job 4 of one channel.

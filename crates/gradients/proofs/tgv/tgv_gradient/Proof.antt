@@ -5,21 +5,25 @@ use mathlib.Core.Path.{_≡_}
 use native.Mathlib.Omega.{arith}
 use Rattle.fold.proofs.Loops.{upto-call, upto-end}
 use Rattle.fold.specs.Fold.{upto}
-use Rattle.gradients.specs.Tgv.{tgvGradient, tgvGradientPx, tgvGradientRow}
+use Rattle.gradients.specs.Tgv.{tgvGradient, tgvGradientPx, tgvGradientRow, tgvTotal, tgvTotalPx, tgvTotalRow}
 use Rattle.gradients.proofs.tgv.tgv_gradient.Statement.{statement}
 use Rattle.gradients.proofs.tgv.tgv_gradient.Tie as tie
 
 abbrev Inv-loop2 : tie.InvT-loop2
-Inv-loop2 across down gradient₀ g alpha n w h alpha-over-root y x₀ gradient x = (x ≤ w) × (length gradient ≡ length gradient₀) × (gradient ≡ upto (tgvGradientPx (g .w) (g .h) (g .n) alpha-over-root across down y) x gradient₀)
+Inv-loop2 across down gradient₀ g alpha n w h alpha-over-root tv2₀ y x₀ gradient tv2 x =
+    (x ≤ w) × (length gradient ≡ length gradient₀) × (gradient ≡ upto (tgvGradientPx (g .w) (g .h) (g .n) alpha-over-root across down y) x gradient₀)
+    × (tv2 ≡ upto (tgvTotalPx (g .w) (g .h) (g .n) alpha-over-root across down y) x tv2₀)
 
 abbrev μ-loop2 : tie.MeasureT-loop2
-μ-loop2 across down gradient₀ g alpha n w h alpha-over-root y x₀ gradient x = w - x
+μ-loop2 across down gradient₀ g alpha n w h alpha-over-root tv2₀ y x₀ gradient tv2 x = w - x
 
 abbrev Inv-loop : tie.InvT-loop
-Inv-loop across down gradient₀ g alpha n w h alpha-over-root y₀ gradient y = (y ≤ h) × (length gradient ≡ length gradient₀) × (gradient ≡ upto (tgvGradientRow (g .w) (g .h) (g .n) alpha-over-root across down) y gradient₀)
+Inv-loop across down gradient₀ g alpha n w h alpha-over-root tv2₀ y₀ gradient tv2 y =
+    (y ≤ h) × (length gradient ≡ length gradient₀) × (gradient ≡ upto (tgvGradientRow (g .w) (g .h) (g .n) alpha-over-root across down) y gradient₀)
+    × (tv2 ≡ upto (tgvTotalRow (g .w) (g .h) (g .n) alpha-over-root across down) y tv2₀)
 
 abbrev μ-loop : tie.MeasureT-loop
-μ-loop across down gradient₀ g alpha n w h alpha-over-root y₀ gradient y = h - y
+μ-loop across down gradient₀ g alpha n w h alpha-over-root tv2₀ y₀ gradient tv2 y = h - y
 
 loop-holds : tie.Need-loop-holds Inv-loop2 μ-loop2 Inv-loop μ-loop
 unfolding upto
@@ -30,14 +34,23 @@ unfolding upto
 loop2-holds c = search needs
 
 loop2-again : tie.Need-loop2-again Inv-loop2 μ-loop2 Inv-loop μ-loop
-loop2-again c = (search needs, search needs, upto-call _ _ _ (c .before .before .before .before .before .loop2 .inv .2) (c .before .before .tgv-gradient-px .ensures))
+loop2-again c =
+    let inv = c .before .before .before .before .before .loop2 .inv in
+    let px = c .before .before .tgv-gradient-px .ensures in
+    (search needs, search needs, upto-call _ _ _ (inv .2) (px .0), upto-call _ _ _ (inv .3) (px .1))
 
 loop-again : tie.Need-loop-again Inv-loop2 μ-loop2 Inv-loop μ-loop
-loop-again c = (search needs, search needs, upto-call _ _ _ (c .before .before .before .loop .inv .2) (upto-end _ _ _ _ (c .before .loop2 .inv .2) (omega arith)))
+loop-again c =
+    let inv = c .before .before .before .loop .inv in
+    let row = c .before .loop2 .inv in
+    (search needs, search needs, upto-call _ _ _ (inv .2) (upto-end _ _ _ _ (row .2) (omega arith)), upto-call _ _ _ (inv .3) (upto-end _ _ _ _ (row .3) (omega arith)))
 
 returns : tie.Need-returns Inv-loop2 μ-loop2 Inv-loop μ-loop
-unfolding tgvGradient
-returns c = rw (← c .before .before .alpha-of .ensures) (upto-end _ _ _ _ (c .before .loop .inv .2) (omega arith))
+unfolding tgvGradient tgvTotal
+returns c =
+    let inv = c .before .loop .inv in
+    let alpha-over-root = c .before .before .alpha-of .ensures in
+    (rw (← alpha-over-root) (upto-end _ _ _ _ (inv .2) (omega arith)), rw (← alpha-over-root) (upto-end _ _ _ _ (inv .3) (omega arith)))
 
 pub tgv-gradient-spec : {M : Type 1} → statement M
 tgv-gradient-spec =

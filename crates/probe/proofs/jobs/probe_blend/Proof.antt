@@ -1,9 +1,33 @@
+use mathlib.Core.Path.{_≡_, refl, ap, ap₂, _∙_}
+use mathlib.Core.List.{List, [], _∷_}
+use Prim.Native.Nat.{ℕ}
+use native.Mathlib.Omega.{arith}
+use lib.ListN.{length, length-set, set}
 use borrow.Author.Needs.{needs}
+use Rattle.probe.specs.Jobs.{bitsOf}
 use Rattle.probe.proofs.jobs.probe_blend.Statement.{statement}
 use Rattle.probe.proofs.jobs.probe_blend.Tie as tie
 
+both-set : (xs : List ℕ) (a b : ℕ) → length xs ≡ 2 → set (set xs 0 a) 1 b ≡ a ∷ b ∷ []
+both-set [] a b h = absurd (omega arith)
+both-set (x ∷ []) a b h = absurd (omega arith)
+both-set (x ∷ y ∷ []) a b h = refl
+both-set (x ∷ y ∷ z ∷ xs) a b h = absurd (omega arith)
+
+slice-write-both-2 : tie.Need-slice-write-both-2
+slice-write-both-2 c = let h = c .before .before .before .before .before .before .before .before .before .before .before .before .before .before .before .before .before .before .pre .7 in simp length-set (omega arith)
+
 returns : tie.Need-returns
-returns c = rw (← c .before .before .before .before .before .before .before .before .before .before .step-constants .ensures) (c .before .before .before .before .before .before .blend .ensures)
+returns c =
+    let start = c .before .before .before .before .before .before .before .before .before .before .before .before .before .before .before .before .before .before in
+    let k = c .before .before .before .before .before .before .before .before .before .before .before .before .step-constants .ensures in
+    let blend = c .before .before .before .before .before .before .before .before .blend .ensures in (
+      rw (← k) (blend .0),
+      rw (← k) (both-set (start .args .both .now) _ _ (start .pre .7) ∙ ap₂ (λ (x y : ℕ). x ∷ y ∷ []) (c .before .to-bits .ensures) (c .to-bits2 .ensures) ∙ ap bitsOf (blend .1)),
+    )
 
 pub probe-blend-spec : {M : Type 1} → statement M
-probe-blend-spec = tie.close (tie.spec (λ c κs. search needs) (λ c κs. search needs) (λ c. search needs) (λ c. search needs) (λ c. search needs) returns)
+probe-blend-spec =
+    tie.close
+    (tie.spec (λ c κs. search needs) (λ c κs. search needs) (λ c κs. search needs) (λ c. search needs) (λ c κs. search needs)
+    slice-write-both-2 (λ c. search needs) (λ c. search needs) (λ c. search needs) (λ c. search needs) returns)

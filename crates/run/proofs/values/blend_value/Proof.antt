@@ -43,7 +43,7 @@ unfolding blending
 returns-2 c =
     let a = c .before .before .before .before .before .before .before .before .before .before .before .before .before .before .before .before .before .before .before .before .before .before .args in
     let r = a .run in
-    let done = rw (c .before .before .before .before .before .before .before .before .before .before .before .before .before .before .constants-of .ensures) at (c .before .before .before .before .before .before .before .blend .ensures) in
+    let done = rw (c .before .before .before .before .before .before .before .before .before .before .before .before .before .before .constants-of .ensures) at (c .before .before .before .before .before .before .before .blend .ensures .0) in
     λ levels tables o.
     call-accepted r levels tables blend (forBlend o (a .plane .now) (a .gradient .now) (a .across .now) (a .down .now))
     (sym (c .before .before .before .before .before .before .before .before .before .before .before .before .before .before .before .before .blend-refusal .ensures levels tables) ∙ c .before .before .before .before .before .before .before .before .before .before .before .before .before .before .before .if1 .left)
