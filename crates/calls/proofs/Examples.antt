@@ -11,7 +11,7 @@ use Rattle.projection.specs.Blown.{isBlown}
 use Rattle.calls.specs.Run.{Sheet, Place, Given, weight, ownOk, headerOk, sheetOk, placeOk, placesOk}
 use Rattle.calls.specs.Buffers.{make, channel, joined}
 use Rattle.calls.specs.Jobs.{push, fidelity, move, project, Call, on, blend, Jobs, fixed}
-use Rattle.calls.specs.Calls.{refused, done, blown, first, turnTests, startRefusal, noneYet, plain, plainAnswers, plainPlaces}
+use Rattle.calls.specs.Calls.{refused, done, blown, blended, first, turnTests, startRefusal, noneYet, plain, plainAnswers, plainPlaces}
 
 -- n channels of 8 by 8, and N steps
 abbrev sheet : ℕ → ℕ → Sheet
@@ -116,6 +116,7 @@ still v =
       start = λ G c. make (λ b. v ∷ []);
       work = λ j G c step b. b;
       blending = λ G step B. B;
+      totals = λ G step B. (v, v);
       clip = λ G c b. 7;
     }
 
@@ -126,7 +127,7 @@ abbrev step : List Call
 step = on push 0 ∷ on fidelity 0 ∷ blend ∷ on move 0 ∷ on project 0 ∷ on push 0 ∷ []
 
 -- a blown channel is marked by project, not before, which says so; the next call is refused
-pub blown-by-project : plainAnswers (still nan) two-steps step (noneYet two-steps) ≡ done ∷ done ∷ done ∷ done ∷ blown ∷ refused 10 ∷ []
+pub blown-by-project : plainAnswers (still nan) two-steps step (noneYet two-steps) ≡ done ∷ done ∷ blended nan nan ∷ done ∷ blown ∷ refused 10 ∷ []
 unfolding plainAnswers plain fixed channel joined isBlown
 blown-by-project = refl
 
@@ -135,15 +136,18 @@ unfolding plainPlaces plain fixed channel joined isBlown
 marked-by-project = refl
 
 -- and one that is not goes on
-pub not-blown : plainAnswers (still (fin false 1 (pos 0))) two-steps step (noneYet two-steps) ≡ replicate 6 done
+abbrev one : Float
+one = fin false 1 (pos 0)
+
+pub not-blown : plainAnswers (still one) two-steps step (noneYet two-steps) ≡ done ∷ done ∷ blended one one ∷ done ∷ done ∷ done ∷ []
 unfolding plainAnswers plain fixed channel joined isBlown
 not-blown = refl
 
 -- the other jobs leave the number of the last project, and the next gives it anew: 7 after two steps, not 14
-pub kept-on : plainPlaces (still (fin false 1 (pos 0))) two-steps step (noneYet two-steps) ≡ kept-at 6 7 ∷ []
+pub kept-on : plainPlaces (still one) two-steps step (noneYet two-steps) ≡ kept-at 6 7 ∷ []
 unfolding plainPlaces plain fixed channel joined isBlown
 kept-on = refl
 
-pub kept-last : plainPlaces (still (fin false 1 (pos 0))) two-steps (step ++ on fidelity 0 ∷ blend ∷ on move 0 ∷ on project 0 ∷ []) (noneYet two-steps) ≡ kept-at 10 7 ∷ []
+pub kept-last : plainPlaces (still one) two-steps (step ++ on fidelity 0 ∷ blend ∷ on move 0 ∷ on project 0 ∷ []) (noneYet two-steps) ≡ kept-at 10 7 ∷ []
 unfolding plainPlaces plain fixed channel joined isBlown
 kept-last = refl

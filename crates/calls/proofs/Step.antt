@@ -17,7 +17,7 @@ use Rattle.start.specs.Buffers.{Buffers}
 use Rattle.calls.specs.Buffers.{Name, Saved, channel, putChannel, joined, Sized}
 use Rattle.calls.specs.Jobs.{Job, push, fidelity, move, project, Call, on, blend, turn, blendTurn, Jobs, next, fixed, kept, channelBlown, Seen, seen, seenAt}
 use Rattle.projection.specs.Blown.{bad, anyBad, isBlown}
-use Rattle.calls.specs.Calls.{State, Called, first, turnTests, lent, lentLevels, lengths, lendTests, refusal, advance, onward, reply, worked, seenIn, accept, settle, call, Plain, plainAccept, plainSettle, plain}
+use Rattle.calls.specs.Calls.{State, Called, first, turnTests, lent, lentLevels, lengths, lendTests, refusal, advance, onward, reply, worked, seenIn, blendReply, accept, settle, call, Plain, plainAccept, plainSettle, plain}
 use Rattle.calls.specs.Between.{GivenOk, AllIn, Inv}
 use Rattle.calls.specs.Laws.{Laws}
 use Rattle.calls.proofs.Parts.{channel-sized, put-sized, put-same, put-other, joined-channels}
@@ -277,10 +277,10 @@ module _ (J : Jobs) (laws : Laws J) (G : Given) (ok : GivenOk G) (s : State) (in
     at-blended c h = place-blended (G .sheet) (s .places) (inv .legal-places) t c h
 
     pub blend-good : Good J G (accept J G blend s) (plainAccept J G blend (s .places))
-    unfolding after-blend
+    unfolding after-blend q
     blend-good =
         record {
-          same-answer = refl;
+          same-answer = ap (λ (B : Buffers). blendReply (J .totals G (q / 5) B)) (sym all-fixed);
           same-places = refl;
           again =
               record {

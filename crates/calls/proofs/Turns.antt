@@ -1,5 +1,6 @@
 -- A call in its turn, for any jobs: it is accepted, and what it answers and leaves is by the fixed buffers.
 use mathlib.Core.Path.{_≡_, ap, _∙_}
+use mathlib.Core.Logic.{⊎-elim}
 use mathlib.Core.Bool.{Bool, true, false, not}
 use mathlib.Core.List.{List, [], map}
 use Prim.Native.Nat.{ℕ, _*_, _%_, _<_}
@@ -8,11 +9,12 @@ use lib.ListN.{set}
 use lib.Dec.{eqb}
 use borrow.Author.Tests.{lt-ltb, eq-eqb, ne-eqb}
 use Rattle.calls.specs.Run.{Given, Sheet, Place, place, count}
-use Rattle.calls.specs.Jobs.{Job, on, blend, turn, blendTurn, Jobs, Seen, seenAt}
-use Rattle.calls.specs.Calls.{State, Plain, done, first, test, turnTests, advance, onward, reply, call, plain, plainAccept, plainSettle}
+use Rattle.calls.specs.Jobs.{Job, on, blend, turn, blendTurn, Jobs, Seen, seenAt, totalsAt}
+use Rattle.calls.specs.Calls.{State, Plain, first, test, turnTests, advance, onward, reply, blendReply, call, plain, plainAccept, plainSettle}
 use Rattle.calls.specs.Between.{GivenOk, Inv}
 use Rattle.calls.specs.Laws.{Laws}
 use Rattle.calls.proofs.Tests.{every-true, among-false, skip}
+use Rattle.calls.proofs.Facts.{sheet-is}
 use Rattle.calls.proofs.Step.{call-good}
 
 module _ (S : Sheet) (ps : List Place) (p : ℕ) (left : p < 5 * S .N) where
@@ -63,11 +65,16 @@ module _ (J : Jobs) (laws : Laws J) (G : Given) (ok : GivenOk G) (s : State) (in
     on-places = call-good J laws G ok s inv (on j c) .same-places ∙ ap (λ (o : Plain). o .places) accepted
 
   module _ (here : (c : ℕ) → c < count G → place (s .places) c .position ≡ p) (free : (c : ℕ) → c < count G → place (s .places) c .mark ≡ false) (t : p % 5 ≡ 2) where
-    all-accepted : plain J G blend (s .places) ≡ record { answer = done; places = map onward (s .places) }
-    unfolding plain
-    all-accepted = ap (λ (r : ℕ). plainSettle r (s .places) (plainAccept J G blend (s .places))) (blend-turn (G .sheet) (s .places) p left here free t)
+    first-here : place (s .places) 0 .position ≡ p
+    first-here = here 0 (⊎-elim (λ e. omega arith) (λ e. omega arith) (sheet-is (G .sheet) (ok .sheet-ok) .channels))
 
-    pub blend-answer : call J G blend s .answer ≡ done
+    all-accepted : plain J G blend (s .places) ≡ record { answer = blendReply (totalsAt J G p); places = map onward (s .places) }
+    unfolding plain
+    all-accepted =
+        ap (λ (r : ℕ). plainSettle r (s .places) (plainAccept J G blend (s .places))) (blend-turn (G .sheet) (s .places) p left here free t)
+        ∙ ap (λ (k : ℕ). record { answer = blendReply (totalsAt J G k); places = map onward (s .places) }) first-here
+
+    pub blend-answer : call J G blend s .answer ≡ blendReply (totalsAt J G p)
     blend-answer = call-good J laws G ok s inv blend .same-answer ∙ ap (λ (o : Plain). o .answer) all-accepted
 
     pub blend-places : call J G blend s .after .places ≡ map onward (s .places)

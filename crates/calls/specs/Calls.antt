@@ -5,17 +5,19 @@ use mathlib.Core.List.{List, [], _∷_, _++_, map}
 use lib.ListN.{length, set, replicate}
 use lib.Dec.{ltb, eqb}
 use lib.IntN.{ℤ}
+use lib.Ieee.{Float}
 use Rattle.calls.specs.Run.{Sheet, Place, Given, fresh, place, count, area, levelsBefore, every, among, legal}
 use Rattle.start.specs.Buffers.{Buffers}
 use Rattle.calls.specs.Buffers.{Name, Plane, Prior, Gradient, Across, Down, Saved, get, channel, putChannel, joined}
-use Rattle.calls.specs.Jobs.{Job, push, fidelity, move, project, Call, on, blend, turn, blendTurn, Jobs, Seen, seen, seenAt}
+use Rattle.calls.specs.Jobs.{Job, push, fidelity, move, project, Call, on, blend, turn, blendTurn, Jobs, Seen, seen, seenAt, totalsAt}
 pub use Rattle.answers.specs.Tests.{Tests, first, test, all, tableOk, levelOk}
 
--- a call's answer: the refusal's number in the table; accepted; accepted, and the channel is now marked blown
+-- a call's answer: the refusal's number in the table; accepted; accepted, and the channel is now marked blown; blend accepted, with both its totals
 pub data Answer : Type 0 where
   refused : ℕ → Answer
   done : Answer
   blown : Answer
+  blended : Float → Float → Answer
 
 -- what the calls hand on: the record's places and the lent buffers
 pub record State : Type 0 where
@@ -127,6 +129,10 @@ worked J G j c s = J .work j G c (place (s .places) c .position / 5) (channel (a
 abbrev pub seenIn : Jobs → Given → Job → ℕ → State → Seen
 seenIn J G j c s = seen J G c (channel (area G) c (s .buffers)) (worked J G j c s)
 
+-- "Blend also returns the f64 totals of `tv_gradient` and `tgv_gradient`" (document 02, M-103)
+abbrev pub blendReply : Float × Float → Answer
+blendReply t = blended (t .0) (t .1)
+
 abbrev pub accept : Jobs → Given → Call → State → Called
 accept J G (on j c) s =
     let x = seenIn J G j c s in
@@ -139,7 +145,7 @@ accept J G (on j c) s =
     }
 accept J G blend s =
     record {
-      answer = done;
+      answer = blendReply (J .totals G (place (s .places) 0 .position / 5) (s .buffers));
       after = record {
         places = map onward (s .places);
         buffers = J .blending G (place (s .places) 0 .position / 5) (s .buffers);
@@ -191,7 +197,7 @@ abbrev pub plainAccept : Jobs → Given → Call → List Place → Plain
 plainAccept J G (on j c) ps =
     let x = seenAt J G (place ps c .position) c in
     record { answer = reply j x; places = set ps c (advance j x (place ps c)) }
-plainAccept J G blend ps = record { answer = done; places = map onward ps }
+plainAccept J G blend ps = record { answer = blendReply (totalsAt J G (place ps 0 .position)); places = map onward ps }
 
 abbrev pub plainSettle : ℕ → List Place → Plain → Plain
 plainSettle zero ps o = o

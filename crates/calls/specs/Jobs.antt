@@ -3,6 +3,7 @@
 use Prim.Native.Nat.{ℕ, zero, suc, _/_, _%_}
 use mathlib.Core.Bool.{Bool, cond}
 use lib.Dec.{eqb}
+use lib.Ieee.{Float}
 use Rattle.calls.specs.Run.{Given, count, area, coefs}
 use Rattle.start.specs.Buffers.{Buffers}
 use Rattle.projection.specs.Blown.{isBlown}
@@ -35,6 +36,8 @@ pub record Jobs : Type 0 where
   pub work : Job → Given → ℕ → ℕ → Buffers → Buffers
   -- what blend makes of the lent buffers, which hold all channels', in a step
   pub blending : Given → ℕ → Buffers → Buffers
+  -- and the totals that it returns, `tv_gradient`'s and `tgv_gradient`'s (document 02, M-103)
+  pub totals : Given → ℕ → Buffers → Float × Float
   -- how many coefficients project clips, by a channel's buffers before it
   pub clip : Given → ℕ → Buffers → ℕ
 
@@ -74,3 +77,7 @@ seen J G c before after = record { blown = channelBlown G c after; clipped = J .
 -- of channel c's job after its first p, by the buffers fixed for these counts
 abbrev pub seenAt : Jobs → Given → ℕ → ℕ → Seen
 seenAt J G p c = seen J G c (fixed J G p c) (fixed J G (suc p) c)
+
+-- the totals of the blend at position p, by the buffers fixed for that count
+abbrev pub totalsAt : Jobs → Given → ℕ → Float × Float
+totalsAt J G p = J .totals G (p / 5) (joined (count G) (fixed J G p))

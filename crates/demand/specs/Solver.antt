@@ -5,7 +5,7 @@ use Rattle.steps.specs.declared.solve.Constants.{Constants}
 use Rattle.steps.specs.Solve.{constants}
 use Rattle.start.specs.Buffers.{Buffers}
 use Rattle.start.specs.Coef.{Coef, coef}
-use Rattle.work.specs.Work.{starting, pushing, dataJob, blending, moving, projecting, clipping}
+use Rattle.work.specs.Work.{starting, pushing, dataJob, blending, blendTotals, moving, projecting, clipping}
 use Rattle.calls.specs.Run.{Sheet, Given, own, count, coefs, levelsBefore}
 use Rattle.calls.specs.Jobs.{Job, push, fidelity, move, project, Jobs}
 
@@ -34,5 +34,9 @@ jobs =
       start = λ G c. starting (G .sheet .reorder) (coefOf G c) (G .sheet .W) (G .sheet .H);
       work = work;
       blending = λ G step B. blending (G .sheet .W) (G .sheet .H) (count G) (constantsOf (G .sheet) step) B;
+      totals =
+          λ G step B.
+          let t = blendTotals (G .sheet .W) (G .sheet .H) (count G) (constantsOf (G .sheet) step) B in
+          (t .tv, t .tgv);
       clip = λ G c b. clipping (coefOf G c) (G .sheet .W) (G .sheet .H) b;
     }

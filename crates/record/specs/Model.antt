@@ -14,7 +14,7 @@ use Rattle.record.specs.declared.Run.{Run}
 use Rattle.record.specs.declared.Channel.{Channel}
 use Rattle.record.specs.declared.Seen.{Seen}
 use Rattle.record.specs.declared.Answer.{Answer}
-use Rattle.record.specs.declared.Answer.the-variants.{Refused, Done, Blown}
+use Rattle.record.specs.declared.Answer.the-variants.{Refused, Done, Blown, Blended}
 
 abbrev pub ownOf : Channel → Numbers
 ownOf c = record { width = c .width; height = c .height; across = c .across; down = c .down; data-weight = c .weight }
@@ -91,8 +91,9 @@ pub record ChannelIs (r : Run) (c : ℕ) (x : Channel) : Type 0 where
 abbrev pub seenOf : Seen → Jobs.Seen
 seenOf x = record { blown = x .blown; clipped = x .clipped }
 
--- document 01's number and values for each case: a refusal's number in the table, accepted, accepted and blown
+-- document 01's number and values for each case: a refusal's number in the table, accepted, accepted and blown; blend's totals
 abbrev pub answerOf : Answer → Calls.Answer
 answerOf (Refused n) = Calls.refused n
 answerOf Done = Calls.done
 answerOf Blown = Calls.blown
+answerOf (Blended tv tgv) = Calls.blended tv tgv

@@ -32,11 +32,12 @@ pub struct Run {
     pub channels: [Channel; 3],
 }
 
-// A call's answer: refused, with the number in the table; done; done, and the channel is now marked blown.
+// A call's answer: refused, with the number in the table; done; done, and the channel is now marked blown; a blend done, with both its totals.
 pub enum Answer {
     Refused(u8),
     Done,
     Blown,
+    Blended { tv: f64, tgv: f64 },
 }
 
 // What a job tells of its channel: whether any plane value or saved coefficient is then NaN or infinite, and how many coefficients it clipped.

@@ -72,7 +72,7 @@ pub fn data_value(
     }
 }
 
-// Blend. Rules out: a gradient that only one channel's plane goes into, and positions of some channels left behind.
+// Blend. Rules out: a gradient that only one channel's plane goes into, positions of some channels left behind, and the totals of another step's planes.
 pub fn blend_value(
     run: Run,
     plane: &[f32],
@@ -97,10 +97,13 @@ pub fn blend_value(
         w: run.w as usize,
         h: run.h as usize,
     };
-    gradients::blend(plane, gradient, across, down, g, k);
+    let t = gradients::blend(plane, gradient, across, down, g, k);
     let next = record::places::blended(run);
     Answered {
-        answer: Answer::Done,
+        answer: Answer::Blended {
+            tv: t.tv,
+            tgv: t.tgv,
+        },
         run: next,
     }
 }

@@ -37,6 +37,7 @@ abbrev pub byteOf : Calls.Answer → ℕ
 byteOf (Calls.refused n) = n
 byteOf Calls.done = 0
 byteOf Calls.blown = 255
+byteOf (Calls.blended tv tgv) = 0
 
 -- what a call gives, its answer as a number: the number, the record and the buffers afterwards
 pub record GaveNumber (x : Result) (k : ℕ) (r : Run) (B : Buffers) : Type 0 where

@@ -16,6 +16,7 @@ pub fn answer_byte(a: Answer) -> u8
         Answer::Refused(n) => n,
         Answer::Done => 0,
         Answer::Blown => 255,
+        Answer::Blended { tv: _, tgv: _ } => 0,
     }
 }
 

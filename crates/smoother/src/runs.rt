@@ -19,6 +19,7 @@ pub fn number_of(a: Answer) -> u32
         Answer::Refused(n) => n as u32,
         Answer::Done => 0,
         Answer::Blown => 255,
+        Answer::Blended { tv: _, tgv: _ } => 0,
     }
 }
 

@@ -7,7 +7,8 @@ use Rattle.interval.specs.Interval.{InInterval}
 use Rattle.steps.specs.declared.solve.Constants.{Constants}
 use Rattle.steps.specs.Solve.{pushed}
 use Rattle.steps.specs.Step.{moved}
-use Rattle.gradients.specs.Blend.{blended}
+use Rattle.gradients.specs.declared.Totals.{Totals}
+use Rattle.gradients.specs.Blend.{blended, totals}
 use Rattle.start.specs.declared.coef.Reorder.{Reorder}
 use Rattle.start.specs.Buffers.{Buffers}
 use Rattle.start.specs.Coef.{Coef, levelAt, pxCount, quantAt}
@@ -36,6 +37,10 @@ unfoldable pub blending : ℕ → ℕ → ℕ → Constants → Buffers → Buff
 blending W H n k B =
     let t = blended W H n (k .second) (B .plane) (record { gradient = B .gradient; across = B .across; down = B .down }) in
     record { plane = B .plane; prior = B .prior; gradient = t .gradient; across = t .across; down = t .down; saved = B .saved }
+
+-- and the totals of both its gradients
+unfoldable pub blendTotals : ℕ → ℕ → ℕ → Constants → Buffers → Totals
+blendTotals W H n k B = totals W H n (k .second) (B .plane) (record { gradient = B .gradient; across = B .across; down = B .down })
 
 -- 4, move
 unfoldable pub moving : Constants → Buffers → Buffers

@@ -7,7 +7,7 @@ use Rattle.calls.specs.Run.{place}
 use Rattle.calls.specs.Jobs.{blend}
 use Rattle.calls.specs.Calls as Calls
 use Rattle.gradients.specs.Tv.{Terms}
-use Rattle.work.specs.Work.{blending}
+use Rattle.work.specs.Work.{blending, blendTotals}
 use Rattle.demand.specs.Solver.{constantsOf}
 use Rattle.record.specs.Model.{sheetOf, placesOf}
 use Rattle.record.proofs.Sizes.{count-1, count-3}
@@ -39,15 +39,16 @@ blended-requires : tie.Need-blended-requires
 blended-requires c κs = passed (c .before .before .before .before .before .before .before .before .before .before .before .before .before .before) .is-legal
 
 returns-2 : tie.Need-returns-2
-unfolding blending
+unfolding blending blendTotals
 returns-2 c =
     let a = c .before .before .before .before .before .before .before .before .before .before .before .before .before .before .before .before .before .before .before .before .before .before .args in
     let r = a .run in
     let done = rw (c .before .before .before .before .before .before .before .before .before .before .before .before .before .before .constants-of .ensures) at (c .before .before .before .before .before .before .before .blend .ensures .0) in
+    let sums = rw (c .before .before .before .before .before .before .before .before .before .before .before .before .before .before .constants-of .ensures) at (c .before .before .before .before .before .before .before .blend .ensures .1) in
     λ levels tables o.
     call-accepted r levels tables blend (forBlend o (a .plane .now) (a .gradient .now) (a .across .now) (a .down .now))
     (sym (c .before .before .before .before .before .before .before .before .before .before .before .before .before .before .before .before .blend-refusal .ensures levels tables) ∙ c .before .before .before .before .before .before .before .before .before .before .before .before .before .before .before .if1 .left)
-    ∙ sym (λ i. record { answer = Calls.done; run = c .blended .ensures i; buffers = forBlend o (a .plane .now) (done i .gradient) (done i .across) (done i .down) })
+    ∙ sym (λ i. record { answer = Calls.blended (sums i .tv) (sums i .tgv); run = c .blended .ensures i; buffers = forBlend o (a .plane .now) (done i .gradient) (done i .across) (done i .down) })
 
 pub blend-value-spec : {M : Type 1} → statement M
 blend-value-spec =
