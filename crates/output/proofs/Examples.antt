@@ -3,9 +3,12 @@ use mathlib.Core.Path.{_≡_, refl}
 use mathlib.Core.List.{List, [], _∷_, _++_}
 use Prim.Native.Nat.{ℕ, _+_, _*_, _/_, _%_, _<_}
 use native.Mathlib.Omega.{arith}
+use mathlib.Core.Bool.{false}
+use lib.IntN.{pos}
 use lib.ListN.{replicate}
+use lib.Ieee.{nan, inf, fin, binary64, toBits}
 use Rattle.digits.specs.Written.{decimal, hexOf}
-use Rattle.output.specs.Output.{each, pictureText, refusalText, clippedText}
+use Rattle.output.specs.Output.{each, pictureText, refusalText, totalsText, clippedText}
 
 -- "`smooth` prints two lines, `I` tab `2` tab `1`, then `R` tab `818181` tab `818181`"
 pub whole-example :
@@ -29,6 +32,14 @@ letters-example = refl
 pub clipped-example : clippedText 0 0 ≡ 75 ∷ 9 ∷ 48 ∷ 9 ∷ 48 ∷ 10 ∷ []
 unfolding clippedText
 clipped-example = refl
+
+-- M-103: two steps of channel 2, of totals 1.0 and an infinite one, then a NaN and 0: `T` tab `2` tab `1` tab `3ff0000000000000` tab `7ff0000000000000`,
+-- then `T` tab `2` tab `2` tab `7ff8000000000000` tab `0000000000000000`
+pub totals-example : totalsText 2 2 (fin false 1 (pos 0) ∷ inf false ∷ nan ∷ fin false 0 (pos 0) ∷ [])
+    ≡ 84 ∷ 9 ∷ 50 ∷ 9 ∷ 49 ∷ 9 ∷ 51 ∷ 102 ∷ 102 ∷ (replicate 13 48 ++ 9 ∷ 55 ∷ 102 ∷ 102 ∷ (replicate 13 48 ++ 10
+    ∷ 84 ∷ 9 ∷ 50 ∷ 9 ∷ 50 ∷ 9 ∷ 55 ∷ 102 ∷ 102 ∷ 56 ∷ (replicate 12 48 ++ 9 ∷ (replicate 16 48 ++ 10 ∷ []))))
+unfolding totalsText
+totals-example = refl
 
 -- the last two digits of a number, and what is before them
 module _ (u b : ℕ) (h : b < 256) where

@@ -2,18 +2,19 @@
 use mathlib.Core.Path.{_≡_, refl, sym, ap, _∙_}
 use mathlib.Core.Bool.{Bool, true, false, cond, _&&_}
 use mathlib.Core.List.{List, [], _∷_}
-use Prim.Native.Nat.{ℕ, zero, suc, _+_, _*_, _≤_}
+use Prim.Native.Nat.{ℕ, zero, suc, _+_, _*_, _≤_, _<_}
 use native.Mathlib.Nat.{suc-mul, mul-le-mul}
 use native.Mathlib.Numerals.{add-one}
 use native.Mathlib.Omega.{arith}
 use borrow.Author.Tests.{leb-true, eqb-true, le-leb, eq-eqb}
 use lib.Dec.{eqb, leb}
-use lib.ListN.{length, length-append}
-use Rattle.digits.specs.Written.{decimal, ended}
+use lib.ListN.{length, getD, length-append}
+use lib.Ieee.{Float, nan, binary64, toBits}
+use Rattle.digits.specs.Written.{decimal, hexOf, ended}
 use Rattle.digits.proofs.Lengths.{decimal-length}
 use Rattle.digits.proofs.Both.{both-left, both-right}
-use Rattle.output.specs.Output.{each, numbersLine, pixel, rowLine, pictureText, pictureRoom, pictureFits, pictureInto, refusalText, refusalInto, clippedText, clippedFits, clippedInto}
-use Rattle.output.proofs.Lines.{tabbed, tabbed-more, ended-more, row-text, lines-done}
+use Rattle.output.specs.Output.{each, numbersLine, pixel, rowLine, pictureText, pictureRoom, pictureFits, pictureInto, refusalText, refusalInto, stepLine, totalsText, totalsFits, totalsInto, clippedText, clippedFits, clippedInto}
+use Rattle.output.proofs.Lines.{tabbed, tabbed-more, ended-more, row-text, totals-text, lines-done}
 
 tabbed-length : (f : ℕ → List ℕ) (m n : ℕ) → ((i : ℕ) → length (f i) ≡ m) → length (tabbed (each f n)) ≡ n * (m + 1)
 unfolding each
@@ -72,6 +73,32 @@ refusal-room number line p q = omega (arith, numbers-length 88 number line, refu
 pub head-length : (letter a b : ℕ) → length (numbersLine letter a b) ≡ 3 + length (decimal a) + length (decimal b)
 head-length letter a b = simp length-append (omega arith)
 
+-- the line of two totals, 16 digits each: 43 bytes have room for every one of them
+pub step-length : (channel k : ℕ) → channel ≤ 9 → k ≤ 9998 → length (decimal channel) + length (decimal (k + 1)) ≤ 5
+step-length channel k p q = omega (arith, decimal-length 0 channel (omega arith), decimal-length 3 (k + 1) (omega arith))
+
+pub head-room : (letter channel k : ℕ) → channel ≤ 9 → k ≤ 9998 → length (numbersLine letter channel (k + 1)) ≤ 8
+head-room letter channel k p q = omega (arith, head-length letter channel (k + 1), step-length channel k p q)
+
+pub step-room : (channel k : ℕ) (totals : List Float) → channel ≤ 9 → k ≤ 9998 → length (ended (stepLine channel totals k ∷ [])) ≤ 43
+step-room channel k totals p q =
+    let l : length (ended (stepLine channel totals k ∷ [])) ≡ 38 + length (decimal channel) + length (decimal (k + 1)) =
+    ap length (sym (totals-text channel (k + 1) (hexOf 16 (toBits binary64 (getD totals (k * 2) nan))) (hexOf 16 (toBits binary64 (getD totals (k * 2 + 1) nan)))))
+    ∙ simp length-append (omega arith) in
+    omega (arith, step-length channel k p q)
+
+lines-room : (f : ℕ → List ℕ) (m n : ℕ) → ((i : ℕ) → i < n → length (ended (f i ∷ [])) ≤ m) → length (ended (each f n)) ≤ n * m
+unfolding each
+lines-room f m zero h = omega arith
+lines-room f m (suc n) h =
+    let l : length (ended (each f (suc n))) ≡ length (ended (each f n)) + length (ended (f n ∷ [])) =
+    ap length (ended-more (each f n) (f n)) ∙ length-append (ended (each f n)) (ended (f n ∷ [])) in
+    omega (arith, l, lines-room f m n (λ i p. h i (omega arith)), h n (omega arith), suc-mul n m)
+
+pub totals-room : (channel steps : ℕ) (totals : List Float) → channel ≤ 9 → steps ≤ 9999 → length (totalsText channel steps totals) ≤ steps * 43
+unfolding totalsText
+totals-room channel steps totals p q = lines-room (stepLine channel totals) 43 steps (λ k l. step-room channel k totals p (omega arith))
+
 -- 11 bytes have room for every line of a clipped number, 9 where the number has four digits
 pub clipped-length : (channel number : ℕ) → length (clippedText channel number) ≡ 4 + length (decimal channel) + length (decimal number)
 unfolding clippedText
@@ -111,6 +138,23 @@ pub refusal-into : (number line room : ℕ) → line ≤ 999999 → 13 ≤ room 
 unfolding refusalInto
 refusal-into number line room p q = rw (le-leb line 999999 p, le-leb 13 room q)
 
+pub totals-into : (channel steps : ℕ) (totals : List Float) (room : ℕ) → channel ≤ 9 → steps ≤ 9999 → length totals ≡ steps * 2 → steps * 43 ≤ room
+    → totalsInto channel steps totals room ≡ totalsText channel steps totals
+unfolding totalsInto
+totals-into channel steps totals room p q e r = rw (le-leb channel 9 p, le-leb steps 9999 q, eq-eqb (length totals) (steps * 2) e, le-leb (steps * 43) room r)
+
+-- what lines that fit have
+pub totals-fit : (channel steps values room : ℕ) → totalsFits channel steps values room ≡ true
+    → (channel ≤ 9) × (steps ≤ 9999) × (values ≡ steps * 2) × (steps * 43 ≤ room)
+totals-fit channel steps values room h =
+    let a = leb channel 9 in
+    let b = leb steps 9999 in
+    let c = eqb values (steps * 2) in
+    let d = leb (steps * 43) room in
+    let f = both-right a (b && (c && d)) h in
+    let g = both-right b (c && d) f in
+    (leb-true channel 9 (both-left a (b && (c && d)) h), leb-true steps 9999 (both-left b (c && d) f), eqb-true values (steps * 2) (both-left c d g), leb-true (steps * 43) room (both-right c d g))
+
 pub clipped-into : (channel number room : ℕ) → channel ≤ 9 → number ≤ 999999 → 11 ≤ room → clippedInto channel number room ≡ clippedText channel number
 unfolding clippedInto
 clipped-into channel number room p q r = rw (le-leb channel 9 p, le-leb number 999999 q, le-leb 11 room r)
@@ -125,6 +169,12 @@ unfolding pictureInto
 picture-within width height rgb room =
     within (pictureFits width height (length rgb) room) (pictureText width height rgb) room
     (λ e. let f = fits width height (length rgb) room e in omega (arith, f .3, picture-room width height rgb (f .0) (f .1)))
+
+pub totals-within : (channel steps : ℕ) (totals : List Float) (room : ℕ) → length (totalsInto channel steps totals room) ≤ room
+unfolding totalsInto
+totals-within channel steps totals room =
+    within (totalsFits channel steps (length totals) room) (totalsText channel steps totals) room
+    (λ e. let f = totals-fit channel steps (length totals) room e in omega (arith, f .3, totals-room channel steps totals (f .0) (f .1)))
 
 pub clipped-within : (channel number room : ℕ) → length (clippedInto channel number room) ≤ room
 unfolding clippedInto

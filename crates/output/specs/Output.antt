@@ -1,10 +1,11 @@
--- The text that the program `smooth` prints, as bytes. Document 01, "Whole run and picture", last paragraph; document 02, M-104.
+-- The text that the program `smooth` prints, as bytes. Document 01, "Whole run and picture", last paragraph; document 02, M-103 and M-104.
 use mathlib.Core.Path.{_≡_}
 use mathlib.Core.Bool.{Bool, cond, _&&_}
 use mathlib.Core.List.{List, [], _∷_, _++_}
 use Prim.Native.Nat.{ℕ, zero, suc, _+_, _*_}
 use lib.Dec.{eqb, leb}
 use lib.ListN.{length, getD, take, drop}
+use lib.Ieee.{Float, nan, binary64, toBits}
 use Rattle.digits.specs.Written.{decimal, hexOf, joined, ended}
 
 -- f of 0, 1 and so on, n of them
@@ -37,6 +38,17 @@ unfoldable pub refusalText : ℕ → ℕ → List ℕ
 unfolding decimal
 refusalText number line = ended (numbersLine 88 number line ∷ [])
 
+-- M-103: "`T`, channel of the run's start (0 in joint mode), step from 1, and both totals as 16 lowercase hexadecimal digits of their bits (a NaN as
+-- 7ff8000000000000)", which is what `toBits` gives of a NaN. k counts the run's steps from 0, and `totals` has two places for each.
+abbrev pub stepLine : ℕ → List Float → ℕ → List ℕ
+stepLine channel totals k =
+    joined ((84 ∷ []) ∷ decimal channel ∷ decimal (k + 1) ∷ hexOf 16 (toBits binary64 (getD totals (k * 2) nan)) ∷ hexOf 16 (toBits binary64 (getD totals (k * 2 + 1) nan)) ∷ [])
+
+-- the lines of a run's steps
+unfoldable pub totalsText : ℕ → ℕ → List Float → List ℕ
+unfolding decimal toBits each
+totalsText channel steps totals = ended (each (stepLine channel totals) steps)
+
 -- M-104: "the program prints it on a line `K`, channel, number"
 unfoldable pub clippedText : ℕ → ℕ → List ℕ
 unfolding decimal
@@ -63,6 +75,14 @@ refusalFits line room = leb line 999999 && leb 13 room
 unfoldable pub refusalInto : ℕ → ℕ → ℕ → List ℕ
 unfolding refusalText
 refusalInto number line room = cond (refusalFits line room) (refusalText number line) []
+
+-- a channel of one digit, steps of at most four, two totals for each step, and room: a line takes 43 bytes at most
+abbrev pub totalsFits : ℕ → ℕ → ℕ → ℕ → Bool
+totalsFits channel steps values room = leb channel 9 && (leb steps 9999 && (eqb values (steps * 2) && leb (steps * 43) room))
+
+unfoldable pub totalsInto : ℕ → ℕ → List Float → ℕ → List ℕ
+unfolding totalsText
+totalsInto channel steps totals room = cond (totalsFits channel steps (length totals) room) (totalsText channel steps totals) []
 
 -- a channel of one digit, a number of at most six, and room: with `K` they take 11 bytes
 abbrev pub clippedFits : ℕ → ℕ → ℕ → Bool

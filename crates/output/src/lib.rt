@@ -3,8 +3,9 @@ ghost use mathlib.Core.List.{[], _∷_, _++_};
 ghost use Prim.Native.Nat.{_+_, _-_, _*_, _≤_, _<_};
 ghost use mathlib.Core.Path.{_≡_};
 ghost use lib.ListN.{length};
+ghost use lib.Ieee.{binary64, toBits};
 ghost use Rattle.digits.specs.Written.{decimal, hexByte, hexOf, ended};
-ghost use Rattle.output.specs.Output.{numbersLine, pixel, rowLine, pictureText, pictureRoom, pictureFits, pictureInto, refusalInto, clippedInto, Wrote};
+ghost use Rattle.output.specs.Output.{numbersLine, pixel, rowLine, pictureText, pictureRoom, pictureFits, pictureInto, refusalInto, stepLine, totalsText, totalsFits, totalsInto, clippedInto, Wrote};
 
 // A byte. This and what follows write from place `at` on, and answer where what they wrote ends.
 fn put_byte(b: u8, out: &mut [u8], at: usize) -> usize
@@ -73,6 +74,58 @@ fn put_hex(b: u8, out: &mut [u8], at: usize) -> usize
 {
     let second = put_byte(hex_digit(b / 16 % 16), out, at);
     put_byte(hex_digit(b % 16), out, second)
+}
+
+// The last four hexadecimal digits of a number.
+fn put_four(n: u64, out: &mut [u8], at: usize) -> usize
+    requires { ⌜ at + 4 ≤ length (now out) ⌝ }
+    ensures { λ r. ⌜ Wrote at (hexOf 4 n) (now (out .entry)) r (now (out .exit)) ⌝ }
+{
+    let third = put_hex((n / 256 % 256) as u8, out, at);
+    put_hex((n % 256) as u8, out, third)
+}
+
+// The last eight hexadecimal digits of a number.
+fn put_eight(n: u64, out: &mut [u8], at: usize) -> usize
+    requires { ⌜ at + 8 ≤ length (now out) ⌝ }
+    ensures { λ r. ⌜ Wrote at (hexOf 8 n) (now (out .entry)) r (now (out .exit)) ⌝ }
+{
+    let fifth = put_four(n / 65536, out, at);
+    put_four(n, out, fifth)
+}
+
+// A tab and the sixteen hexadecimal digits of a total's bits.
+fn put_total(x: f64, out: &mut [u8], at: usize) -> usize
+    requires { ⌜ at + 17 ≤ length (now out) ⌝ }
+    ensures { λ r. ⌜ Wrote at (9 ∷ hexOf 16 (toBits binary64 x)) (now (out .entry)) r (now (out .exit)) ⌝ }
+{
+    let bits = float::double::to_bits(x);
+    let first = put_byte(b'\t', out, at);
+    let ninth = put_eight(bits / 4294967296, out, first);
+    put_eight(bits, out, ninth)
+}
+
+// The line of the two totals of step k, which counts from 0.
+fn put_step(channel: usize, totals: &[f64], k: usize, out: &mut [u8], at: usize) -> usize
+    requires { ⌜ (channel ≤ 9) × (k ≤ 9998) × (k * 2 + 2 ≤ length (now totals)) × (at + 43 ≤ length (now out)) ⌝ }
+    ensures { λ r. ⌜ Wrote at (ended (stepLine channel (now (totals .entry)) k ∷ [])) (now (out .entry)) r (now (out .exit)) ⌝ }
+{
+    let after_step = put_head(b'T', channel, k + 1, out, at);
+    let after_first = put_total(totals[k * 2], out, after_step);
+    let end = put_total(totals[k * 2 + 1], out, after_first);
+    put_byte(b'\n', out, end)
+}
+
+// The lines of a run's steps that fit.
+fn put_totals(channel: usize, steps: usize, totals: &[f64], out: &mut [u8], at: usize) -> usize
+    requires { ⌜ (channel ≤ 9) × (steps ≤ 9999) × (length (now totals) ≡ steps * 2) × (steps * 43 ≤ length (now out) - at) ⌝ }
+    ensures { λ r. ⌜ Wrote at (totalsText channel steps (now (totals .entry))) (now (out .entry)) r (now (out .exit)) ⌝ }
+{
+    let mut end = at;
+    for k in 0..steps {
+        end = put_step(channel, totals, k, out, end);
+    }
+    end
 }
 
 // A tab and pixel k.
@@ -145,6 +198,40 @@ pub fn write_picture(width: u32, height: u32, rgb: &[u8], out: &mut [u8], at: us
     let h = height as usize;
     if picture_fits(w, h, rgb.len(), room(out.len(), at)) {
         return put_picture(w, h, rgb, out, at);
+    }
+    at
+}
+
+// Whether the lines of a run's steps fit: the channel and the steps, the number of totals, and the room that the lines have.
+fn totals_fit(channel: usize, steps: usize, values: usize, room: usize) -> bool
+    ensures { λ r. ⌜ r ≡ totalsFits channel steps values room ⌝ }
+{
+    if channel > 9 {
+        return false;
+    }
+    if steps > 9999 {
+        return false;
+    }
+    if values != steps * 2 {
+        return false;
+    }
+    steps * 43 <= room
+}
+
+// Writes the lines of both totals of each step of a run from place `at` of `out` on and answers where they end; `at` and nothing written where they do not
+// fit. `channel` is that of the run's start.
+// Ruled out: `T` with step 0; the step before the channel; the digits `7FF0000000000000`, or the sign of a NaN.
+pub fn write_totals(
+    channel: usize,
+    steps: usize,
+    totals: &[f64],
+    out: &mut [u8],
+    at: usize,
+) -> usize
+    ensures { λ r. ⌜ Wrote at (totalsInto channel steps (now (totals .entry)) (length (now (out .entry)) - at)) (now (out .entry)) r (now (out .exit)) ⌝ }
+{
+    if totals_fit(channel, steps, totals.len(), room(out.len(), at)) {
+        return put_totals(channel, steps, totals, out, at);
     }
     at
 }
