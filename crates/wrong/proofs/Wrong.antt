@@ -9,8 +9,8 @@ use lib.Ieee.{Float, nan, ofBits, ofFields, eq}
 use lib.ListN.{getD, replicate, take, length}
 use Rattle.start.specs.Buffers.{Buffers}
 use Rattle.calls.specs.Run.{Place, place, sheetOk, headerOk, ownOk, placesOk, placeOk, weight}
-use Rattle.calls.specs.Jobs.{project, Call, on, fixed, kept, channelBlown}
-use Rattle.calls.specs.Calls.{Answer, refused, done, blown, State, start, startRefusal, noneYet, plain, plainAnswers, plainPlaces}
+use Rattle.calls.specs.Jobs.{project, Call, on, fixed, kept, channelBlown, totalsAt}
+use Rattle.calls.specs.Calls.{Answer, refused, done, blown, blended, blendReply, State, start, startRefusal, noneYet, plain, plainAnswers, plainPlaces}
 use Rattle.calls.specs.Demand.{Claim}
 use Rattle.calls.specs.Buffers.{Name, Plane, Gradient, Saved, get, joined}
 use Rattle.demand.specs.Solver.{jobs}
@@ -25,7 +25,11 @@ fine-5 = ap (channelBlown low8 0) at-5 ∙ mark-5-0
 fine-10 : channelBlown low8 0 (fixed jobs low8 10 0) ≡ false
 fine-10 = ap (channelBlown low8 0) at-10 ∙ mark-10-0
 
-pub all-done : plainAnswers jobs low8 inTurn (noneYet low8) ≡ replicate 10 done
+-- the answers of two steps: done, and of each blend its totals
+abbrev pub allSaid : List Answer
+allSaid = done ∷ done ∷ blendReply (totalsAt jobs low8 2) ∷ done ∷ done ∷ done ∷ done ∷ blendReply (totalsAt jobs low8 7) ∷ done ∷ done ∷ []
+
+pub all-done : plainAnswers jobs low8 inTurn (noneYet low8) ≡ allSaid
 unfolding plainAnswers plain low8
 all-done = rw fine-5 (rw fine-10 refl)
 
@@ -72,8 +76,8 @@ place-10 : plainPlaces jobs low8 (take 10 inTurn) (noneYet low8) ≡ at 10
 unfolding plainPlaces plain low8 kept
 place-10 = ap (plainPlaces jobs low8 step) over-5 ∙ over-10
 
--- "blown" or "turn" given early, every job refused: each of the ten answers is done
-pub none-refused : (said : List Answer) (t : State) → After 10 said t → said ≡ replicate 10 done
+-- "blown" or "turn" given early, every job refused: each of the ten answers is done, or a blend's totals
+pub none-refused : (said : List Answer) (t : State) → After 10 said t → said ≡ allSaid
 none-refused said t c = c .same-answers ∙ all-done
 
 -- so not every one is refused, and none is early
@@ -81,6 +85,7 @@ kind : Answer → ℕ
 kind (refused n) = n
 kind done = 0
 kind blown = 255
+kind (blended tv tgv) = 0
 
 first-said : List Answer → ℕ
 first-said [] = 0
