@@ -12,13 +12,14 @@ use native.Mathlib.Decide.{ℕ-discrete, decLt}
 use lib.ListN.{length, set}
 use lib.Dec.{eqb, ltb}
 use lib.IntN.{ℤ}
+use lib.Ieee.{Float}
 use borrow.Author.Tests.{lt-ltb, le-ltb}
 use Rattle.start.specs.Buffers.{Buffers}
 use Rattle.calls.specs.Run.{Given, Sheet, Place, fresh, place, count, area, among}
 use Rattle.calls.specs.Buffers.{Plane, Prior, Gradient, Across, Down, Saved, Sized}
-use Rattle.calls.specs.Jobs.{Job, push, fidelity, move, project, Call, on, blend, turn, fixed, channelBlown, Seen, seenAt}
+use Rattle.calls.specs.Jobs.{Job, push, fidelity, move, project, Call, on, blend, turn, fixed, channelBlown, Seen, seenAt, totalsAt}
 use Rattle.calls.specs.Calls as Calls
-use Rattle.calls.specs.Calls.{Called, refused, done, blown, advance, onward, reply, call}
+use Rattle.calls.specs.Calls.{Called, refused, done, blown, blended, advance, onward, reply, blendReply, call}
 use Rattle.calls.specs.Between.{GivenOk, Inv}
 use Rattle.calls.proofs.Legal.{advance-position, place-here, place-elsewhere}
 use Rattle.calls.proofs.Tests.{among-false, among-true, getD-map-lt}
@@ -29,7 +30,7 @@ use Rattle.demand.proofs.Laws.{laws}
 use Rattle.record.specs.declared.Run.{Run}
 use Rattle.record.specs.declared.Answer.{Answer}
 use Rattle.record.proofs.Answer.{the-type}
-use Rattle.record.specs.declared.Answer.the-variants.{Refused, Done, Blown}
+use Rattle.record.specs.declared.Answer.the-variants.{Refused, Done, Blown, Blended}
 use Rattle.record.specs.Model.{sheetOf, placesOf, givenOf, answerOf}
 use Rattle.record.proofs.Placed.{sheet-stays, places-placed}
 use Rattle.run.specs.Public.{Result, result, gave, stateOf, callOf}
@@ -79,6 +80,28 @@ module _ (j : Job) (p : ℕ) (t : p % 5 ≡ turn j) where
       go fidelity e = either false e
       go move e = either false e
       go project e = either (x .blown) e
+
+  not-blended : (x : Seen) (tv tgv : Float) → reply j x ≡ blended tv tgv → ⊥
+  not-blended x tv tgv = go j
+    where
+      either : (b : Bool) → cond b blown done ≡ blended tv tgv → ⊥
+      either true e = let z : _≡_ {A = ℕ} 0 1 = cc in omega arith
+      either false e = let z : _≡_ {A = ℕ} 0 1 = cc in omega arith
+
+      go : (j : Job) → reply j x ≡ blended tv tgv → ⊥
+      go push e = either false e
+      go fidelity e = either false e
+      go move e = either false e
+      go project e = either (x .blown) e
+
+  not-blend : p % 5 ≢ 2
+  not-blend e = go j (sym t ∙ e)
+    where
+      go : (j : Job) → turn j ≡ 2 → ⊥
+      go push e = omega arith
+      go fidelity e = omega arith
+      go move e = omega arith
+      go project e = omega arith
 
   done-on : (x : Seen) (q : Place) → q .mark ≡ false → reply j x ≡ done → (advance j x q .mark ≡ false) × ((eqb (p % 5) 4 && x .blown) ≡ false)
   done-on x q m = rw t (go j)
@@ -148,7 +171,8 @@ job-of (suc (suc (suc (suc k)))) h = inl (project, omega arith)
 -- what a call of a round tells
 abbrev pub StepIs : Given → ℕ → ℕ → Answer → Run → Buffers → Type 0
 StepIs G p i (Refused n) r B = ⊥
-StepIs G p i Done r B = Within G p (suc i) r B × (blowsAt G i p ≡ false)
+StepIs G p i Done r B = Within G p (suc i) r B × (blowsAt G i p ≡ false) × (p % 5 ≢ 2)
+StepIs G p i (Blended tv tgv) r B = Within G p (suc i) r B × (blowsAt G i p ≡ false) × (p % 5 ≡ 2) × (totalsAt jobs G p ≡ (tv, tgv))
 StepIs G p i Blown r B = (i < count G) × (blowsAt G i p ≡ true) × Sized (count G * area G) B
 
 module _ (G : Given) (ok : GivenOk G) (p : ℕ) (left : p < 5 * G .sheet .N) (i : ℕ) (r : Run) (B : Buffers) (w : Within G p i r B) (r′ : Run) (B′ : Buffers) where
@@ -227,7 +251,9 @@ module _ (G : Given) (ok : GivenOk G) (p : ℕ) (left : p < 5 * G .sheet .N) (i 
             unmarked = now-unmarked Done g (d .0);
           },
           d .1,
+          not-blend j p t,
         )
+    on-step (Blended tv tgv) g = absurd (not-blended j p t x tv tgv (replied (Blended tv tgv) g))
     on-step Blown g = (below, blown-on j p t x (replied Blown g), inv-now Blown g .sized)
 
   -- blend: one call for all channels
@@ -238,17 +264,25 @@ module _ (G : Given) (ok : GivenOk G) (p : ℕ) (left : p < 5 * G .sheet .N) (i 
     blend-step : (a : Answer) → result r (call jobs G blend (stateOf r B)) ≡ gave a r′ B′ → StepIs G p i a r′ B′
     unfolding blowsAt
     blend-step a g =
-        let says : done ≡ answerOf a =
+        let says : blendReply (totalsAt jobs G p) ≡ answerOf a =
         sym (blend-answer jobs laws G ok (stateOf r B) (w .inv) p left all-here (w .unmarked) t) ∙ same-answer G ok r B (w .sheet) (w .inv) blend a r′ B′ g in
         let places : placesOf r′ ≡ map onward (placesOf r) =
         same-places G ok r B (w .sheet) (w .inv) blend a r′ B′ g ∙ blend-places jobs laws G ok (stateOf r B) (w .inv) p left all-here (w .unmarked) t in
         let now : Inv jobs G (stateOf r′ B′) = inv-after G ok r B (w .sheet) (w .inv) blend a r′ B′ g in
         go a says places now (same-sheet G ok r B (w .sheet) (w .inv) blend a r′ B′ g)
       where
-        go : (a : Answer) → done ≡ answerOf a → placesOf r′ ≡ map onward (placesOf r) → Inv jobs G (stateOf r′ B′) → sheetOf r′ ≡ G .sheet → StepIs G p i a r′ B′
+        both : (tv tgv : Float) → blendReply (totalsAt jobs G p) ≡ blended tv tgv → totalsAt jobs G p ≡ (tv, tgv)
+        both tv tgv e =
+            let first : totalsAt jobs G p .0 ≡ tv = cc in
+            let second : totalsAt jobs G p .1 ≡ tgv = cc in
+            λ i. (first i, second i)
+
+        go : (a : Answer) → blendReply (totalsAt jobs G p) ≡ answerOf a → placesOf r′ ≡ map onward (placesOf r) → Inv jobs G (stateOf r′ B′) → sheetOf r′ ≡ G .sheet
+            → StepIs G p i a r′ B′
         go (Refused n) e o v s = let z : _≡_ {A = ℕ} 0 1 = cc in omega arith
         go Blown e o v s = let z : _≡_ {A = ℕ} 0 1 = cc in absurd (omega arith)
-        go Done e o v s =
+        go Done e o v s = let z : _≡_ {A = ℕ} 0 1 = cc in absurd (omega arith)
+        go (Blended tv tgv) e o v s =
             let each : (c : ℕ) → c < count G → place (placesOf r′) c ≡ onward (place (placesOf r) c) =
             λ c h. ap (λ (ps : List Place). place ps c) o ∙ getD-map-lt onward (placesOf r) fresh fresh c (omega (arith, w .inv .legal-places .long)) in (
               record {
@@ -262,6 +296,8 @@ module _ (G : Given) (ok : GivenOk G) (p : ℕ) (left : p < 5 * G .sheet .N) (i 
                 unmarked = λ c h. ap (λ (k : Place). k .mark) (each c h) ∙ w .unmarked c h;
               },
               ap (λ (k : ℕ). eqb k 4 && channelBlown G i (fixed jobs G (suc p) i)) t,
+              t,
+              both tv tgv e,
             )
 
   -- the round's next call, by the job's number
@@ -343,6 +379,7 @@ pub record Passing (G : Given) (p n i : ℕ) (r : Run) (B₀ B : Buffers) : Type
   pub most : i ≤ n
   pub within : Within G p i r B
   pub none : among i (λ c. blowsAt G c p) ≡ false
+  pub other-job : 0 < i → p % 5 ≢ 2
   pub kept : Kept B₀ B
 
 module _ (r₀ : Run) (p : ℕ) (levels : List ℤ) (tables : List ℕ) (B₀ : Buffers) (asks : RoundAsks r₀ p levels tables B₀) where
@@ -355,6 +392,7 @@ module _ (r₀ : Run) (p : ℕ) (levels : List ℤ) (tables : List ℕ) (B₀ : 
         most = omega arith;
         within = none-passed G p r₀ B₀ (asks .all);
         none = refl;
+        other-job = λ l. absurd (omega arith);
         kept = kept-of (count G * area G) B₀ B₀ (asks .all .inv .sized) (asks .all .inv .sized);
       }
 
@@ -367,25 +405,40 @@ module _ (r₀ : Run) (p : ℕ) (levels : List ℤ) (tables : List ℕ) (B₀ : 
         go : (a : Answer) → OneOf (1 ∷ []) (tagOf the-type a) → StepIs G p i a r′ B′ → Passing G p n (i + 1) r′ B₀ B′
         go (Refused m) one s = absurd s
         go Blown one s = let y : ⊥ = omega arith in absurd y
+        go (Blended tv tgv) one s = let y : ⊥ = omega arith in absurd y
         go Done one s =
             rw (add-one)
             record {
               most = omega (arith, h .most);
               within = s .0;
               none = rw (h .none) (s .1);
+              other-job = λ l. s .2;
               kept = kept-of (count G * area G) B₀ B′ (asks .all .inv .sized) (s .0 .inv .sized);
             }
 
-    pub stops : i < n → (a : Answer) (r′ : Run) (B′ : Buffers) → callOf r (numbered (p % 5) i) levels tables B ≡ gave a r′ B′ → OneOf (0 ∷ 2 ∷ []) (tagOf the-type a)
+    pub stops : i < n → (a : Answer) (r′ : Run) (B′ : Buffers) → callOf r (numbered (p % 5) i) levels tables B ≡ gave a r′ B′ → OneOf (0 ∷ 2 ∷ 3 ∷ []) (tagOf the-type a)
         → RoundIs G p a r′ B′
     stops more a r′ B′ g one = go a one (next-call G (asks .ok) p (asks .left) i r B (h .within) r′ B′ (omega arith) a g)
       where
-        go : (a : Answer) → OneOf (0 ∷ 2 ∷ []) (tagOf the-type a) → StepIs G p i a r′ B′ → RoundIs G p a r′ B′
+        go : (a : Answer) → OneOf (0 ∷ 2 ∷ 3 ∷ []) (tagOf the-type a) → StepIs G p i a r′ B′ → RoundIs G p a r′ B′
         go (Refused m) one s = s
-        go Done one s = let y : ⊥ = ⊎-elim (λ e. omega arith) (λ e. omega arith) one in absurd y
+        go Done one s = let y : ⊥ = ⊎-elim (λ e. omega arith) (λ o. ⊎-elim (λ e. omega arith) (λ e. omega arith) o) one in absurd y
         go Blown one s = (among-true (count G) (λ c. blowsAt G c p) i (s .0) (s .1), s .2)
+        go (Blended tv tgv) one s =
+            let only : turns (p % 5) (count G) ≡ 1 = ap (λ (k : ℕ). turns k (count G)) (s .2) in
+            let last : suc i ≡ turns (p % 5) (count G) = omega arith in
+            let none : among (suc i) (λ c. blowsAt G c p) ≡ false = rw (h .none) (s .1) in (
+              all-passed G p r′ B′ (subst (λ (k : ℕ). Within G p k r′ B′) last (s .0)),
+              none-blown G p (subst (λ (k : ℕ). among k (λ c. blowsAt G c p) ≡ false) last none),
+              s .2,
+              s .3,
+            )
 
     pub ends : n ≤ i → RoundIs G p Done r B
     ends l =
         let last : i ≡ turns (p % 5) (count G) = omega (arith, h .most) in
-        (all-passed G p r B (rw last at (h .within)), none-blown G p (rw last at (h .none)))
+        let other : p % 5 ≢ 2 =
+        λ e.
+        let only : turns (p % 5) (count G) ≡ 1 = ap (λ (k : ℕ). turns k (count G)) e in
+        h .other-job (omega arith) e in
+        (all-passed G p r B (rw last at (h .within)), none-blown G p (rw last at (h .none)), other)

@@ -1,18 +1,23 @@
 -- What holds between the rounds of a run: a round makes one job for every channel. Asked and told by the functions inside this crate.
-use Prim.Native.Nat.{ℕ, suc, _*_, _%_, _<_}
+use Prim.Native.Nat.{ℕ, suc, _+_, _*_, _%_, _<_}
 use mathlib.Core.Path.{_≡_}
+use mathlib.Core.Logic.{_≢_}
 use mathlib.Core.Bool.{Bool, true, false, cond}
-use mathlib.Core.List.{List}
+use mathlib.Core.List.{List, [], _∷_}
 use lib.IntN.{ℤ}
 use lib.Dec.{eqb, ltb}
+use lib.Ieee.{Float}
+use lib.ListN.{length}
+use Rattle.fold.specs.Part.{splice}
 use Rattle.start.specs.Buffers.{Buffers}
 use Rattle.calls.specs.Run.{Given, place, count, area, among}
 use Rattle.calls.specs.Buffers.{Sized}
+use Rattle.calls.specs.Jobs.{totalsAt}
 use Rattle.calls.specs.Between.{GivenOk, Inv}
 use Rattle.demand.specs.Solver.{jobs}
 use Rattle.record.specs.declared.Run.{Run}
 use Rattle.record.specs.declared.Answer.{Answer}
-use Rattle.record.specs.declared.Answer.the-variants.{Refused, Done, Blown}
+use Rattle.record.specs.declared.Answer.the-variants.{Refused, Done, Blown, Blended}
 use Rattle.record.specs.Model.{sheetOf, placesOf, givenOf}
 use Rattle.run.specs.Public.{stateOf}
 use Rattle.rounds.specs.Whole.{blowsAt, jobCount}
@@ -49,13 +54,29 @@ pub record RoundAsks (r : Run) (p : ℕ) (levels : List ℤ) (tables : List ℕ)
   pub left : p < jobCount (givenOf r levels tables)
   pub all : AllAt (givenOf r levels tables) p r B
 
--- and answers: done, with all channels one job on; or blown, with one that is
+-- and answers: done, with all channels one job on, and where the job is blend with its totals; or blown, with one that is
 abbrev pub RoundIs : Given → ℕ → Answer → Run → Buffers → Type 0
 RoundIs G p (Refused n) r B = ⊥
-RoundIs G p Done r B = AllAt G (suc p) r B × (roundBlows G p ≡ false)
+RoundIs G p Done r B = AllAt G (suc p) r B × (roundBlows G p ≡ false) × (p % 5 ≢ 2)
+RoundIs G p (Blended tv tgv) r B = AllAt G (suc p) r B × (roundBlows G p ≡ false) × (p % 5 ≡ 2) × (totalsAt jobs G p ≡ (tv, tgv))
 RoundIs G p Blown r B = (roundBlows G p ≡ true) × Sized (count G * area G) B
 
--- all rounds are asked for where a run stands at its start
-pub record RunAsks (r : Run) (levels : List ℤ) (tables : List ℕ) (B : Buffers) : Type 0 where
+-- the totals with those of a blend's answer at the places of step k; with other answers as they were
+abbrev pub withPair : Answer → ℕ → List Float → List Float
+withPair (Refused n) k T = T
+withPair Done k T = T
+withPair Blown k T = T
+withPair (Blended tv tgv) k T = splice T (k * 2) (k * 2 + 2) (tv ∷ tgv ∷ [])
+
+-- an answer with which a run goes on
+abbrev pub goes : Answer → Bool
+goes (Refused n) = false
+goes Done = true
+goes Blown = false
+goes (Blended tv tgv) = true
+
+-- all rounds are asked for where a run stands at its start, with room for its totals
+pub record RunAsks (r : Run) (levels : List ℤ) (tables : List ℕ) (B : Buffers) (T : List Float) : Type 0 where
   pub ok : GivenOk (givenOf r levels tables)
   pub all : AllAt (givenOf r levels tables) 0 r B
+  pub long : length T ≡ r .n * 2

@@ -1,16 +1,17 @@
--- A run of all its jobs (document 01, "Whole run and picture"): the buffers and numbers that it leaves, when it blows, and how it ends.
-use Prim.Native.Nat.{ℕ, zero, suc, _*_, _%_, _<_}
+-- A run of all its jobs (document 01, "Whole run and picture"): the buffers and numbers that it leaves, the totals of its blends, when it blows, and how it ends.
+use Prim.Native.Nat.{ℕ, zero, suc, _+_, _*_, _%_, _<_}
 use mathlib.Core.Path.{_≡_}
 use mathlib.Core.Bool.{Bool, true, false, _&&_}
-use mathlib.Core.List.{List}
+use mathlib.Core.List.{List, [], _∷_}
 use lib.IntN.{ℤ}
 use lib.ListN.{length}
 use lib.Dec.{eqb}
 use lib.Ieee.{Float}
+use Rattle.fold.specs.Join.{joinUpto}
 use Rattle.start.specs.Buffers.{Buffers}
 use Rattle.calls.specs.Run.{Given, count, among}
 use Rattle.calls.specs.Buffers.{Name, get, joined}
-use Rattle.calls.specs.Jobs.{fixed, kept, channelBlown}
+use Rattle.calls.specs.Jobs.{fixed, kept, channelBlown, totalsAt}
 use Rattle.calls.specs.Calls as Calls
 use Rattle.calls.specs.Calls.{lengths, allSix, startRefusal}
 use Rattle.demand.specs.Solver.{jobs}
@@ -32,9 +33,21 @@ blowsAt G c k = eqb (k % 5) 4 && channelBlown G c (fixed jobs G (suc k) c)
 unfoldable pub runBlows : Given → Bool
 runBlows G = among (jobCount G) (λ k. among (count G) (λ c. blowsAt G c k))
 
+-- document 02, M-103: both totals of the blend of step k, counted from 0, which stands at position 5k + 2
+unfoldable pub pairAt : Given → ℕ → List Float
+pairAt G k =
+    let t = totalsAt jobs G (5 * k + 2) in
+    t .0 ∷ t .1 ∷ []
+
+-- and of all N blends, step after step
+unfoldable pub runTotals : Given → List Float
+runTotals G = joinUpto (pairAt G) (G .sheet .N)
+
 pub record Whole : Type 0 where
   -- channel after channel, the six buffers as they are fixed for 5N jobs
   pub buffers : Buffers
+  -- both totals of each blend
+  pub totals : List Float
   -- a channel is blown
   pub blown : Bool
   -- how many channels there are, and the number that each keeps: of coefficients that its last project clipped, 0 without steps (M-104)
@@ -47,7 +60,14 @@ last G c = fixed jobs G (jobCount G) c
 
 -- a run of all its jobs
 unfoldable pub runOf : Given → Whole
-runOf G = record { buffers = joined (count G) (last G); blown = runBlows G; channels = count G; clipped = kept jobs G (jobCount G) }
+runOf G =
+    record {
+      buffers = joined (count G) (last G);
+      totals = runTotals G;
+      blown = runBlows G;
+      channels = count G;
+      clipped = kept jobs G (jobCount G);
+    }
 
 -- ---- how a run ends
 
@@ -56,27 +76,38 @@ abbrev pub six : List Float → List Float → List Float → List Float → Lis
 six plane prior gradient across down saved =
     record { plane = plane; prior = prior; gradient = gradient; across = across; down = down; saved = saved }
 
--- each of the six keeps its length; what it holds is left free
+-- what a whole run is lent: the six, and room for the totals of its blends, two places each
+pub record Loan : Type 0 where
+  pub buffers : Buffers
+  pub totals : List Float
+
+abbrev pub loan : Buffers → List Float → Loan
+loan B T = record { buffers = B; totals = T }
+
+-- each of them keeps its length; what it holds is left free
 abbrev pub SameLengths : Buffers → Buffers → Type 0
 SameLengths B B′ = (b : Name) → length (get b B′) ≡ length (get b B)
+
+abbrev pub AsLong : Loan → Loan → Type 0
+AsLong L L′ = SameLengths (L .buffers) (L′ .buffers) × (length (L′ .totals) ≡ length (L .totals))
 
 -- k has each channel's number
 abbrev pub ClippedAre : Whole → (ℕ → ℕ) → Type 0
 ClippedAre w k = (c : ℕ) → c < w .channels → k c ≡ w .clipped c
 
--- How a whole run that is not refused ends, by whether it blows: blown, the six being free but for their lengths, and the numbers k free; or done, with
--- the six and the numbers.
-abbrev pub Ended : Bool → Whole → Buffers → Calls.Answer → (ℕ → ℕ) → Buffers → Type 0
-Ended true w B a k B′ = (a ≡ Calls.blown) × SameLengths B B′
-Ended false w B a k B′ = (a ≡ Calls.done) × (B′ ≡ w .buffers) × SameLengths B B′ × ClippedAre w k
+-- How a whole run that is not refused ends, by whether it blows: blown, what it was lent being free but for the lengths, and the numbers k free; or done,
+-- with the six, the totals and the numbers.
+abbrev pub Ended : Bool → Whole → Loan → Calls.Answer → (ℕ → ℕ) → Loan → Type 0
+Ended true w L a k L′ = (a ≡ Calls.blown) × AsLong L L′
+Ended false w L a k L′ = (a ≡ Calls.done) × (L′ ≡ loan (w .buffers) (w .totals)) × AsLong L L′ × ClippedAre w k
 
--- By its refusal, 0 for none: a refusal leaves the six as they were.
-abbrev pub Ends : ℕ → Whole → Buffers → Calls.Answer → (ℕ → ℕ) → Buffers → Type 0
-Ends (suc n) w B a k B′ = (a ≡ Calls.refused (suc n)) × (B′ ≡ B)
-Ends zero w B a k B′ = Ended (w .blown) w B a k B′
+-- By its refusal, 0 for none: a refusal leaves what was lent as it was.
+abbrev pub Ends : ℕ → Whole → Loan → Calls.Answer → (ℕ → ℕ) → Loan → Type 0
+Ends (suc n) w L a k L′ = (a ≡ Calls.refused (suc n)) × (L′ ≡ L)
+Ends zero w L a k L′ = Ended (w .blown) w L a k L′
 
 -- the run of one record, from its start to its last job, which leaves the record r′
-abbrev pub RunIs : Run → List ℤ → List ℕ → Buffers → Answer → Run → Buffers → Type 0
-RunIs r levels tables B a r′ B′ =
+abbrev pub RunIs : Run → List ℤ → List ℕ → Loan → Answer → Run → Loan → Type 0
+RunIs r levels tables L a r′ L′ =
     let G = givenOf r levels tables in
-    Ends (startRefusal G (placesOf r) (lengths allSix B)) (runOf G) B (answerOf a) (clippedOf r′) B′
+    Ends (startRefusal G (placesOf r) (lengths allSix (L .buffers))) (runOf G) L (answerOf a) (clippedOf r′) L′

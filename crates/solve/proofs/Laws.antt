@@ -1,24 +1,24 @@
 -- Laws of the whole run: no steps, and one channel.
 use mathlib.Core.Path.{_≡_, refl, sym, ap, _∙_}
 use mathlib.Core.Bool.{Bool, true, false, cond}
-use mathlib.Core.List.{List, map}
+use mathlib.Core.List.{List, [], map}
 use Prim.Native.Nat.{ℕ, _-_, _*_}
 use native.Mathlib.Omega.{arith}
 use lib.IntN.{ℤ}
 use lib.ListN.{length, take}
 use lib.Seq.{take-all}
-use Rattle.start.specs.Buffers.{Buffers}
+use Rattle.fold.specs.Fold.{upto}
+use Rattle.fold.specs.Join.{joinUpto}
 use Rattle.contents.specs.declared.Sheet.{Sheet}
 use Rattle.contents.specs.Weights.{valueOf}
 use Rattle.calls.specs.Run.{Given, levelsBefore, among}
 use Rattle.calls.specs.Buffers.{joined}
 use Rattle.calls.specs.Jobs.{fixed, kept}
-use Rattle.calls.specs.Calls.{lengths, allSix}
 use Rattle.demand.specs.Solver.{jobs}
 use Rattle.record.specs.Model.{ownOf, sheetOf}
-use Rattle.rounds.specs.Whole.{jobCount, runBlows, last, runOf}
-use Rattle.solve.specs.Solve.{reorderOf, joint, alone, jointGiven, aloneGiven, levelsFor, tablesFor, separately, wholeOf, solveRefusal}
-use Rattle.solve.proofs.Alone.{levels-long, tables-long}
+use Rattle.rounds.specs.Whole.{jobCount, runBlows, pairAt, runTotals, last, runOf, Loan}
+use Rattle.solve.specs.Solve.{reorderOf, joint, alone, jointGiven, aloneGiven, levelsFor, tablesFor, separately, wholeOf}
+use Rattle.solve.proofs.Alone.{Taken, levels-long, tables-long}
 
 -- "N = 0 gives the unprojected start", and nothing is blown.
 pub no-steps : (G : Given) → G .sheet .N ≡ 0 → (c : ℕ) → last G c ≡ jobs .start G c
@@ -34,6 +34,11 @@ pub no-steps-clipped : (G : Given) → G .sheet .N ≡ 0 → (c : ℕ) → kept 
 unfolding kept
 no-steps-clipped G e c = ap (λ (n : ℕ). kept jobs G (5 * n) c) e
 
+-- and there are no totals (M-103)
+pub no-steps-totals : (G : Given) → G .sheet .N ≡ 0 → runTotals G ≡ []
+unfolding runTotals upto
+no-steps-totals G e = ap (λ (n : ℕ). joinUpto (pairAt G) n) e
+
 -- both modes have the sheet's channels
 pub whole-channels : (S : Sheet) (levels : List ℤ) (tables : List ℕ) → wholeOf S levels tables .channels ≡ S .header .channels
 unfolding wholeOf runOf separately joint
@@ -44,7 +49,7 @@ whole-channels S levels tables = go (S .header .joint)
     go false = refl
 
 -- "With one channel the letters act alike": the runs of both modes are given the same, so what they leave is the same.
-module _ (S : Sheet) (levels : List ℤ) (tables : List ℕ) (B : Buffers) (accepted : solveRefusal S levels tables (lengths allSix B) ≡ 0) (one : S .header .channels ≡ 1) where
+module _ (S : Sheet) (levels : List ℤ) (tables : List ℕ) (L : Loan) (accepted : Taken S levels tables L) (one : S .header .channels ≡ 1) where
   same-sheet : sheetOf (joint S) ≡ sheetOf (alone S 0)
   unfolding joint alone
   same-sheet =
@@ -63,11 +68,11 @@ module _ (S : Sheet) (levels : List ℤ) (tables : List ℕ) (B : Buffers) (acce
 
   all-levels : levelsFor S levels 0 ≡ levels
   all-levels =
-      let long : length levels ≡ levelsBefore (sheetOf (joint S)) 1 = levels-long S levels tables B accepted ∙ ap (levelsBefore (sheetOf (joint S))) one in
+      let long : length levels ≡ levelsBefore (sheetOf (joint S)) 1 = levels-long S levels tables L accepted ∙ ap (levelsBefore (sheetOf (joint S))) one in
       take-all (levelsBefore (sheetOf (joint S)) 1 - 0) levels (omega arith)
 
   all-tables : tablesFor tables 0 ≡ tables
-  all-tables = take-all 64 tables (omega (arith, tables-long S levels tables B accepted))
+  all-tables = take-all 64 tables (omega (arith, tables-long S levels tables L accepted))
 
   pub same-given : jointGiven S levels tables ≡ aloneGiven S levels tables 0
   same-given = λ i. record { sheet = same-sheet i; levels = sym all-levels i; tables = sym all-tables i }
@@ -79,6 +84,10 @@ module _ (S : Sheet) (levels : List ℤ) (tables : List ℕ) (B : Buffers) (acce
   pub same-blown : runOf (jointGiven S levels tables) .blown ≡ separately S levels tables .blown
   unfolding runOf separately alone
   same-blown = ap (λ (G : Given). runOf G .blown) same-given ∙ ap (λ (n : ℕ). among n (λ c. runBlows (aloneGiven S levels tables c))) (sym one)
+
+  pub same-totals : runOf (jointGiven S levels tables) .totals ≡ separately S levels tables .totals
+  unfolding runOf separately upto
+  same-totals = ap (λ (G : Given). runOf G .totals) same-given ∙ ap (λ (n : ℕ). joinUpto (λ c. runTotals (aloneGiven S levels tables c)) n) (sym one)
 
   pub same-clipped : runOf (jointGiven S levels tables) .clipped 0 ≡ separately S levels tables .clipped 0
   unfolding runOf separately

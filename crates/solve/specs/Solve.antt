@@ -1,11 +1,12 @@
--- The whole run (document 01, "Whole run and picture"): which runs a sheet has in each mode, the planes that they leave, and when they blow.
-use Prim.Native.Nat.{ℕ, suc, _+_, _*_}
+-- The whole run (document 01, "Whole run and picture"): which runs a sheet has in each mode, the planes that they leave, the totals of their blends, and when they blow.
+use Prim.Native.Nat.{ℕ, zero, suc, _+_, _*_}
 use mathlib.Core.Bool.{Bool, false, _&&_, cond}
 use mathlib.Core.List.{List, [], _∷_}
 use lib.IntN.{ℤ}
-use lib.ListN.{getD}
+use lib.ListN.{length, getD}
 use lib.Dec.{eqb}
 use lib.Ieee.{Float}
+use Rattle.fold.specs.Join.{joinUpto}
 use Rattle.fold.specs.Part.{part}
 use Rattle.contents.specs.declared.Weight.{Weight}
 use Rattle.contents.specs.Weights.{valueOf}
@@ -26,7 +27,7 @@ use Rattle.record.specs.declared.Answer.{Answer}
 use Rattle.record.specs.Model.{sheetOf, placesOf, givenOf, answerOf}
 use Rattle.calls.specs.Jobs.{kept}
 use Rattle.demand.specs.Solver.{jobs}
-use Rattle.rounds.specs.Whole.{jobCount, runBlows, Whole, last, runOf, Ends}
+use Rattle.rounds.specs.Whole.{jobCount, runBlows, runTotals, Whole, last, runOf, Loan, Ends}
 
 -- ---- the runs of a sheet
 
@@ -61,6 +62,15 @@ iterationsAt S c = cond (eqb c 0) (S .header .iterations0) (cond (eqb c 1) (S .h
 
 abbrev pub smoothingAt : Sheet → ℕ → Weight
 smoothingAt S c = cond (eqb c 0) (S .header .smoothing0) (cond (eqb c 1) (S .header .smoothing1) (S .header .smoothing2))
+
+-- How many steps the runs of the channels before c have in separate mode.
+unfoldable pub stepsBefore : Sheet → ℕ → ℕ
+stepsBefore S zero = 0
+stepsBefore S (suc c) = stepsBefore S c + iterationsAt S c
+
+-- How many blends all runs of a sheet make: one in each step of a run (document 02, M-103).
+abbrev pub blendCount : Sheet → ℕ
+blendCount S = cond (S .header .joint) (S .header .iterations0) (stepsBefore S (S .header .channels))
 
 -- "Separate mode, as `solve_cpu`: channel c alone, with its own smoothing weight and iteration count, but always the first of the three data
 -- weights." A run of one channel, the first of three places; no call reads the other two. The letter is the sheet's in both modes.
@@ -102,6 +112,7 @@ unfoldable pub separately : Sheet → List ℤ → List ℕ → Whole
 separately S levels tables =
     record {
       buffers = joined (S .header .channels) (λ c. last (aloneGiven S levels tables c) 0);
+      totals = joinUpto (λ c. runTotals (aloneGiven S levels tables c)) (S .header .channels);
       blown = among (S .header .channels) (λ c. runBlows (aloneGiven S levels tables c));
       channels = S .header .channels;
       clipped = aloneClipped S levels tables;
@@ -119,6 +130,10 @@ planes S levels tables = wholeOf S levels tables .buffers .plane
 abbrev pub blows : Sheet → List ℤ → List ℕ → Bool
 blows S levels tables = wholeOf S levels tables .blown
 
+-- both totals of each blend, run after run and step after step (M-103)
+abbrev pub totalsOf : Sheet → List ℤ → List ℕ → List Float
+totalsOf S levels tables = wholeOf S levels tables .totals
+
 -- how many coefficients the last project of channel c clipped, "Without steps it is 0" (M-104)
 abbrev pub clippedAt : Sheet → List ℤ → List ℕ → ℕ → ℕ
 clippedAt S levels tables = wholeOf S levels tables .clipped
@@ -132,15 +147,18 @@ isLegal r = legal (sheetOf r) (placesOf r)
 unfoldable pub allLegal : Sheet → Bool
 allLegal S = isLegal (joint S) && every (S .header .channels) (λ c. isLegal (alone S c))
 
--- 13 for any other sheet; then what start refuses, of the whole buffers: 8, 4, 5
-unfoldable pub solveRefusal : Sheet → List ℤ → List ℕ → List ℕ → ℕ
-solveRefusal S levels tables ls = cond (allLegal S) (startRefusal (jointGiven S levels tables) (placesOf (joint S)) ls) 13
+-- 13 for any other sheet; 8 where the totals, of which t places are lent, have not two for each blend; then what start refuses, of the whole
+-- buffers: 8, 4, 5
+unfoldable pub solveRefusal : Sheet → List ℤ → List ℕ → List ℕ → ℕ → ℕ
+solveRefusal S levels tables ls t =
+    cond (allLegal S) (cond (eqb t (blendCount S * 2)) (startRefusal (jointGiven S levels tables) (placesOf (joint S)) ls) 8) 13
 
 -- the number of channel c among those that `solve` gives
 abbrev pub numberIn : List ℕ → ℕ → ℕ
 numberIn ks c = getD ks c 0
 
--- How `solve` ends: refused, with the six as they were; blown; or done, with the six that the sheet's mode gives after 5N jobs, and each channel's
--- number ks.
-abbrev pub SolveIs : Sheet → List ℤ → List ℕ → Buffers → Answer → List ℕ → Buffers → Type 0
-SolveIs S levels tables B a ks B′ = Ends (solveRefusal S levels tables (lengths allSix B)) (wholeOf S levels tables) B (answerOf a) (numberIn ks) B′
+-- How `solve` ends: refused, with the six and the totals as they were; blown; or done, with the six that the sheet's mode gives after 5N jobs, both
+-- totals of each blend, and each channel's number ks.
+abbrev pub SolveIs : Sheet → List ℤ → List ℕ → Loan → Answer → List ℕ → Loan → Type 0
+SolveIs S levels tables L a ks L′ =
+    Ends (solveRefusal S levels tables (lengths allSix (L .buffers)) (length (L .totals))) (wholeOf S levels tables) L (answerOf a) (numberIn ks) L′

@@ -1,4 +1,5 @@
 // The whole run of a sheet, in both modes.
+pub mod counts;
 pub mod modes;
 mod separate;
 
@@ -10,7 +11,7 @@ use rounds::run_value;
 ghost use mathlib.Core.Path.{_≡_};
 ghost use mathlib.Core.List.{[], _∷_};
 ghost use Rattle.record.specs.Model.{clippedOf};
-ghost use Rattle.rounds.specs.Whole.{six};
+ghost use Rattle.rounds.specs.Whole.{six, loan};
 ghost use Rattle.solve.specs.Solve.{SolveIs};
 
 // What a whole run answers, and each channel's number of clipped coefficients where it is done.
@@ -26,9 +27,9 @@ fn numbers_of(run: Run) -> [u32; 3]
     [clipped_of(run, 0), clipped_of(run, 1), clipped_of(run, 2)]
 }
 
-// The six buffers of a sheet after 5N jobs, in its mode, and each channel's number. It looks at everything first, and answers `Blown` where a channel is
-// blown. Rules out: the channel's own data weight in separate mode; the starting planes, or planes one step short, for those after the last job; in separate
-// mode the number of the last channel for each.
+// The six buffers of a sheet after 5N jobs, in its mode, both totals of each blend, run after run and step after step, and each channel's number. It looks
+// at everything first, and answers `Blown` where a channel is blown. Rules out: the channel's own data weight in separate mode; the starting planes, or planes
+// one step short, for those after the last job; in separate mode the number of the last channel for each; the totals of the runs step by step.
 pub fn solve(
     s: Sheet,
     levels: &[i16],
@@ -39,10 +40,11 @@ pub fn solve(
     across: &mut [f32],
     down: &mut [f32],
     saved: &mut [f32],
+    totals: &mut [f64],
 ) -> Solved
     ensures { λ r. ⌜ SolveIs s (now (levels .entry)) (now (tables .entry))
-        (six (now (plane .entry)) (now (prior .entry)) (now (gradient .entry)) (now (across .entry)) (now (down .entry)) (now (saved .entry))) (r .answer) (r .clipped)
-        (six (now (plane .exit)) (now (prior .exit)) (now (gradient .exit)) (now (across .exit)) (now (down .exit)) (now (saved .exit))) ⌝ }
+        (loan (six (now (plane .entry)) (now (prior .entry)) (now (gradient .entry)) (now (across .entry)) (now (down .entry)) (now (saved .entry))) (now (totals .entry))) (r .answer) (r .clipped)
+        (loan (six (now (plane .exit)) (now (prior .exit)) (now (gradient .exit)) (now (across .exit)) (now (down .exit)) (now (saved .exit))) (now (totals .exit))) ⌝ }
 {
     let lengths = [
         plane.len(),
@@ -52,7 +54,7 @@ pub fn solve(
         down.len(),
         saved.len(),
     ];
-    let r = modes::solve_refusal(s, &lengths, levels, tables);
+    let r = modes::solve_refusal(s, &lengths, totals.len(), levels, tables);
     if r != 0 {
         let none = [0u32; 3];
         return Solved {
@@ -73,6 +75,7 @@ pub fn solve(
             across,
             down,
             saved,
+            totals,
         );
         let answer = t.answer;
         let clipped = numbers_of(t.run);
@@ -88,5 +91,6 @@ pub fn solve(
         across,
         down,
         saved,
+        totals,
     )
 }

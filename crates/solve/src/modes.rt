@@ -1,4 +1,6 @@
 // The runs of a sheet in both modes, and what solve refuses.
+use crate::counts::blend_count;
+use crate::counts::iterations_at;
 use contents::Choice;
 use contents::Header;
 use contents::Sheet;
@@ -10,7 +12,7 @@ use record::legal::legal;
 use start::coef::Reorder;
 ghost use mathlib.Core.Path.{_≡_};
 ghost use Rattle.contents.specs.Sheets.{channelAt};
-ghost use Rattle.solve.specs.Solve.{runChannel, reorderOf, joint, alone, iterationsAt, smoothingAt, allLegal, solveRefusal};
+ghost use Rattle.solve.specs.Solve.{runChannel, reorderOf, joint, alone, smoothingAt, allLegal, solveRefusal};
 
 // A channel line as a channel of a fresh run, with this data weight.
 fn run_channel(x: contents::Channel, weight: Weight) -> record::Channel
@@ -81,20 +83,6 @@ fn line_at(s: Sheet, c: u32) -> contents::Channel
     s.third
 }
 
-// Channel c's own iteration count.
-fn iterations_at(s: Sheet, c: u32) -> u32
-    ensures { λ r. ⌜ r ≡ iterationsAt s c ⌝ }
-{
-    let h = s.header;
-    if c == 0 {
-        return h.iterations0;
-    }
-    if c == 1 {
-        return h.iterations1;
-    }
-    h.iterations2
-}
-
 // Channel c's own smoothing weight.
 fn smoothing_at(s: Sheet, c: u32) -> Weight
     ensures { λ r. ⌜ r ≡ smoothingAt s c ⌝ }
@@ -145,12 +133,21 @@ pub fn all_legal(s: Sheet) -> bool
     ok
 }
 
-// 13, 8, 4 and 5, in this order; 0 is no refusal.
-pub fn solve_refusal(s: Sheet, lengths: &[usize], levels: &[i16], tables: &[u16]) -> u8
-    ensures { λ r. ⌜ r ≡ solveRefusal s (now (levels .entry)) (now (tables .entry)) (now (lengths .entry)) ⌝ }
+// 13, 8, 4 and 5, in this order; 0 is no refusal. `lengths` are those of the six, `totals` is that of the totals.
+pub fn solve_refusal(
+    s: Sheet,
+    lengths: &[usize],
+    totals: usize,
+    levels: &[i16],
+    tables: &[u16],
+) -> u8
+    ensures { λ r. ⌜ r ≡ solveRefusal s (now (levels .entry)) (now (tables .entry)) (now (lengths .entry)) totals ⌝ }
 {
     if !all_legal(s) {
         return 13;
+    }
+    if totals != blend_count(s) * 2 {
+        return 8;
     }
     record::refusals::start_refusal(joint_of(s), lengths, levels, tables)
 }

@@ -1,5 +1,6 @@
 // Separate mode: each channel is a run of its own, on its part of the lent buffers.
 use crate::Solved;
+use crate::counts::steps_before;
 use crate::modes::alone_of;
 use crate::modes::joint_of;
 use contents::Sheet;
@@ -9,11 +10,11 @@ use record::places::clipped_of;
 use rounds::run_value;
 ghost use Prim.Native.Nat.{_<_};
 ghost use Rattle.record.specs.Model.{Legal};
-ghost use Rattle.rounds.specs.Whole.{six};
+ghost use Rattle.rounds.specs.Whole.{six, loan};
 ghost use Rattle.solve.specs.Solve.{joint};
 ghost use Rattle.solve.specs.Separate.{PartsAre, AloneAsks, AloneIs, SeparateAsks, SeparateIs};
 
-// Where channel c's part begins and ends in the lent buffers, in the levels and in the tables.
+// Where channel c's part begins and ends in the lent buffers, in the levels, in the tables and in the totals.
 struct Parts {
     from: usize,
     to: usize,
@@ -21,17 +22,21 @@ struct Parts {
     levels_to: usize,
     tables_from: usize,
     tables_to: usize,
+    totals_from: usize,
+    totals_to: usize,
 }
 
 fn parts_of(s: Sheet, c: u32) -> Parts
     requires { ⌜ Legal (joint s) × (c < s .header .channels) ⌝ }
-    ensures { λ r. ⌜ PartsAre s c (r .from) (r .to) (r .«levels_from») (r .«levels_to») (r .«tables_from») (r .«tables_to») ⌝ }
+    ensures { λ r. ⌜ PartsAre s c (r .from) (r .to) (r .«levels_from») (r .«levels_to») (r .«tables_from») (r .«tables_to») (r .«totals_from») (r .«totals_to») ⌝ }
 {
     let all = joint_of(s);
     let span = record::places::span_of(all, c);
     let l = record::refusals::levels_before(all, c);
     let m = record::refusals::levels_before(all, c + 1);
     let t = (c as usize) * 64;
+    let x = steps_before(s, c) * 2;
+    let y = steps_before(s, c + 1) * 2;
     Parts {
         from: span.from,
         to: span.to,
@@ -39,6 +44,8 @@ fn parts_of(s: Sheet, c: u32) -> Parts
         levels_to: m,
         tables_from: t,
         tables_to: t + 64,
+        totals_from: x,
+        totals_to: y,
     }
 }
 
@@ -54,11 +61,12 @@ fn alone_value(
     across: &mut [f32],
     down: &mut [f32],
     saved: &mut [f32],
+    totals: &mut [f64],
 ) -> Answered
-    requires { ⌜ AloneAsks s c (now levels) (now tables) (six (now plane) (now prior) (now gradient) (now across) (now down) (now saved)) ⌝ }
+    requires { ⌜ AloneAsks s c (now levels) (now tables) (loan (six (now plane) (now prior) (now gradient) (now across) (now down) (now saved)) (now totals)) ⌝ }
     ensures { λ r. ⌜ AloneIs s c (now (levels .entry)) (now (tables .entry))
-        (six (now (plane .entry)) (now (prior .entry)) (now (gradient .entry)) (now (across .entry)) (now (down .entry)) (now (saved .entry))) (r .answer) (r .run)
-        (six (now (plane .exit)) (now (prior .exit)) (now (gradient .exit)) (now (across .exit)) (now (down .exit)) (now (saved .exit))) ⌝ }
+        (loan (six (now (plane .entry)) (now (prior .entry)) (now (gradient .entry)) (now (across .entry)) (now (down .entry)) (now (saved .entry))) (now (totals .entry))) (r .answer) (r .run)
+        (loan (six (now (plane .exit)) (now (prior .exit)) (now (gradient .exit)) (now (across .exit)) (now (down .exit)) (now (saved .exit))) (now (totals .exit))) ⌝ }
 {
     let p = parts_of(s, c);
     let from = p.from;
@@ -67,6 +75,8 @@ fn alone_value(
     let m = p.levels_to;
     let t = p.tables_from;
     let u = p.tables_to;
+    let x = p.totals_from;
+    let y = p.totals_to;
     run_value(
         alone_of(s, c),
         &levels[l..m],
@@ -77,6 +87,7 @@ fn alone_value(
         &mut across[from..to],
         &mut down[from..to],
         &mut saved[from..to],
+        &mut totals[x..y],
     )
 }
 
@@ -91,11 +102,12 @@ pub fn separate(
     across: &mut [f32],
     down: &mut [f32],
     saved: &mut [f32],
+    totals: &mut [f64],
 ) -> Solved
-    requires { ⌜ SeparateAsks s (now levels) (now tables) (six (now plane) (now prior) (now gradient) (now across) (now down) (now saved)) ⌝ }
+    requires { ⌜ SeparateAsks s (now levels) (now tables) (loan (six (now plane) (now prior) (now gradient) (now across) (now down) (now saved)) (now totals)) ⌝ }
     ensures { λ r. ⌜ SeparateIs s (now (levels .entry)) (now (tables .entry))
-        (six (now (plane .entry)) (now (prior .entry)) (now (gradient .entry)) (now (across .entry)) (now (down .entry)) (now (saved .entry))) (r .answer) (r .clipped)
-        (six (now (plane .exit)) (now (prior .exit)) (now (gradient .exit)) (now (across .exit)) (now (down .exit)) (now (saved .exit))) ⌝ }
+        (loan (six (now (plane .entry)) (now (prior .entry)) (now (gradient .entry)) (now (across .entry)) (now (down .entry)) (now (saved .entry))) (now (totals .entry))) (r .answer) (r .clipped)
+        (loan (six (now (plane .exit)) (now (prior .exit)) (now (gradient .exit)) (now (across .exit)) (now (down .exit)) (now (saved .exit))) (now (totals .exit))) ⌝ }
 {
     let mut clipped = [0u32; 3];
     let h = s.header;
@@ -111,6 +123,7 @@ pub fn separate(
             across,
             down,
             saved,
+            totals,
         );
         let a = t.answer;
         let Answer::Done = a else {

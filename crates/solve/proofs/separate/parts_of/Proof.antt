@@ -1,4 +1,6 @@
--- `parts_of`: the joint record tells where each channel's part lies.
+-- `parts_of`: the joint record and the steps tell where each channel's part lies.
+use mathlib.Core.Path.{ap}
+use Prim.Native.Nat.{ℕ, _*_}
 use native.Mathlib.Nat.{le-of-lt}
 use native.Mathlib.Omega.{arith}
 use Rattle.solve.proofs.Alone.{below-joint, channel-small, parts-are}
@@ -21,17 +23,24 @@ levels-before-requires-2 c κs = rw (c .before .before .joint-of .ensures) (c .b
 mul-t : tie.Need-mul-t
 mul-t c = omega (arith, channel-small (c .before .before .before .before .args .s) (c .before .before .before .before .args .c) (c .before .before .before .before .pre .0) (c .before .before .before .before .pre .1))
 
-add-t9 : tie.Need-add-t9
-add-t9 c = omega (arith, channel-small (c .before .before .before .before .args .s) (c .before .before .before .before .args .c) (c .before .before .before .before .pre .0) (c .before .before .before .before .pre .1))
+steps-before-requires : tie.Need-steps-before-requires
+steps-before-requires c κs = omega (arith, channel-small (c .before .before .before .before .args .s) (c .before .before .before .before .args .c) (c .before .before .before .before .pre .0) (c .before .before .before .before .pre .1))
+
+add-steps-before : tie.Need-add-steps-before
+add-steps-before c = omega (arith, channel-small (c .before .before .before .before .before .args .s) (c .before .before .before .before .before .args .c) (c .before .before .before .before .before .pre .0) (c .before .before .before .before .before .pre .1))
+
+steps-before-requires-2 : tie.Need-steps-before-requires-2
+steps-before-requires-2 c κs = omega (arith, channel-small (c .before .before .before .before .before .args .s) (c .before .before .before .before .before .args .c) (c .before .before .before .before .before .pre .0) (c .before .before .before .before .before .pre .1))
 
 returns : tie.Need-returns
 returns c =
-    let e = rw (c .before .before .before .joint-of .ensures) at (c .before .before .span-of .ensures) in
-    parts-are (c .before .before .before .before .args .s) (c .before .before .before .before .args .c) (c .before .before .before .before .pre .0) (c .before .before .before .before .pre .1) _ _ _ _ (e .0) (e .1) (e .3) (e .4)
-    (rw (c .before .before .before .joint-of .ensures) at (c .before .levels-before .ensures)) (rw (c .before .before .before .joint-of .ensures) at (c .levels-before2 .ensures))
+    let e = rw (c .before .before .before .before .before .joint-of .ensures) at (c .before .before .before .before .span-of .ensures) in
+    parts-are (c .before .before .before .before .before .before .args .s) (c .before .before .before .before .before .before .args .c) (c .before .before .before .before .before .before .pre .0) (c .before .before .before .before .before .before .pre .1) _ _ _ _ _ _ (e .0) (e .1) (e .3) (e .4)
+    (rw (c .before .before .before .before .before .joint-of .ensures) at (c .before .before .before .levels-before .ensures)) (rw (c .before .before .before .before .before .joint-of .ensures) at (c .before .before .levels-before2 .ensures))
+    (ap (λ (n : ℕ). n * 2) (c .before .steps-before .ensures .0)) (ap (λ (n : ℕ). n * 2) (c .steps-before2 .ensures .0)) (omega (arith, c .steps-before2 .ensures .1))
 
 pub parts-of-spec : {M : Type 1} → statement M
 parts-of-spec =
     tie.close
-    (tie.spec (λ c κs. search needs) span-of-requires levels-before-requires add-levels-before
-    levels-before-requires-2 mul-t add-t9 returns)
+    (tie.spec (λ c κs. search needs) span-of-requires levels-before-requires add-levels-before levels-before-requires-2 mul-t steps-before-requires
+    (λ c. search needs) add-steps-before steps-before-requires-2 (λ c. search needs) (λ c. search needs) returns)

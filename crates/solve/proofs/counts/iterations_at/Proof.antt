@@ -1,7 +1,7 @@
 -- `iterations_at`: by the channel's number.
 use borrow.Author.Tests.{eq-eqb, ne-eqb}
-use Rattle.solve.proofs.modes.iterations_at.Statement.{statement}
-use Rattle.solve.proofs.modes.iterations_at.Tie as tie
+use Rattle.solve.proofs.counts.iterations_at.Statement.{statement}
+use Rattle.solve.proofs.counts.iterations_at.Tie as tie
 
 returns : tie.Need-returns
 returns c = rw (eq-eqb (c .before .before .args .c) 0 (c .if1 .taken))
