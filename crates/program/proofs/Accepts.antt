@@ -30,7 +30,8 @@ use Rattle.record.specs.declared.Run.{Run}
 use Rattle.record.specs.declared.Channel.{Channel}
 use Rattle.record.specs.Model.{sheetOf, placesOf, ownOf, placeOf, noChannel}
 use Rattle.record.proofs.Channels.{at-own, at-place, at-position, at-mark, first-long}
-use Rattle.solve.specs.Solve.{joint, alone, runChannel, jointGiven, isLegal, allLegal, solveRefusal}
+use Rattle.solve.proofs.Alone.{then-start}
+use Rattle.solve.specs.Solve.{joint, alone, runChannel, jointGiven, blendCount, isLegal, allLegal, solveRefusal}
 
 -- ---- tests from facts
 
@@ -259,6 +260,7 @@ module _ (limits : Limits) (S : Sheet) (ls : List ℤ) (ts : List ℕ) (l : Lega
         levels-ok = λ e. levels-test ls (l .levels);
       })
 
-  pub accepts : (lens : List ℕ) → T (all (λ n. eqb n (S .header .channels * (S .header .width * S .header .height))) lens) → solveRefusal S ls ts lens ≡ 0
-  unfolding solveRefusal
-  accepts lens t = ap (λ (b : Bool). cond b (startRefusal (jointGiven S ls ts) (placesOf (joint S)) lens) 13) (is-true (allLegal S) all-legal) ∙ start-accepts lens t
+  pub accepts : (lens : List ℕ) → T (all (λ n. eqb n (S .header .channels * (S .header .width * S .header .height))) lens) → (k : ℕ) → k ≡ blendCount S * 2
+      → solveRefusal S ls ts lens k ≡ 0
+  accepts lens t k room =
+      sym (then-start S ls ts lens k (is-true (allLegal S) all-legal) room (startRefusal (jointGiven S ls ts) (placesOf (joint S)) lens) refl) ∙ start-accepts lens t

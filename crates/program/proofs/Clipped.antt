@@ -23,7 +23,7 @@ use Rattle.solve.specs.Solve.{joint, alone, jointGiven, aloneGiven, separately,
 use Rattle.output.specs.Output.{Wrote, clippedText, clippedInto}
 use Rattle.output.proofs.Sizes.{clipped-into, clipped-room-32}
 use Rattle.output.proofs.Fronts.{wrote-as, wrote-more}
-use Rattle.program.specs.Printed.{limits, clippedLines, mostPrinted}
+use Rattle.program.specs.Printed.{limits, clippedLines, mostPicture}
 use Rattle.program.proofs.Accepts.{same-sides}
 
 -- at the program's limit no channel has more than 1,024 coefficients
@@ -62,11 +62,11 @@ pub none-written : (f : ℕ → ℕ) → [] ≡ clippedLines 0 f
 unfolding clippedLines upto
 none-written f = refl
 
-pub one-written : (f : ℕ → ℕ) (out mid out′ : List ℕ) (c at r : ℕ) → c < 3 → f c ≤ 1024 → mostPrinted ≤ length out → length mid ≡ length out → at ≤ 9 * c
-    → Wrote 0 (clippedLines c f) out at mid → Wrote at (clippedInto c (f c) (length mid - at)) mid r out′
-    → Wrote 0 (clippedLines (c + 1) f) out r out′ × (r ≤ 9 * (c + 1))
+pub one-written : (f : ℕ → ℕ) (from : ℕ) (out mid out′ : List ℕ) (c at r : ℕ) → c < 3 → f c ≤ 1024 → from + (27 + mostPicture) ≤ length out → length mid ≡ length out
+    → at ≤ from + 9 * c → Wrote from (clippedLines c f) out at mid → Wrote at (clippedInto c (f c) (length mid - at)) mid r out′
+    → Wrote from (clippedLines (c + 1) f) out r out′ × (r ≤ from + 9 * (c + 1))
 unfolding clippedLines upto
-one-written f out mid out′ c at r below small room same early w v =
+one-written f from out mid out′ c at r below small room same early w v =
     let line = wrote-as (clipped-into c (f c) (length mid - at) (omega arith) (omega arith) (omega arith)) v in
     (rw add-one (wrote-more w (omega arith) line), omega (arith, line .count, clipped-room-32 c (f c) (omega arith) (omega arith)))
 

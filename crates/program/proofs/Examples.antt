@@ -30,13 +30,13 @@ use Rattle.sheet.specs.Lines.{rulesOf, fieldsFault, headerOf, channelOf, record
 use Rattle.contents.specs.Sheets.{held, noChannel, noSettings}
 use Rattle.sheet.specs.Reading.{contents, blank, lineTag, takenOf, lineFault, readText}
 use Rattle.rounds.specs.Whole.{runBlows, last, runOf}
-use Rattle.solve.specs.Solve.{joint, alone, separately, wholeOf, planes, blows, clippedAt}
+use Rattle.solve.specs.Solve.{joint, alone, separately, wholeOf, planes, blows, totalsOf, clippedAt}
 use Rattle.calls.specs.Buffers.{joined}
 use Rattle.picture.specs.declared.Rounding.the-variants as rounding
 use Rattle.picture.specs.Finish as Finish
 use Rattle.output.specs.Output as Output
-use Rattle.output.specs.Output.{pictureText, refusalText, clippedText}
-use Rattle.program.specs.Printed.{limits, painted, clippedLines, sheetText, says, printed}
+use Rattle.output.specs.Output.{pictureText, refusalText, totalsText, clippedText}
+use Rattle.program.specs.Printed.{limits, painted, totalsLines, clippedLines, sheetText, says, printed}
 
 -- the bytes of a text
 abbrev bytesFrom : String → ℕ → ℕ → List ℕ
@@ -100,6 +100,11 @@ unblown : blows sheet levels tables ≡ false
 unfolding wholeOf runOf separately runBlows alone
 unblown = refl
 
+-- no step, no line `T` (M-103)
+untotalled : totalsLines sheet (totalsOf sheet levels tables) ≡ []
+unfolding totalsLines upto totalsText Output.each
+untotalled = refl
+
 -- "Without steps it is 0, and the whole example gains `K` tab `0` tab `0`" (M-104)
 unclipped : clippedLines 1 (clippedAt sheet levels tables) ≡ b "K\t0\t0\n"
 unfolding clippedLines upto wholeOf separately alone kept clippedText decimal
@@ -113,9 +118,10 @@ grey = refl
 pub whole-example : printed example ≡ b "K\t0\t0\nI\t2\t1\nR\t818181\t818181\n"
 unfolding printed says sheetText
 whole-example =
+    let t = totalsLines sheet (totalsOf sheet levels tables) in
     let k = clippedLines 1 (clippedAt sheet levels tables) in
-    ap says reads ∙ ap (λ (x : Bool). cond x (refusalText 10 0) (k ++ painted rounding.Truncate (sheet .header) (planes sheet levels tables))) unblown
-    ∙ ap (λ (ps : List Float). k ++ painted rounding.Truncate (sheet .header) ps) start ∙ (λ i. unclipped i ++ grey i)
+    ap says reads ∙ ap (λ (x : Bool). cond x (refusalText 10 0) (t ++ (k ++ painted rounding.Truncate (sheet .header) (planes sheet levels tables)))) unblown
+    ∙ ap (λ (ps : List Float). t ++ (k ++ painted rounding.Truncate (sheet .header) ps)) start ∙ (λ i. untotalled i ++ (unclipped i ++ grey i))
 
 -- "For 7 it is the unended line, the one after the last when `E` is missing": no line at all
 pub empty-text : printed [] ≡ b "X\t7\t1\n"

@@ -1,5 +1,6 @@
 -- A sheet that is read is solved; a refusal has a small line number; what the calls promise, as the text printed; what two callers see; worked examples.
 pub mod Accepts
+pub mod Totals
 pub mod Clipped
 pub mod Sizes
 pub mod Printing

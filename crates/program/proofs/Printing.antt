@@ -37,8 +37,8 @@ use Rattle.record.specs.declared.Answer.{Answer}
 use Rattle.record.specs.Model.{answerOf}
 use Rattle.record.proofs.Answer.{the-type}
 use Rattle.calls.proofs.Tests.{sized-names}
-use Rattle.rounds.specs.Whole.{ClippedAre, Ended, Ends}
-use Rattle.solve.specs.Solve.{wholeOf, planes, blows, clippedAt, numberIn, SolveIs}
+use Rattle.rounds.specs.Whole.{Loan, loan, ClippedAre, Ended, Ends}
+use Rattle.solve.specs.Solve.{blendCount, wholeOf, planes, blows, totalsOf, clippedAt, numberIn, SolveIs}
 use Rattle.rounds.proofs.Ends.{is-done, not-done}
 use Rattle.solve.proofs.Laws.{whole-channels}
 use Rattle.picture.specs.declared.Rounding.{Rounding}
@@ -46,7 +46,7 @@ use Rattle.picture.specs.Finish as Finish
 use Rattle.picture.proofs.Pixels.{picture-length}
 use Rattle.output.specs.Output.{Wrote, pictureInto, refusalText, refusalInto}
 use Rattle.output.proofs.Fronts.{wrote-as, wrote-more}
-use Rattle.program.specs.Printed.{limits, roundingOf, painted, clippedLines, sheetText, says, printed, mostPicture, mostPrinted, printedInto, SixLong}
+use Rattle.program.specs.Printed.{limits, roundingOf, painted, totalsLines, clippedLines, sheetText, says, printed, mostPicture, mostTotals, mostPrinted, printedInto, SixLong}
 use Rattle.program.proofs.Clipped.{clipped-small, lines-same}
 use Rattle.program.proofs.Accepts.{at-most, accepts}
 use Rattle.sheet.proofs.BoundLaws.{LineTo, line-bound}
@@ -69,7 +69,8 @@ paints f h l ps long rgb rgb′ room t e at out r out′ m w =
 -- ---- solved_with: how solving a legal sheet ends
 
 module _ (S : Sheet) (ls : List ℤ) (ts : List ℕ) (l : LegalSheet limits S (held ls ts)) (B : Buffers)
-    (long : SixLong (S .header) (B .plane) (B .prior) (B .gradient) (B .across) (B .down) (B .saved)) (a : Answer) (ks : List ℕ) (B′ : Buffers) (said : SolveIs S ls ts B a ks B′) where
+    (long : SixLong (S .header) (B .plane) (B .prior) (B .gradient) (B .across) (B .down) (B .saved)) (T₀ : List Float) (room : length T₀ ≡ blendCount S * 2)
+    (a : Answer) (ks : List ℕ) (L′ : Loan) (said : SolveIs S ls ts (loan B T₀) a ks L′) where
   abbrev size : ℕ
   size = S .header .channels * (S .header .width * S .header .height)
 
@@ -81,15 +82,18 @@ module _ (S : Sheet) (ls : List ℤ) (ts : List ℕ) (l : LegalSheet limits S (h
   sized Down = long .4
   sized Saved = long .5
 
-  ended : Ended (blows S ls ts) (wholeOf S ls ts) B (answerOf a) (numberIn ks) B′
-  ended = subst (λ (n : ℕ). Ends n (wholeOf S ls ts) B (answerOf a) (numberIn ks) B′) (accepts limits S ls ts l (lengths allSix B) (sized-names size B sized allSix)) said
+  ended : Ended (blows S ls ts) (wholeOf S ls ts) (loan B T₀) (answerOf a) (numberIn ks) L′
+  ended =
+      subst (λ (n : ℕ). Ends n (wholeOf S ls ts) (loan B T₀) (answerOf a) (numberIn ks) L′)
+      (accepts limits S ls ts l (lengths allSix B) (sized-names size B sized allSix) (length T₀) room) said
 
-  -- done: it did not blow, and the planes and the numbers are there
+  -- done: it did not blow, and the planes, the totals and the numbers are there
   module _ (one : OneOf (1 ∷ []) (tagOf the-type a)) where
-    not-blown : (b : Bool) → Ended b (wholeOf S ls ts) B (answerOf a) (numberIn ks) B′
-        → (b ≡ false) × (B′ .plane ≡ planes S ls ts) × (length (B′ .plane) ≡ size) × ClippedAre (wholeOf S ls ts) (numberIn ks)
+    not-blown : (b : Bool) → Ended b (wholeOf S ls ts) (loan B T₀) (answerOf a) (numberIn ks) L′
+        → (b ≡ false) × (L′ ≡ loan (wholeOf S ls ts .buffers) (totalsOf S ls ts)) × (length (L′ .buffers .plane) ≡ size) × ClippedAre (wholeOf S ls ts) (numberIn ks)
+        × (length (L′ .totals) ≡ length T₀)
     not-blown true e = let z : _≡_ {A = ℕ} 0 1 = cc (e .0, is-done a one) in absurd (omega arith)
-    not-blown false e = (refl, ap (λ (X : Buffers). X .plane) (e .1), e .2 Plane ∙ sized Plane, e .3)
+    not-blown false e = (refl, e .1, e .2 .0 Plane ∙ sized Plane, e .3, e .2 .1)
 
     numbers : (c : ℕ) → c < S .header .channels → numberIn ks c ≡ clippedAt S ls ts c
     numbers c h = not-blown (blows S ls ts) ended .3 c (omega (arith, whole-channels S ls ts))
@@ -97,20 +101,27 @@ module _ (S : Sheet) (ls : List ℤ) (ts : List ℕ) (l : LegalSheet limits S (h
     pub numbers-small : (c : ℕ) → c < S .header .channels → numberIn ks c ≤ 1024
     numbers-small c h = omega (arith, numbers c h, clipped-small S ls ts l c h)
 
-    pub done-long : length (B′ .plane) ≡ size
+    pub done-long : length (L′ .buffers .plane) ≡ size
     done-long = not-blown (blows S ls ts) ended .2
 
-    pub done-text : (f : Rounding) → f ≡ roundingOf (S .settings .rounding) → (out : List ℕ) (at : ℕ) (mid : List ℕ) → Wrote 0 (clippedLines (S .header .channels) (numberIn ks)) out at mid → at ≤ length out
-        → (r : ℕ) (out′ : List ℕ) → Wrote at (painted f (S .header) (B′ .plane)) mid r out′ → Wrote 0 (sheetText S ls ts) out r out′
+    pub done-room : length (L′ .totals) ≡ blendCount S * 2
+    done-room = not-blown (blows S ls ts) ended .4 ∙ room
+
+    pub done-text : (f : Rounding) → f ≡ roundingOf (S .settings .rounding) → (out : List ℕ) (from : ℕ) (first : List ℕ) → Wrote 0 (totalsLines S (L′ .totals)) out from first
+        → from ≤ length out → length first ≡ length out → (at : ℕ) (mid : List ℕ) → Wrote from (clippedLines (S .header .channels) (numberIn ks)) first at mid → at ≤ length out
+        → (r : ℕ) (out′ : List ℕ) → Wrote at (painted f (S .header) (L′ .buffers .plane)) mid r out′ → Wrote 0 (sheetText S ls ts) out r out′
     unfolding sheetText
-    done-text f q out at mid k m r out′ w =
+    done-text f q out from first t m same at mid k n r out′ w =
         let d = not-blown (blows S ls ts) ended in
+        let sums : L′ .totals ≡ totalsOf S ls ts = ap (λ (K : Loan). K .totals) (d .1) in
+        let shown : L′ .buffers .plane ≡ planes S ls ts = ap (λ (K : Loan). K .buffers .plane) (d .1) in
         rw (d .0)
-        (wrote-more (wrote-as (lines-same (S .header .channels) (numberIn ks) (clippedAt S ls ts) numbers) k) m (wrote-as (λ i. painted (q i) (S .header) (d .1 i)) w))
+        (wrote-more (wrote-as (ap (totalsLines S) sums) t) m
+        (wrote-more (wrote-as (lines-same (S .header .channels) (numberIn ks) (clippedAt S ls ts) numbers) k) (omega arith) (wrote-as (λ i. painted (q i) (S .header) (shown i)) w)))
 
   -- any other answer: it blew
-  module _ (other : OneOf (0 ∷ 2 ∷ []) (tagOf the-type a)) where
-    blown : (b : Bool) → Ended b (wholeOf S ls ts) B (answerOf a) (numberIn ks) B′ → b ≡ true
+  module _ (other : OneOf (0 ∷ 2 ∷ 3 ∷ []) (tagOf the-type a)) where
+    blown : (b : Bool) → Ended b (wholeOf S ls ts) (loan B T₀) (answerOf a) (numberIn ks) L′ → b ≡ true
     blown true e = refl
     blown false e = absurd (not-done a other (sym (e .0)))
 

@@ -1,5 +1,5 @@
 -- What the program `smooth` prints for a text (document 01, "Whole run and picture", last paragraph): demands 1 and 2 from end to end.
-use Prim.Native.Nat.{ℕ, _+_, _*_}
+use Prim.Native.Nat.{ℕ, suc, _+_, _*_}
 use mathlib.Core.Path.{_≡_}
 use mathlib.Core.Bool.{cond}
 use mathlib.Core.List.{List, [], _++_}
@@ -15,11 +15,12 @@ use Rattle.contents.specs.declared.Sheet.{Sheet}
 use Rattle.sheet.specs.Reading.{Outcome, Contents, readText}
 use Rattle.sheet.specs.Reading.Outcome.{Gives, Refused}
 use Rattle.fold.specs.Join.{joinUpto}
-use Rattle.solve.specs.Solve.{planes, blows, clippedAt}
+use Rattle.fold.specs.Part.{part}
+use Rattle.solve.specs.Solve.{iterationsAt, stepsBefore, planes, blows, totalsOf, clippedAt}
 use Rattle.picture.specs.declared.Rounding.{Rounding}
 use Rattle.picture.specs.declared.Rounding.the-variants as rounding
 use Rattle.picture.specs.Finish.{toByte, picture}
-use Rattle.output.specs.Output.{pictureText, pictureRoom, refusalText, clippedText}
+use Rattle.output.specs.Output.{pictureText, pictureRoom, refusalText, totalsText, clippedText}
 
 -- "A line `F` with `t` or `n` may follow the `S` line; without it `t` holds" (M-100)
 abbrev pub roundingOf : Choice → Rounding
@@ -34,15 +35,26 @@ painted r h ps =
     let height = h .«picture_height» in
     pictureText width height (picture (toByte r) (h .width) (h .height) width height (h .channels) ps)
 
+-- The lines `T` of channel c's run alone, of all runs' totals (M-103).
+abbrev pub runLines : Sheet → List Float → ℕ → List ℕ
+runLines s totals c = totalsText c (iterationsAt s c) (part totals (stepsBefore s c * 2) (stepsBefore s (suc c) * 2))
+
+-- "channel of the run's start (0 in joint mode)", "run after run": in joint mode the one run's lines, in separate mode each channel's
+unfoldable pub totalsLines : Sheet → List Float → List ℕ
+totalsLines s totals =
+    cond (s .header .joint) (totalsText 0 (s .header .iterations0) totals) (joinUpto (runLines s totals) (s .header .channels))
+
 -- "a line `K`, channel, number, channels rising" (M-104): of n channels, f having each one's number
 unfoldable pub clippedLines : ℕ → (ℕ → ℕ) → List ℕ
 clippedLines n f = joinUpto (λ c. clippedText c (f c)) n
 
--- "A blown channel ends the program with 10"; "The line is 0 for 10". Else the lines `K` "between the `T` lines and `I`", and the picture.
+-- "A blown channel ends the program with 10"; "The line is 0 for 10"; "A sheet that ends with 10 prints no `T` line". Else the lines `T` of all runs, the
+-- lines `K` "between the `T` lines and `I`", and the picture.
 unfoldable pub sheetText : Sheet → List ℤ → List ℕ → List ℕ
 sheetText s levels tables =
     cond (blows s levels tables) (refusalText 10 0)
-    (clippedLines (s .header .channels) (clippedAt s levels tables) ++ painted (roundingOf (s .settings .rounding)) (s .header) (planes s levels tables))
+    (totalsLines s (totalsOf s levels tables)
+    ++ (clippedLines (s .header .channels) (clippedAt s levels tables) ++ painted (roundingOf (s .settings .rounding)) (s .header) (planes s levels tables)))
 
 -- "A refusal prints only `X`, number and line"
 unfoldable pub says : Outcome Contents → List ℕ
@@ -56,13 +68,16 @@ limits = record { side = 32; iterations = 1000 }
 unfoldable pub printed : List ℕ → List ℕ
 printed text = says (readText limits text)
 
--- No text that it prints takes more room: a picture of 32 by 32, after three lines `K` of at most 9 bytes, since no channel has more than 1,024
--- coefficients
+-- No text that it prints takes more room: a picture of 32 by 32, after 1,000 lines `T` of at most 43 bytes for each of three runs, and three lines `K` of at
+-- most 9 bytes, since no channel has more than 1,024 coefficients
 abbrev pub mostPicture : ℕ
 mostPicture = pictureRoom 32 32
 
+abbrev pub mostTotals : ℕ
+mostTotals = 3 * (1000 * 43)
+
 abbrev pub mostPrinted : ℕ
-mostPrinted = 27 + mostPicture
+mostPrinted = mostTotals + (27 + mostPicture)
 
 -- what the call writes to a buffer of `room` bytes: the text, or nothing where the buffer could be too small for some text
 unfoldable pub printedInto : List ℕ → ℕ → List ℕ

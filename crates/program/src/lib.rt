@@ -6,23 +6,28 @@ use contents::Sheet;
 use picture::Rounding;
 use record::Answer;
 use sheet::Measured;
+use solve::counts::blend_count;
+use solve::counts::iterations_at;
+use solve::counts::steps_before;
 use solve::solve;
 ghost use mathlib.Core.Path.{_≡_};
 ghost use Prim.Native.Nat.{ℕ, _+_, _*_, _≤_, _<_};
+ghost use mathlib.Core.Bool.{false};
 ghost use lib.ListN.{length};
+ghost use Rattle.fold.specs.Join.{joinUpto};
 ghost use Rattle.contents.specs.Sheets.{held};
 ghost use Rattle.sheet.specs.Calls.{measuring, Lengths};
 ghost use Rattle.sheet.specs.Longest.{decisive};
 ghost use Rattle.sheet.specs.Reading.Outcome.{Gives};
 ghost use Rattle.contents.specs.Legal.{LegalHeader, LegalSheet};
-ghost use Rattle.solve.specs.Solve.{numberIn};
+ghost use Rattle.solve.specs.Solve.{blendCount, numberIn};
 ghost use Rattle.output.specs.Output.{Wrote};
-ghost use Rattle.program.specs.Printed.{limits, roundingOf, painted, clippedLines, sheetText, printed, mostPicture, mostPrinted, printedInto, SixLong};
+ghost use Rattle.program.specs.Printed.{limits, roundingOf, painted, runLines, totalsLines, clippedLines, sheetText, printed, mostPicture, mostTotals, mostPrinted, printedInto, SixLong};
 
 // So many bytes of a text decide what is printed for it: `decisive 32`.
 const DECISIVE: usize = 20461;
 // No text that is printed takes more bytes: `mostPrinted`.
-const MOST_PRINTED: usize = 7269;
+const MOST_PRINTED: usize = 136269;
 
 // How the letter of line F rounds; without it t holds.
 fn rounding_of(c: Choice) -> Rounding
@@ -35,12 +40,40 @@ fn rounding_of(c: Choice) -> Rounding
     }
 }
 
-// The lines `K` of n channels at the front of `out`, and where they end.
-fn write_numbers(n: u32, clipped: [u32; 3], out: &mut [u8]) -> usize
-    requires { ⌜ (n ≤ 3) × ((c : ℕ) → c < n → numberIn clipped c ≤ 1024) × (mostPrinted ≤ length (now out)) ⌝ }
-    ensures { λ r. ⌜ Wrote 0 (clippedLines n (numberIn clipped)) (now (out .entry)) r (now (out .exit)) × (r ≤ 27) ⌝ }
+// The lines `T` of the runs of separate mode at the front of `out`, and where they end.
+fn write_runs(s: Sheet, totals: &[f64], out: &mut [u8]) -> usize
+    requires { ⌜ LegalHeader limits (s .header) × (s .header .joint ≡ false) × (length (now totals) ≡ blendCount s * 2) × (mostPrinted ≤ length (now out)) ⌝ }
+    ensures { λ r. ⌜ Wrote 0 (joinUpto (runLines s (now (totals .entry))) (s .header .channels)) (now (out .entry)) r (now (out .exit)) × (r ≤ mostTotals) ⌝ }
 {
+    let h = s.header;
     let mut at = 0;
+    for c in 0..h.channels {
+        let from = steps_before(s, c) * 2;
+        let to = steps_before(s, c + 1) * 2;
+        let steps = iterations_at(s, c) as usize;
+        at = output::write_totals(c as usize, steps, &totals[from..to], out, at);
+    }
+    at
+}
+
+// The lines `T` of all runs at the front of `out`, and where they end.
+fn write_sums(s: Sheet, totals: &[f64], out: &mut [u8]) -> usize
+    requires { ⌜ LegalHeader limits (s .header) × (length (now totals) ≡ blendCount s * 2) × (mostPrinted ≤ length (now out)) ⌝ }
+    ensures { λ r. ⌜ Wrote 0 (totalsLines s (now (totals .entry))) (now (out .entry)) r (now (out .exit)) × (r ≤ mostTotals) ⌝ }
+{
+    let h = s.header;
+    if h.joint {
+        return output::write_totals(0, h.iterations0 as usize, totals, out, 0);
+    }
+    write_runs(s, totals, out)
+}
+
+// The lines `K` of n channels from place `from` on, and where they end.
+fn write_numbers(n: u32, clipped: [u32; 3], out: &mut [u8], from: usize) -> usize
+    requires { ⌜ (n ≤ 3) × ((c : ℕ) → c < n → numberIn clipped c ≤ 1024) × (from + (27 + mostPicture) ≤ length (now out)) ⌝ }
+    ensures { λ r. ⌜ Wrote from (clippedLines n (numberIn clipped)) (now (out .entry)) r (now (out .exit)) × (r ≤ from + 27) ⌝ }
+{
+    let mut at = from;
     for c in 0..n as usize {
         at = output::write_clipped(c, clipped[c] as usize, out, at);
     }
@@ -84,7 +117,7 @@ fn paint(rounding: Rounding, h: Header, planes: &[f32], out: &mut [u8], at: usiz
     paint_with(rounding, h, planes, &mut rgb[0..n], out, at)
 }
 
-// The text of a sheet that was read: its lines `K` and its picture, or 10. The six are room for its runs.
+// The text of a sheet that was read: its lines `T` and `K` and its picture, or 10. The six and the totals are room for its runs.
 fn solved_with(
     s: Sheet,
     levels: &[i16],
@@ -95,9 +128,11 @@ fn solved_with(
     across: &mut [f32],
     down: &mut [f32],
     saved: &mut [f32],
+    totals: &mut [f64],
     out: &mut [u8],
 ) -> usize
-    requires { ⌜ LegalSheet limits s (held (now levels) (now tables)) × SixLong (s .header) (now plane) (now prior) (now gradient) (now across) (now down) (now saved) × (mostPrinted ≤ length (now out)) ⌝ }
+    requires { ⌜ LegalSheet limits s (held (now levels) (now tables)) × SixLong (s .header) (now plane) (now prior) (now gradient) (now across) (now down) (now saved)
+        × (length (now totals) ≡ blendCount s * 2) × (mostPrinted ≤ length (now out)) ⌝ }
     ensures { λ r. ⌜ Wrote 0 (sheetText s (now (levels .entry)) (now (tables .entry))) (now (out .entry)) r (now (out .exit)) ⌝ }
 {
     let h = s.header;
@@ -114,13 +149,15 @@ fn solved_with(
         across,
         down,
         saved,
+        totals,
     );
     let answer = t.answer;
     let Answer::Done = answer else {
         return output::write_refusal(10, 0, out);
     };
     let clipped = t.clipped;
-    let at = write_numbers(h.channels, clipped, out);
+    let from = write_sums(s, &totals[..], out);
+    let at = write_numbers(h.channels, clipped, out, from);
     paint(rounding, h, &plane[..], out, at)
 }
 
@@ -135,8 +172,10 @@ fn solved(s: Sheet, levels: &[i16], tables: &[u16], out: &mut [u8]) -> usize
     let mut across = [0.0f32; 3072];
     let mut down = [0.0f32; 3072];
     let mut saved = [0.0f32; 3072];
+    let mut totals = [0.0f64; 6000];
     let h = s.header;
     let n = (h.channels as usize) * ((h.width as usize) * (h.height as usize));
+    let m = blend_count(s) * 2;
     solved_with(
         s,
         levels,
@@ -147,6 +186,7 @@ fn solved(s: Sheet, levels: &[i16], tables: &[u16], out: &mut [u8]) -> usize
         &mut across[0..n],
         &mut down[0..n],
         &mut saved[0..n],
+        &mut totals[0..m],
         out,
     )
 }

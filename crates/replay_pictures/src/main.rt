@@ -56,6 +56,6 @@ fn print_all(space: &mut [u8], out: &mut [u8])
 
 fn main() {
     let mut space = io::large_buffer();
-    let mut out = [0u8; 8192];
+    let mut out = [0u8; 139264];
     print_all(&mut space, &mut out);
 }

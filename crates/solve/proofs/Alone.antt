@@ -146,7 +146,7 @@ few-channels S ok = omega (arith, count-3 (joint S) ok, joint-count S)
 
 -- ---- where channel c's part lies
 
-steps-rise : (S : Sheet) (c n : ℕ) → c < n → stepsBefore S (suc c) ≤ stepsBefore S n
+pub steps-rise : (S : Sheet) (c n : ℕ) → c < n → stepsBefore S (suc c) ≤ stepsBefore S n
 unfolding stepsBefore
 steps-rise S c zero h = absurd (omega arith)
 steps-rise S c (suc n) h = go (eq-or-lt-of-le h) (steps-rise S c n)
