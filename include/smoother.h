@@ -136,9 +136,10 @@ uint32_t smoother_push(struct smoother_run *run, uint32_t c, float *plane, size_
 uint32_t smoother_data(struct smoother_run *run, uint32_t c, const int16_t *levels, size_t levels_len, const uint16_t *tables,
                        size_t tables_len, float *gradient, size_t gradient_len, const float *saved, size_t saved_len);
 
-/* Job 2, once for all channels: adds the gradients of both orders. 0, 13, 8, 10, 11, 9. */
+/* Job 2, once for all channels: adds the gradients of both orders. totals has two places (totals_len is 2, else 8), which become the totals of the first
+ * and of the second order: what the smoothing is to lower. A NaN among them has some NaN's bits. 0, 13, 8, 10, 11, 9. */
 uint32_t smoother_blend(struct smoother_run *run, const float *plane, size_t plane_len, float *gradient, size_t gradient_len,
-                        float *across, size_t across_len, float *down, size_t down_len);
+                        float *across, size_t across_len, float *down, size_t down_len, double *totals, size_t totals_len);
 
 /* Job 3 of channel c: the plane goes down the gradient. 0, 13, 8, 12, 10, 11, 9. */
 uint32_t smoother_move(struct smoother_run *run, uint32_t c, float *plane, size_t plane_len, const float *gradient, size_t gradient_len);
@@ -164,16 +165,17 @@ uint32_t smoother_serve(struct smoother_run *run, const uint8_t *jobs, size_t jo
 
 /* The whole run of a sheet, in its mode, by the SMOOTHER_NUMBERS numbers that smoother_read lends out: joint mode is one run, in separate mode
  * each channel is one. plane, prior, gradient, across, down and saved have channels x W x H values each in either mode; what they hold before
- * does not matter. clipped has one place for each channel. Fields that no run of the sheet uses are not looked at.
- * 0: the six hold each channel's after its last job, channel after channel; plane the planes, and clipped the number of coefficients that each
- * channel's last project clipped, 0 without steps.
- * 255: a channel is blown; the contents of the six are not promised, and clipped is unchanged.
- * 8 for another count of numbers, 13 for a mode or a reordering that is not 0 or 1 and for numbers of no legal sheet, 8, 4, 5: all six and
- * clipped are unchanged. */
+ * does not matter. totals has two places for each blend, one blend in each step of each run: 2 x N values, N being the first iteration count in joint
+ * mode and the sum of the channels' in separate mode. clipped has one place for each channel. Fields that no run of the sheet uses are not looked at.
+ * 0: the six hold each channel's after its last job, channel after channel; plane the planes, totals both totals of each blend, run after run and step
+ * after step, and clipped the number of coefficients that each channel's last project clipped, 0 without steps.
+ * 255: a channel is blown; the contents of the six and of totals are not promised, and clipped is unchanged.
+ * 8 for another count of numbers, 13 for a mode or a reordering that is not 0 or 1 and for numbers of no legal sheet, 8, 4, 5: all six,
+ * totals and clipped are unchanged. */
 uint32_t smoother_solve(const uint32_t *header, size_t header_len, const int16_t *levels, size_t levels_len, const uint16_t *tables,
                         size_t tables_len, float *plane, size_t plane_len, float *prior, size_t prior_len, float *gradient,
                         size_t gradient_len, float *across, size_t across_len, float *down, size_t down_len, float *saved,
-                        size_t saved_len, uint32_t *clipped, size_t clipped_len);
+                        size_t saved_len, uint32_t *clipped, size_t clipped_len, double *totals, size_t totals_len);
 
 /* The picture of solved planes: channels x W x H values, only read. rgb has 3 x picture width x picture height bytes: red, green and blue
  * of each pixel, row by row. Adds 128 to channel 0, converts, clamps and rounds; NaN gives 0. rounding is 0 (truncated, as the published Rust) or

@@ -1,4 +1,4 @@
-/* Reads a sheet, starts its run, does some steps, and prints the first row of channel 0's plane, each value as the bits of its f32.
+/* Reads a sheet, starts its run, does some steps, whose totals it reports, and prints the first row of channel 0's plane, each value as the bits of its f32.
  *
  *     rt staticlib smoother
  *     gcc -std=c11 -Wall -Wextra -Werror -Iinclude examples/c/start.c target/staticlib/libsmoother.a -o target/start
@@ -140,7 +140,9 @@ int main(int argc, char **argv)
             done("push", smoother_push(&run, c, plane, k, prior, k));
             done("data", smoother_data(&run, c, levels, n, tables, m, gradient, k, saved, k));
         }
-        done("blend", smoother_blend(&run, plane, k, gradient, k, across, k, down, k));
+        double totals[2];
+        done("blend", smoother_blend(&run, plane, k, gradient, k, across, k, down, k, totals, 2));
+        fprintf(stderr, "step %lu: totals %g and %g\n", step + 1, totals[0], totals[1]);
         for (uint32_t c = 0; c < run.count; c++) {
             done("move", smoother_move(&run, c, plane, k, gradient, k));
             if (blown(smoother_project(&run, c, levels, n, tables, m, plane, k, across, k, down, k, saved, k))) {

@@ -1,22 +1,31 @@
 -- C's record and a call's answer in numbers: what a call gives by value, it gives in numbers, and 13 where C's record has no letter.
 use mathlib.Core.Path.{_≡_, refl, sym, ap, _∙_, subst}
 use mathlib.Core.Bool.{true≢false}
-use mathlib.Core.List.{List}
+use mathlib.Core.Logic.{_≢_, ⊎-elim}
+use mathlib.Core.List.{List, [], _∷_}
+use denote.Enum.Declared.{tagOf}
+use types.Run.{OneOf}
 use Prim.Native.Nat.{ℕ, zero, suc, _≤_, _<_}
 use native.Mathlib.Omega.{arith}
 use lib.IntN.{ℤ}
+use lib.Ieee.{Float}
+use lib.ListN.{length}
 use borrow.Author.Tests.{le-leb, lt-leb}
 use Rattle.start.specs.declared.coef.Reorder.{Reorder}
 use Rattle.start.specs.declared.coef.Reorder.the-variants.{Each, Once}
 use Rattle.start.specs.Buffers.{Buffers}
 use Rattle.record.specs.declared.Run.{Run}
+use Rattle.record.specs.declared.Answer.{Answer}
+use Rattle.record.specs.declared.Answer.the-variants.{Refused, Done, Blown, Blended}
+use Rattle.record.proofs.Answer.{the-type}
 use Rattle.record.specs.declared.Answered.{Answered}
 use Rattle.record.specs.Model.{answerOf}
-use Rattle.run.specs.Public.{Result, gave}
+use Rattle.calls.specs.Jobs.{blend}
+use Rattle.run.specs.Public.{Result, gave, callOf, forBlend, BlendIs}
 use Rattle.serve.specs.Serve.{byteOf, GaveNumber, ServeIs, serveRefusalOf}
 use Rattle.smoother.specs.declared.LentRun.{LentRun}
 use Rattle.smoother.specs.declared.Numbered.{Numbered}
-use Rattle.smoother.specs.Numbers.{reorderFrom, reorderNumber, runFrom, lentFrom, inNumbers, GaveLent, listRefusal, ServeNumbers}
+use Rattle.smoother.specs.Numbers.{reorderFrom, reorderNumber, runFrom, lentFrom, inNumbers, GaveLent, pairIn, roomRefusal, BlendNumbers, listRefusal, ServeNumbers}
 
 -- ---- the letter and the record, there and back
 
@@ -64,6 +73,43 @@ module _ {x : LentRun} {B : Buffers} {f : Run → Result} where
           ap (λ (o : Result). o .buffers) (sym given),
         );
       }
+
+-- ---- blend, with its totals
+
+-- an answer that has no totals
+pub no-pair : (a : Answer) (T : List Float) → OneOf (0 ∷ 1 ∷ 2 ∷ []) (tagOf the-type a) → T ≡ pairIn (answerOf a) T
+no-pair (Refused m) T one = refl
+no-pair Done T one = refl
+no-pair Blown T one = refl
+no-pair (Blended tv tgv) T one = let y : ⊥ = ⊎-elim (λ e. omega arith) (λ o. ⊎-elim (λ e. omega arith) (λ e. omega arith) o) one in absurd y
+
+module _ {x : LentRun} {plane gradient across down totals : List Float} where
+  pub not-two : length totals ≢ 2 → (k : ℕ) → k ≡ roomRefusal x → BlendNumbers x plane gradient across down totals k x gradient across down totals
+  not-two f k e =
+      record { two = λ q. absurd (f q); pair = λ q. absurd (f q); not-two = λ g. (e, refl, refl, refl, refl, refl) }
+
+  module _ (long : length totals ≡ 2) where
+    pub blend-no-letter : 1 < x .reorder → BlendNumbers x plane gradient across down totals 13 x gradient across down totals
+    blend-no-letter l =
+        record {
+          two = λ q levels tables o. no-letter l;
+          pair = λ q levels tables o. rw (lt-leb (x .reorder) 1 l);
+          not-two = λ g. absurd (g long);
+        }
+
+    pub blend-numbers : x .reorder ≤ 1 → (r : Run) → r ≡ runFrom x → (a : Answered) (n : Numbered) → n ≡ inNumbers a → {gradient′ across′ down′ totals′ : List Float}
+        → BlendIs r plane gradient across down (a .answer) (a .run) gradient′ across′ down′ → totals′ ≡ pairIn (answerOf (a .answer)) totals
+        → BlendNumbers x plane gradient across down totals (n .answer) (n .run) gradient′ across′ down′ totals′
+    blend-numbers l r q a n e h put =
+        record {
+          two = λ w levels tables o. in-numbers l r q a n e (h levels tables o);
+          pair =
+              λ w levels tables o.
+              put
+              ∙ ap (λ (z : Result). pairIn (z .answer) totals) (sym (ap (λ (s : Run). callOf s blend levels tables (forBlend o plane gradient across down)) (sym q) ∙ h levels tables o))
+              ∙ rw (le-leb (x .reorder) 1 l);
+          not-two = λ g. absurd (g long);
+        }
 
 -- a call that was lent the numbers of a record: what it gave
 pub made-of : (r : Run) {B : Buffers} {f : Run → Result} {k : ℕ} {r′ : Run} {B′ : Buffers} → GaveLent (lentFrom r) B f k (lentFrom r′) B′ → GaveNumber (f r) k r′ B′

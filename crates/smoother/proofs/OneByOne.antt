@@ -18,7 +18,7 @@ module _ (levels : List ℤ) (tables : List ℕ) where
   made : (r : Run) (B : Buffers) {x : Call} {k : ℕ} {r′ : Run} {B′ : Buffers} → Makes levels tables r B x k r′ B′ → GaveNumber (callOf r x levels tables B) k r′ B′
   made r B (pushes h) = made-of r (h levels tables B)
   made r B (fits h) = made-of r (h B)
-  made r B (blends h) = made-of r (h levels tables B)
+  made r B (blends e h) = made-of r (h .two e levels tables B)
   made r B (moves h) = made-of r (h levels tables B)
   made r B (projects h) = made-of r (h B)
 

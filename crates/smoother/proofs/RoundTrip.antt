@@ -2,7 +2,7 @@
 -- of its weights.
 use mathlib.Core.Path.{_≡_, refl, sym, ap, _∙_, fun-ext}
 use mathlib.Core.Logic.{_≢_}
-use Prim.Native.Nat.{ℕ, suc}
+use Prim.Native.Nat.{ℕ, zero, suc, _+_, _*_}
 use mathlib.Core.Bool.{Bool, true, false, cond, _&&_}
 use mathlib.Core.List.{List}
 use lib.Dec.{T, eqb, leb}
@@ -17,8 +17,8 @@ use Rattle.contents.specs.Weights.{valueOf}
 use Rattle.contents.specs.declared.Sheet.{Sheet}
 use Rattle.contents.specs.declared.Choice.{Choice}
 use Rattle.contents.specs.declared.Choice.the-variants as choice
+use Rattle.fold.specs.Join.{joinUpto}
 use Rattle.fold.specs.Part.{part}
-use Rattle.start.specs.Buffers.{Buffers}
 use Rattle.calls.specs.Run.{Given, levelsBefore, every, among}
 use Rattle.calls.specs.Buffers.{joined}
 use Rattle.calls.specs.Jobs.{kept}
@@ -27,8 +27,8 @@ use Rattle.calls.specs.Calls.{Answer, startRefusal, lengths, allSix}
 use Rattle.serve.specs.Serve.{byteOf}
 use Rattle.record.specs.declared.Run.{Run}
 use Rattle.record.specs.Model.{sheetOf, placesOf, givenOf}
-use Rattle.rounds.specs.Whole.{jobCount, runBlows, Whole, last, runOf, Ends}
-use Rattle.solve.specs.Solve.{reorderOf, joint, alone, tablesFor, separately, wholeOf, isLegal, allLegal, solveRefusal, numberIn}
+use Rattle.rounds.specs.Whole.{jobCount, runBlows, runTotals, Whole, last, runOf, Loan, Ends}
+use Rattle.solve.specs.Solve.{reorderOf, joint, alone, iterationsAt, stepsBefore, blendCount, tablesFor, separately, wholeOf, isLegal, allLegal, solveRefusal, numberIn}
 use Rattle.smoother.specs.Sheets.{choiceNumber, numbersOf, weightBits}
 use Rattle.smoother.specs.Whole.{choiceFrom, sheetOfNumbers, sheetRefusal, numbersRefusal, SolveNumbers}
 
@@ -71,17 +71,19 @@ module _ (levels : List ℤ) (tables : List ℕ) where
   abbrev ownGiven : Run → (ℕ → Run) → ℕ → Given
   ownGiven J A c = givenOf (A c) (part levels (levelsBefore (sheetOf J) c) (levelsBefore (sheetOf J) (suc c))) (tablesFor tables c)
 
-  abbrev refusalBy : List ℕ → ℕ → Run → (ℕ → Run) → ℕ
-  refusalBy ls n J A = cond (isLegal J && every n (λ c. isLegal (A c))) (startRefusal (givenOf J levels tables) (placesOf J) ls) 13
+  abbrev refusalBy : List ℕ → ℕ → ℕ → ℕ → Run → (ℕ → Run) → ℕ
+  refusalBy ls t blends n J A =
+      cond (isLegal J && every n (λ c. isLegal (A c))) (cond (eqb t (blends * 2)) (startRefusal (givenOf J levels tables) (placesOf J) ls) 8) 13
 
-  abbrev lentBy : List ℕ → ℕ → ℕ → Run → (ℕ → Run) → ℕ
-  lentBy ls m n J A = cond (isLegal J && every n (λ c. isLegal (A c))) (cond (eqb m n) (refusalBy ls n J A) 8) 13
+  abbrev lentBy : List ℕ → ℕ → ℕ → ℕ → ℕ → Run → (ℕ → Run) → ℕ
+  lentBy ls t m blends n J A = cond (isLegal J && every n (λ c. isLegal (A c))) (cond (eqb m n) (refusalBy ls t blends n J A) 8) 13
 
   abbrev wholeBy : Bool → ℕ → Run → (ℕ → Run) → Whole
   wholeBy b n J A =
       cond b (runOf (givenOf J levels tables))
       (record {
         buffers = joined n (λ c. last (ownGiven J A c) 0);
+        totals = joinUpto (λ c. runTotals (ownGiven J A c)) n;
         blown = among n (λ c. runBlows (ownGiven J A c));
         channels = n;
         clipped = λ c. kept jobs (ownGiven J A c) (jobCount (ownGiven J A c)) 0;
@@ -99,6 +101,15 @@ module _ (S : Sheet) where
   unfolding sheetOfNumbers numbersOf
   mode-kept = same-mode (S .header .joint)
 
+  same-steps : (c : ℕ) → stepsBefore S′ c ≡ stepsBefore S c
+  unfolding sheetOfNumbers numbersOf stepsBefore
+  same-steps zero = refl
+  same-steps (suc c) = ap (λ (n : ℕ). n + iterationsAt S c) (same-steps c)
+
+  same-blends : blendCount S′ ≡ blendCount S
+  unfolding sheetOfNumbers numbersOf
+  same-blends = λ i. cond (mode-kept i) (S .header .iterations0) (same-steps (S .header .channels) i)
+
   same-joint : joint S′ ≡ joint S
   unfolding sheetOfNumbers numbersOf joint
   same-joint = rw (same-letter (S .settings .start), same-value (S .header .smoothing0), same-value (S .header .data0), same-value (S .header .data1), same-value (S .header .data2))
@@ -109,25 +120,27 @@ module _ (S : Sheet) where
       rw (same-letter (S .settings .start), same-value (S .header .data0), same-choice (eqb c 0) (eqb c 1) (S .header .smoothing0) (S .header .smoothing1) (S .header .smoothing2))
 
   module _ (levels : List ℤ) (tables : List ℕ) where
-    pub same-refusal : (ls : List ℕ) → solveRefusal S′ levels tables ls ≡ solveRefusal S levels tables ls
+    pub same-refusal : (ls : List ℕ) (t : ℕ) → solveRefusal S′ levels tables ls t ≡ solveRefusal S levels tables ls t
     unfolding solveRefusal allLegal
-    same-refusal ls = λ i. refusalBy levels tables ls (same-count i) (same-joint i) (fun-ext same-alone i)
+    same-refusal ls t = λ i. refusalBy levels tables ls t (same-blends i) (same-count i) (same-joint i) (fun-ext same-alone i)
 
     pub same-whole : wholeOf S′ levels tables ≡ wholeOf S levels tables
     unfolding wholeOf separately
     same-whole = λ i. wholeBy levels tables (mode-kept i) (same-count i) (same-joint i) (fun-ext same-alone i)
 
-    same-sheet-refusal : (ls : List ℕ) (m : ℕ) → sheetRefusal S′ levels tables ls m ≡ sheetRefusal S levels tables ls m
+    same-sheet-refusal : (ls : List ℕ) (t m : ℕ) → sheetRefusal S′ levels tables ls t m ≡ sheetRefusal S levels tables ls t m
     unfolding sheetRefusal solveRefusal allLegal
-    same-sheet-refusal ls m = λ i. lentBy levels tables ls m (same-count i) (same-joint i) (fun-ext same-alone i)
+    same-sheet-refusal ls t m = λ i. lentBy levels tables ls t m (same-blends i) (same-count i) (same-joint i) (fun-ext same-alone i)
 
-    same-numbers : (ls : List ℕ) (m : ℕ) → numbersRefusal (numbersOf S) levels tables ls m ≡ sheetRefusal S levels tables ls m
+    same-numbers : (ls : List ℕ) (t m : ℕ) → numbersRefusal (numbersOf S) levels tables ls t m ≡ sheetRefusal S levels tables ls t m
     unfolding numbersRefusal numbersOf
-    same-numbers ls m = ap (λ (b : Bool). cond b (sheetRefusal S′ levels tables ls m) 13) (both-letters (S .header .joint) (S .settings .start)) ∙ same-sheet-refusal ls m
+    same-numbers ls t m = ap (λ (b : Bool). cond b (sheetRefusal S′ levels tables ls t m) 13) (both-letters (S .header .joint) (S .settings .start)) ∙ same-sheet-refusal ls t m
 
     -- the exported call, lent the numbers of a sheet, does what `solve` does of the sheet
-    pub as-of-sheet : (B : Buffers) (ks : List ℕ) (k : ℕ) (B′ : Buffers) (ks′ : List ℕ)
-        → SolveNumbers (numbersOf S) levels tables B ks k B′ ks′
-        ≡ ((a : Answer) × (k ≡ byteOf a) × Ends (sheetRefusal S levels tables (lengths allSix B) (length ks)) (wholeOf S levels tables) B a (numberIn ks′) B′ × (k ≢ 0 → ks′ ≡ ks))
-    as-of-sheet B ks k B′ ks′ =
-        λ i. (a : Answer) × (k ≡ byteOf a) × Ends (same-numbers (lengths allSix B) (length ks) i) (same-whole i) B a (numberIn ks′) B′ × (k ≢ 0 → ks′ ≡ ks)
+    pub as-of-sheet : (L : Loan) (ks : List ℕ) (k : ℕ) (L′ : Loan) (ks′ : List ℕ)
+        → SolveNumbers (numbersOf S) levels tables L ks k L′ ks′
+        ≡ ((a : Answer) × (k ≡ byteOf a)
+        × Ends (sheetRefusal S levels tables (lengths allSix (L .buffers)) (length (L .totals)) (length ks)) (wholeOf S levels tables) L a (numberIn ks′) L′ × (k ≢ 0 → ks′ ≡ ks))
+    as-of-sheet L ks k L′ ks′ =
+        λ i. (a : Answer) × (k ≡ byteOf a)
+        × Ends (same-numbers (lengths allSix (L .buffers)) (length (L .totals)) (length ks) i) (same-whole i) L a (numberIn ks′) L′ × (k ≢ 0 → ks′ ≡ ks)

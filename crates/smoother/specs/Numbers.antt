@@ -4,19 +4,21 @@ use Prim.Native.Nat.{ℕ}
 use mathlib.Core.Path.{_≡_}
 use mathlib.Core.Logic.{_≢_}
 use mathlib.Core.Bool.{true, false, cond}
-use mathlib.Core.List.{List}
+use mathlib.Core.List.{List, [], _∷_}
 use lib.Dec.{eqb, leb}
 use lib.IntN.{ℤ}
 use lib.Ieee.{Float}
+use lib.ListN.{length}
 use Rattle.start.specs.declared.coef.Reorder.{Reorder}
 use Rattle.start.specs.declared.coef.Reorder.the-variants.{Each, Once}
 use Rattle.start.specs.Buffers.{Buffers}
 use Rattle.calls.specs.Jobs.{push, fidelity, move, project, on, blend}
-use Rattle.calls.specs.Calls.{noneYet, plainPlaces}
+use Rattle.calls.specs.Run.{legal}
+use Rattle.calls.specs.Calls.{Answer, refused, done, blown, blended, noneYet, plainPlaces}
 use Rattle.demand.specs.Solver.{jobs}
 use Rattle.record.specs.declared.Run.{Run}
 use Rattle.record.specs.declared.Answered.{Answered}
-use Rattle.record.specs.Model.{givenOf, answerOf}
+use Rattle.record.specs.Model.{sheetOf, placesOf, givenOf, answerOf}
 use Rattle.run.specs.Public.{Result, callOf, startOf, forPush, forData, forBlend, forMove, forProject}
 use Rattle.smoother.specs.declared.LentRun.{LentRun}
 use Rattle.smoother.specs.declared.Numbered.{Numbered}
@@ -69,11 +71,28 @@ DataNumbers x c levels tables gradient saved k x′ gradient′ =
     → let B = forData o gradient saved in
     GaveLent x B (λ r. callOf r (on fidelity c) levels tables B) k x′ (forData o gradient′ saved)
 
-abbrev pub BlendNumbers : LentRun → List Float → List Float → List Float → List Float → ℕ → LentRun → List Float → List Float → List Float → Type 0
-BlendNumbers x plane gradient across down k x′ gradient′ across′ down′ =
-    (levels : List ℤ) (tables : List ℕ) (o : Buffers)
-    → let B = forBlend o plane gradient across down in
-    GaveLent x B (λ r. callOf r blend levels tables B) k x′ (forBlend o plane gradient′ across′ down′)
+-- the two places of blend's totals afterwards: both totals where it is done, else as they were (document 02, M-103)
+abbrev pub pairIn : Answer → List Float → List Float
+pairIn (refused n) totals = totals
+pairIn done totals = totals
+pairIn blown totals = totals
+pairIn (blended tv tgv) totals = tv ∷ tgv ∷ []
+
+-- where not two places are lent: 13 for C's record, then 8
+abbrev pub roomRefusal : LentRun → ℕ
+roomRefusal x = cond (leb (x .reorder) 1) (cond (legal (sheetOf (runFrom x)) (placesOf (runFrom x))) 8 13) 13
+
+pub record BlendNumbers (x : LentRun) (plane gradient across down totals : List Float) (k : ℕ) (x′ : LentRun) (gradient′ across′ down′ totals′ : List Float) : Type 0 where
+  -- two places for the totals: as the other calls
+  pub two : length totals ≡ 2 → (levels : List ℤ) (tables : List ℕ) (o : Buffers)
+      → let B = forBlend o plane gradient across down in
+      GaveLent x B (λ r. callOf r blend levels tables B) k x′ (forBlend o plane gradient′ across′ down′)
+  -- and the totals, where C's record has a letter; else they are as they were
+  pub pair : length totals ≡ 2 → (levels : List ℤ) (tables : List ℕ) (o : Buffers)
+      → totals′ ≡ cond (leb (x .reorder) 1) (pairIn (callOf (runFrom x) blend levels tables (forBlend o plane gradient across down) .answer) totals) totals
+  -- another count of places: refused, and all is as it was
+  pub not-two : length totals ≢ 2
+      → (k ≡ roomRefusal x) × (x′ ≡ x) × (gradient′ ≡ gradient) × (across′ ≡ across) × (down′ ≡ down) × (totals′ ≡ totals)
 
 abbrev pub MoveNumbers : LentRun → ℕ → List Float → List Float → ℕ → LentRun → List Float → Type 0
 MoveNumbers x c plane gradient k x′ plane′ =

@@ -1,8 +1,10 @@
 -- The exported calls made one by one by any program: each is lent the record and the buffers that the one before left, with the same levels and tables.
 use Prim.Native.Nat.{ℕ}
+use mathlib.Core.Path.{_≡_}
 use mathlib.Core.List.{List, [], _∷_}
 use lib.IntN.{ℤ}
 use lib.Ieee.{Float}
+use lib.ListN.{length}
 use Rattle.start.specs.Buffers.{Buffers}
 use Rattle.calls.specs.Jobs.{push, fidelity, move, project, Call, on, blend}
 use Rattle.calls.specs.Calls.{noneYet, plainPlaces}
@@ -15,14 +17,14 @@ use Rattle.serve.specs.Made.{Made, callsOf, bytesOf, lastRun, lastBuffers}
 use Rattle.smoother.specs.Numbers.{lentFrom, StartNumbers, PushNumbers, DataNumbers, BlendNumbers, MoveNumbers, ProjectNumbers}
 
 -- A call made from the record r and the buffers B, by its contract: its answer's number, the record and the buffers that it left, both records in numbers.
--- What it is not lent stays.
+-- What it is not lent stays. A blend is lent two places for its totals.
 pub data Makes (levels : List ℤ) (tables : List ℕ) (r : Run) (B : Buffers) : Call → ℕ → Run → Buffers → Type 0 where
   pushes : {c k : ℕ} {r′ : Run} {plane prior : List Float}
       → PushNumbers (lentFrom r) c (B .plane) (B .prior) k (lentFrom r′) plane prior → Makes levels tables r B (on push c) k r′ (forPush B plane prior)
   fits : {c k : ℕ} {r′ : Run} {gradient : List Float}
       → DataNumbers (lentFrom r) c levels tables (B .gradient) (B .saved) k (lentFrom r′) gradient → Makes levels tables r B (on fidelity c) k r′ (forData B gradient (B .saved))
-  blends : {k : ℕ} {r′ : Run} {gradient across down : List Float}
-      → BlendNumbers (lentFrom r) (B .plane) (B .gradient) (B .across) (B .down) k (lentFrom r′) gradient across down
+  blends : {k : ℕ} {r′ : Run} {gradient across down lent totals : List Float} → length lent ≡ 2
+      → BlendNumbers (lentFrom r) (B .plane) (B .gradient) (B .across) (B .down) lent k (lentFrom r′) gradient across down totals
       → Makes levels tables r B blend k r′ (forBlend B (B .plane) gradient across down)
   moves : {c k : ℕ} {r′ : Run} {plane : List Float}
       → MoveNumbers (lentFrom r) c (B .plane) (B .gradient) k (lentFrom r′) plane → Makes levels tables r B (on move c) k r′ (forMove B plane (B .gradient))

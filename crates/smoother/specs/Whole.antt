@@ -16,10 +16,9 @@ use Rattle.contents.specs.declared.Choice.the-variants as choice
 use Rattle.contents.specs.declared.Settings.{Settings}
 use Rattle.contents.specs.declared.Header.{Header}
 use Rattle.contents.specs.declared.Channel.{Channel}
-use Rattle.start.specs.Buffers.{Buffers}
 use Rattle.calls.specs.Calls.{Answer, lengths, allSix}
 use Rattle.serve.specs.Serve.{byteOf}
-use Rattle.rounds.specs.Whole.{Ends}
+use Rattle.rounds.specs.Whole.{Loan, Ends}
 use Rattle.solve.specs.Solve.{allLegal, solveRefusal, wholeOf, numberIn}
 use Rattle.smoother.specs.Sheets.{recordCount}
 use Rattle.picture.specs.declared.Rounding.{Rounding}
@@ -71,19 +70,19 @@ abbrev pub lettersOk : List ℕ → Bool
 lettersOk ns = leb (getD ns 5 0) 1 && leb (getD ns 28 0) 1
 
 -- what `solve` refuses, and among its lengths (8) that of the buffer for the channels' numbers, one for each
-unfoldable pub sheetRefusal : Sheet → List ℤ → List ℕ → List ℕ → ℕ → ℕ
-sheetRefusal S levels tables ls m = cond (allLegal S) (cond (eqb m (S .header .channels)) (solveRefusal S levels tables ls) 8) 13
+unfoldable pub sheetRefusal : Sheet → List ℤ → List ℕ → List ℕ → ℕ → ℕ → ℕ
+sheetRefusal S levels tables ls t m = cond (allLegal S) (cond (eqb m (S .header .channels)) (solveRefusal S levels tables ls t) 8) 13
 
 -- "a lent buffer's length differs" (8), first: with fewer or more numbers there is no record; then 13 for a mode or a letter of line `A` that is neither 0 nor 1, and then what the sheet's run refuses
-unfoldable pub numbersRefusal : List ℕ → List ℤ → List ℕ → List ℕ → ℕ → ℕ
-numbersRefusal ns levels tables ls m =
-    cond (eqb (length ns) recordCount) (cond (lettersOk ns) (sheetRefusal (sheetOfNumbers ns) levels tables ls m) 13) 8
+unfoldable pub numbersRefusal : List ℕ → List ℤ → List ℕ → List ℕ → ℕ → ℕ → ℕ
+numbersRefusal ns levels tables ls t m =
+    cond (eqb (length ns) recordCount) (cond (lettersOk ns) (sheetRefusal (sheetOfNumbers ns) levels tables ls t m) 13) 8
 
 -- `SolveIs` of the record's sheet, by the answer's number k. The buffer ks has each channel's number afterwards, and is as it was where the answer is not done.
-abbrev pub SolveNumbers : List ℕ → List ℤ → List ℕ → Buffers → List ℕ → ℕ → Buffers → List ℕ → Type 0
-SolveNumbers ns levels tables B ks k B′ ks′ =
+abbrev pub SolveNumbers : List ℕ → List ℤ → List ℕ → Loan → List ℕ → ℕ → Loan → List ℕ → Type 0
+SolveNumbers ns levels tables L ks k L′ ks′ =
     (a : Answer) × (k ≡ byteOf a)
-    × Ends (numbersRefusal ns levels tables (lengths allSix B) (length ks)) (wholeOf (sheetOfNumbers ns) levels tables) B a (numberIn ks′) B′
+    × Ends (numbersRefusal ns levels tables (lengths allSix (L .buffers)) (length (L .totals)) (length ks)) (wholeOf (sheetOfNumbers ns) levels tables) L a (numberIn ks′) L′
     × (k ≢ 0 → ks′ ≡ ks)
 
 -- ---- finish

@@ -7,9 +7,10 @@ use record::Answered;
 use record::Run;
 use start::coef::Reorder;
 ghost use mathlib.Core.Path.{_≡_};
+ghost use lib.ListN.{length};
 ghost use Rattle.record.specs.Model.{answerOf};
 ghost use Rattle.serve.specs.Serve.{byteOf};
-ghost use Rattle.smoother.specs.Numbers.{reorderFrom, reorderNumber, runFrom, lentFrom, inNumbers, StartNumbers, PushNumbers, DataNumbers, BlendNumbers, MoveNumbers, ProjectNumbers, ServeNumbers};
+ghost use Rattle.smoother.specs.Numbers.{reorderFrom, reorderNumber, runFrom, lentFrom, inNumbers, pairIn, roomRefusal, StartNumbers, PushNumbers, DataNumbers, BlendNumbers, MoveNumbers, ProjectNumbers, ServeNumbers};
 
 // An answer's number. Ruled out: 0 for a project that marks its channel; 255 for a refusal.
 pub fn number_of(a: Answer) -> u32
@@ -216,25 +217,59 @@ pub extern "C" fn smoother_data(
     p.answer
 }
 
+// What blend refuses where not two places are lent for its totals.
+fn room_refusal(run: LentRun) -> u32
+    ensures { λ r. ⌜ r ≡ roomRefusal run ⌝ }
+{
+    if 1 < run.reorder {
+        return 13;
+    }
+    if record::legal::legal(run_from(run)) {
+        return 8;
+    }
+    13
+}
+
+// Both totals of a blend's answer, into two places.
+fn put_pair(a: Answer, totals: &mut [f64])
+    requires { ⌜ length (now totals) ≡ 2 ⌝ }
+    ensures { λ _. ⌜ now (totals .exit) ≡ pairIn (answerOf a) (now (totals .entry)) ⌝ }
+{
+    let Answer::Blended { tv, tgv } = a else {
+        return;
+    };
+    rounds::put_two(tv, tgv, totals);
+}
+
 pub fn blend_number(
     run: LentRun,
     plane: &[f32],
     gradient: &mut [f32],
     across: &mut [f32],
     down: &mut [f32],
+    totals: &mut [f64],
 ) -> Numbered
-    ensures { λ r. ⌜ BlendNumbers run (now (plane .entry)) (now (gradient .entry)) (now (across .entry)) (now (down .entry))
-        (r .answer) (r .run) (now (gradient .exit)) (now (across .exit)) (now (down .exit)) ⌝ }
+    ensures { λ r. ⌜ BlendNumbers run (now (plane .entry)) (now (gradient .entry)) (now (across .entry)) (now (down .entry)) (now (totals .entry))
+        (r .answer) (r .run) (now (gradient .exit)) (now (across .exit)) (now (down .exit)) (now (totals .exit)) ⌝ }
 {
+    if totals.len() != 2 {
+        return Numbered {
+            answer: room_refusal(run),
+            run,
+        };
+    }
     if 1 < run.reorder {
         return Numbered { answer: 13, run };
     }
     let r = run_from(run);
     let p = run::values::blend_value(r, plane, gradient, across, down);
+    let a = p.answer;
+    put_pair(a, totals);
     in_numbers(p)
 }
 
-// Blend. Ruled out: done where a channel's data is still to come; the position of the first channel alone counted up.
+// Blend. `totals` has two places, else 8. Ruled out: done where a channel's data is still to come; the position of the first channel alone counted up; totals
+// stored by a refusal.
 #[no_mangle]
 pub extern "C" fn smoother_blend(
     run: &mut LentRun,
@@ -242,11 +277,12 @@ pub extern "C" fn smoother_blend(
     gradient: &mut [f32],
     across: &mut [f32],
     down: &mut [f32],
+    totals: &mut [f64],
 ) -> u32
-    ensures { λ r. ⌜ BlendNumbers (now (run .entry)) (now (plane .entry)) (now (gradient .entry)) (now (across .entry)) (now (down .entry))
-        r (now (run .exit)) (now (gradient .exit)) (now (across .exit)) (now (down .exit)) ⌝ }
+    ensures { λ r. ⌜ BlendNumbers (now (run .entry)) (now (plane .entry)) (now (gradient .entry)) (now (across .entry)) (now (down .entry)) (now (totals .entry))
+        r (now (run .exit)) (now (gradient .exit)) (now (across .exit)) (now (down .exit)) (now (totals .exit)) ⌝ }
 {
-    let p = blend_number(*run, plane, gradient, across, down);
+    let p = blend_number(*run, plane, gradient, across, down, totals);
     *run = p.run;
     p.answer
 }

@@ -13,7 +13,7 @@ use solve::modes::all_legal;
 ghost use mathlib.Core.Path.{_≡_};
 ghost use Prim.Native.Nat.{_+_, _≤_, _<_};
 ghost use lib.ListN.{length, take};
-ghost use Rattle.rounds.specs.Whole.{six};
+ghost use Rattle.rounds.specs.Whole.{six, loan};
 ghost use Rattle.smoother.specs.Sheets.{recordCount};
 ghost use Rattle.smoother.specs.Whole.{headerFrom, channelFrom, choiceFrom, settingsFrom, sheetOfNumbers, SolveNumbers, roundingFrom, FinishNumbers};
 
@@ -97,7 +97,7 @@ fn put_clipped(from: [u32; 3], to: &mut [u32])
 
 // The whole run of a sheet, by the numbers that `smoother_read` lends out. 8 for another count of them, 13 for a mode or a letter of line A that is neither 0 nor 1, and
 // else what `solve` answers, with 8 also for a buffer `clipped` that has not one place for each channel. Where done, that has each channel's number of clipped
-// coefficients. Ruled out: the planes of separate mode for a record whose mode is 1; 8 for six good buffers where a weight is infinite (13); numbers changed by a
+// coefficients, and `totals` both totals of each blend. Ruled out: the planes of separate mode for a record whose mode is 1; 8 for six good buffers where a weight is infinite (13); numbers changed by a
 // refusal.
 #[no_mangle]
 pub extern "C" fn smoother_solve(
@@ -111,10 +111,11 @@ pub extern "C" fn smoother_solve(
     down: &mut [f32],
     saved: &mut [f32],
     clipped: &mut [u32],
+    totals: &mut [f64],
 ) -> u32
     ensures { λ r. ⌜ SolveNumbers (now (numbers .entry)) (now (levels .entry)) (now (tables .entry))
-        (six (now (plane .entry)) (now (prior .entry)) (now (gradient .entry)) (now (across .entry)) (now (down .entry)) (now (saved .entry))) (now (clipped .entry)) r
-        (six (now (plane .exit)) (now (prior .exit)) (now (gradient .exit)) (now (across .exit)) (now (down .exit)) (now (saved .exit))) (now (clipped .exit)) ⌝ }
+        (loan (six (now (plane .entry)) (now (prior .entry)) (now (gradient .entry)) (now (across .entry)) (now (down .entry)) (now (saved .entry))) (now (totals .entry))) (now (clipped .entry)) r
+        (loan (six (now (plane .exit)) (now (prior .exit)) (now (gradient .exit)) (now (across .exit)) (now (down .exit)) (now (saved .exit))) (now (totals .exit))) (now (clipped .exit)) ⌝ }
 {
     if numbers.len() != NUMBERS {
         return 8;
@@ -142,6 +143,7 @@ pub extern "C" fn smoother_solve(
         across,
         down,
         saved,
+        totals,
     );
     let a = t.answer;
     let k = runs::number_of(a);

@@ -74,6 +74,8 @@ exports! {
         across_len: usize,
         down: *mut f32,
         down_len: usize,
+        totals: *mut f64,
+        totals_len: usize,
     ) -> u32;
     pub fn smoother_move(
         run: &mut Run,
@@ -145,6 +147,8 @@ exports! {
         saved_len: usize,
         clipped: *mut u32,
         clipped_len: usize,
+        totals: *mut f64,
+        totals_len: usize,
     ) -> u32;
     pub fn smoother_finish(
         rounding: u32,

@@ -26,8 +26,8 @@ mod tapes;
 
 pub use refusal::{Error, Fault, Refusal};
 pub use run::{
-    Answers, Buffers, Channel, Job, Outcome, Projected, Reorder, Run, blend, call, data, move_plane, project, push,
-    serve, serve_numbers, start,
+    Answers, Buffers, Channel, Job, Outcome, Projected, Reorder, Run, Totals, blend, call, data, move_plane, project,
+    push, serve, serve_numbers, start,
 };
 pub use segments::{QUANTISERS, SEGMENT, dqt_export, dqt_export_into, dqt_import};
 pub use sheet::{

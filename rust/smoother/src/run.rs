@@ -94,6 +94,19 @@ pub struct Projected {
     pub clipped: u32,
 }
 
+/// What an accepted blend says: the totals of the first and of the second order, which the smoothing is to lower.
+#[derive(Clone, Copy, Debug, PartialEq)]
+pub struct Totals {
+    pub tv: f64,
+    pub tgv: f64,
+}
+
+impl From<[f64; 2]> for Totals {
+    fn from([tv, tgv]: [f64; 2]) -> Totals {
+        Totals { tv, tgv }
+    }
+}
+
 /// The five jobs of a step, each with its number.
 #[derive(Clone, Copy, Debug, PartialEq, Eq, Hash)]
 #[repr(u8)]
@@ -145,8 +158,12 @@ pub fn data(run: &mut Run, c: u32, levels: &[i16], tables: &[u16], b: &mut Buffe
 }
 
 /// Blend of all channels: writes gradient, across and down, reads the plane.
-pub fn blend(run: &mut Run, b: &mut Buffers) -> Result<Outcome, Error> {
-    plain(unsafe { lend!(smoother_blend(lent(run), read b.plane, write b.gradient, write b.across, write b.down)) })
+pub fn blend(run: &mut Run, b: &mut Buffers) -> Result<Totals, Error> {
+    let mut both = [0.0; 2];
+    plain(unsafe {
+        lend!(smoother_blend(lent(run), read b.plane, write b.gradient, write b.across, write b.down, write both))
+    })?;
+    Ok(Totals::from(both))
 }
 
 /// Move of channel `c`: writes its part of the plane, reads the gradient.
@@ -176,7 +193,7 @@ pub fn call(
     match job {
         Job::Push => push(run, c, b),
         Job::Data => data(run, c, levels, tables, b),
-        Job::Blend => blend(run, b),
+        Job::Blend => blend(run, b).map(|_| Outcome::Done),
         Job::Move => move_plane(run, c, b),
         Job::Project => project(run, c, levels, tables, b).map(|said| said.outcome),
     }

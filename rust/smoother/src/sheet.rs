@@ -1,6 +1,6 @@
 //! Sheet texts: measured, and read into a sheet.
 use crate::{
-    Buffers, Channel, Error, Fault, Outcome, Reorder, Run,
+    Buffers, Channel, Error, Fault, Outcome, Reorder, Run, Totals,
     ffi::{lend, *},
     refusal::done,
     run::told,
@@ -147,6 +147,8 @@ impl Own {
 pub struct Solved {
     /// The planes of all channels, one after the other.
     pub planes: Vec<f32>,
+    /// Both totals of each blend, run after run (in joint mode one run) and step after step.
+    pub totals: Vec<Totals>,
     /// How many coefficients each channel's last project clipped; 0 without steps.
     pub clipped: Vec<u32>,
 }
@@ -217,12 +219,20 @@ impl Sheet {
         n
     }
 
+    /// How many blends the sheet's runs make: one in each step of each run.
+    pub fn blends(&self) -> usize {
+        let runs = if self.joint { 1 } else { self.count.min(3) as usize };
+        self.iterations[..runs].iter().map(|n| *n as usize).sum()
+    }
+
     /// What the sheet's run leaves after its last job, in its mode; none where a channel blew in the run.
     pub fn solve(&self) -> Result<Option<Solved>, Error> {
         let mut b = self.joint_run().buffers();
+        let mut totals = vec![0.0; 2 * self.blends()];
         let mut clipped = vec![0; self.count.min(3) as usize];
-        let outcome = solve_into(&self.numbers(), &self.levels, &self.tables, &mut b, &mut clipped)?;
-        Ok((outcome == Outcome::Done).then_some(Solved { planes: b.plane, clipped }))
+        let outcome = solve_into(&self.numbers(), &self.levels, &self.tables, &mut b, &mut clipped, &mut totals)?;
+        let totals = totals.chunks_exact(2).map(|both| Totals::from([both[0], both[1]])).collect();
+        Ok((outcome == Outcome::Done).then_some(Solved { planes: b.plane, totals, clipped }))
     }
 
     /// The picture of solved planes: red, green and blue of each pixel, row by row.
@@ -236,17 +246,19 @@ impl Sheet {
 }
 
 /// The whole run of a sheet by its record's numbers, in lent buffers of channels × W × H values each, which become each channel's after its last
-/// job; `clipped` has a place for each channel, which becomes the number of coefficients that its last project clipped. `Outcome::Blown`: a channel
-/// blew in the run, nothing is promised of the buffers, and `clipped` is as it was.
+/// job; `totals` has two places for each blend (`Sheet::blends`), which become its totals; `clipped` has a place for each channel, which becomes the
+/// number of coefficients that its last project clipped. `Outcome::Blown`: a channel blew in the run, nothing is promised of the buffers and the totals,
+/// and `clipped` is as it was.
 pub fn solve_into(
     header: &[u32],
     levels: &[i16],
     tables: &[u16],
     b: &mut Buffers,
     clipped: &mut [u32],
+    totals: &mut [f64],
 ) -> Result<Outcome, Error> {
     // SAFETY: each pointer and length are of one slice, and the slices do not overlap.
-    told(unsafe { lend!(smoother_solve(read header, read levels, read tables, six b, write clipped)) })
+    told(unsafe { lend!(smoother_solve(read header, read levels, read tables, six b, write clipped, write totals)) })
 }
 
 /// The picture of planes, in lent bytes; `sides` are W, H and the picture's.

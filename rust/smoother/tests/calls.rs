@@ -60,14 +60,14 @@ fn step(channels: u32) -> Vec<(Job, u32)> {
 }
 
 /// Makes a call that has to be refused and has to leave everything as it was.
-fn refused(
+fn refused<T>(
     why: Refusal,
     run: &mut Run,
     b: &mut Buffers,
-    f: impl FnOnce(&mut Run, &mut Buffers) -> Result<Outcome, Error>,
+    f: impl FnOnce(&mut Run, &mut Buffers) -> Result<T, Error>,
 ) {
     let (run_before, before) = (*run, bits(b));
-    assert_eq!(f(run, b), Err(why.into()));
+    assert_eq!(f(run, b).err(), Some(why.into()));
     assert_eq!((*run, bits(b)), (run_before, before));
 }
 
@@ -119,7 +119,7 @@ fn start_reordered_repeatedly_and_once() {
             let due = |i: usize| if i / 16 % step == 0 && i % 16 < 8 { 1.0 - 2.0_f32.powi(-24) } else { 0.0 };
             let due: Vec<f32> = (0..128).map(due).collect();
             assert_eq!(started(&sheet).1.plane, due);
-            assert_eq!(sheet.solve().expect("legal"), Some(Solved { planes: due, clipped: vec![0] }));
+            assert_eq!(sheet.solve().expect("legal"), Some(Solved { planes: due, totals: vec![], clipped: vec![0] }));
         }
     }
 }
@@ -399,14 +399,21 @@ fn rounding() {
 fn solve_is_the_calls() {
     let sheet = sheet_of(&joint(3, "w1 w1 w1"));
     let (mut run, mut b) = started(&sheet);
+    let mut totals = vec![];
     for _ in 0..run.n {
         for (job, c) in step(run.count) {
-            assert_eq!(call(&mut run, job, c, &sheet.levels, &sheet.tables, &mut b), Ok(Outcome::Done));
+            match job {
+                Job::Blend => totals.push(blend(&mut run, &mut b).expect("done")),
+                _ => assert_eq!(call(&mut run, job, c, &sheet.levels, &sheet.tables, &mut b), Ok(Outcome::Done)),
+            }
         }
     }
     let bits = |values: &[f32]| values.iter().map(|x| x.to_bits()).collect::<Vec<_>>();
     let solved = sheet.solve().expect("legal").expect("planes");
     assert_eq!(bits(&solved.planes), bits(&b.plane));
+    assert_eq!(solved.totals, totals);
+    assert_eq!((solved.totals.len(), sheet.blends()), (3, 3));
+    assert!(solved.totals.iter().all(|both| both.tv > 0.0 && both.tgv > 0.0));
     assert_eq!(solved.clipped, run.channels.map(|c| c.clipped));
     assert!(solved.clipped.iter().any(|n| *n > 0));
 }
@@ -445,7 +452,8 @@ fn solve_blows() {
     let sheet = sheet_of(&joint(1, "h7f000000 w1 w1"));
     let mut b = sheet.joint_run().buffers();
     let mut clipped = [7; 3];
-    assert_eq!(solve_into(&sheet.numbers(), &sheet.levels, &sheet.tables, &mut b, &mut clipped), Ok(Outcome::Blown));
+    let said = solve_into(&sheet.numbers(), &sheet.levels, &sheet.tables, &mut b, &mut clipped, &mut [0.0; 2]);
+    assert_eq!(said, Ok(Outcome::Blown));
     assert_eq!(clipped, [7; 3]);
     assert_eq!(sheet.solve(), Ok(None));
 }
@@ -465,13 +473,18 @@ fn solve_refuses() {
         (&numbers, &sheet.levels, Refusal::Record),
         (&no_letter, &sheet.levels, Refusal::Record),
     ] {
-        let mut clipped = [7; 3];
-        assert_eq!(solve_into(numbers, levels, &sheet.tables, &mut b, &mut clipped), Err(why.into()));
-        assert_eq!(clipped, [7; 3]);
+        let (mut totals, mut clipped) = ([5.0; 2], [7; 3]);
+        assert_eq!(solve_into(numbers, levels, &sheet.tables, &mut b, &mut clipped, &mut totals), Err(why.into()));
+        assert_eq!((totals, clipped), ([5.0; 2], [7; 3]));
     }
-    // one place for each channel; 13 comes first
+    // one place for each channel, two for each blend; 13 comes first
     for (numbers, why) in [(&sheet.numbers(), Refusal::Length), (&numbers, Refusal::Record)] {
-        assert_eq!(solve_into(numbers, &sheet.levels, &sheet.tables, &mut b, &mut [0; 2]), Err(why.into()));
+        for (blends, channels) in [(2, 2), (1, 3), (4, 3)] {
+            let (mut totals, mut clipped) = (vec![5.0; blends], vec![7; channels]);
+            let said = solve_into(numbers, &sheet.levels, &sheet.tables, &mut b, &mut clipped, &mut totals);
+            assert_eq!(said, Err(why.into()));
+            assert_eq!((totals, clipped), (vec![5.0; blends], vec![7; channels]));
+        }
     }
     assert_eq!(bits(&b), before);
     assert_eq!(

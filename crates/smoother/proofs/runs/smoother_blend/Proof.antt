@@ -1,7 +1,7 @@
 -- `smoother::runs::smoother_blend` meets its contract: a walk of its MIR, by hand. The record is copied out of its borrow, `blend_number` is called with the copy and with the other parameters, which are given up for good, and the record that it returns is stored.
 -- All that the proof knows of `blend_number` is that it meets its contract, and it opens no clause: what is ensured of the result and of the record at exit is what `blend_number` ensures of its result's fields.
 -- What all such walks share is in `Thin.antt` and `Lent.antt`. Assumes nothing.
-use Rattle.smoother.proofs.Walk.{ℕ, refl, List, [], _∷_, URA, fullShare, Val, vptr, SProp, ent, sep, via, GName, Lft, Share, fat, flft, fobs, fbor, Memory, Routine, Heap, Calls, Loops, WpFn, Tables, Atoms, Fun, Lfts, Shares, givenOf, tables, tablesOf, Given, ‵, raw, _⊛_, ⋆, _$_, _∵_, !, qed, by, move, keep, drop, use3, split, rewrite, fsplit, fsplit3, look, look-raw, init, forget, store-raw, stop, hop, fld, from, load, addr, of-opd, and-then, no-more, assigns, land, returns, enter, alloc1, alloc0, params1, pass1, pass0, free1, free0, agg, whole, sub, look-in, Body, FmC, fmOf, RattleType, Denots, Valss, owns, flat, mirs, Is, Ises, Are, Spells, valss, Tellss, Lawfuls, Typed, all-typed, shows, mem, RefT, ptr-vals, mut-tells, plain, typesAt, slice-vals, mut-slice-tells, mut-slice-lawful, shr-slice-tells, shr-slice-lawful, u32, f32, peeks, named, Contract, Triple, calls-at, Lasts, lasts, atExit, lastsOf, alive, onEntry, Meets, tripleOf, entered, cited, Stays, stay-ref, walkOf, goes-ref, ends-at}
+use Rattle.smoother.proofs.Walk.{ℕ, refl, List, [], _∷_, URA, fullShare, Val, vptr, SProp, ent, sep, via, GName, Lft, Share, fat, flft, fobs, fbor, Memory, Routine, Heap, Calls, Loops, WpFn, Tables, Atoms, Fun, Lfts, Shares, givenOf, tables, tablesOf, Given, ‵, raw, _⊛_, ⋆, _$_, _∵_, !, qed, by, move, keep, drop, use3, split, rewrite, fsplit, fsplit3, look, look-raw, init, forget, store-raw, stop, hop, fld, from, load, addr, of-opd, and-then, no-more, assigns, land, returns, enter, alloc1, alloc0, params1, pass1, pass0, free1, free0, agg, whole, sub, look-in, Body, FmC, fmOf, RattleType, Denots, Valss, owns, flat, mirs, Is, Ises, Are, Spells, valss, Tellss, Lawfuls, Typed, all-typed, shows, mem, RefT, ptr-vals, mut-tells, plain, typesAt, slice-vals, mut-slice-tells, mut-slice-lawful, shr-slice-tells, shr-slice-lawful, u32, f32, f64, peeks, named, Contract, Triple, calls-at, Lasts, lasts, atExit, lastsOf, alive, onEntry, Meets, tripleOf, entered, cited, Stays, stay-ref, walkOf, goes-ref, ends-at}
 use Rattle.smoother.proofs.Thin.{tail, gives, gives-fit, gives-go, opens-record, closes-record, passes-on, returned, hands-back, by-walk}
 use Rattle.smoother.proofs.Lent.{mach, answer, answer-is, run-is, result-told, run-typed, result-typed, answer-typed, answer-makes}
 use Rattle.smoother.specs.declared.LentRun.{LentRun}
@@ -27,21 +27,21 @@ abbrev Callee : {M : Type 1} (𝓤 : URA M) (H : Heap 𝓤) (A : Atoms 𝓤) (me
 Callee 𝓤 H A mem run = tripleOf 𝓤 H A g.signature (g.spec 𝓤 H A mem run)
 
 -- the parameters beside the record: their types, and how their machine values are spelled and told
-abbrev Others : Lft → Lfts 4 → List RattleType
+abbrev Others : Lft → Lfts 5 → List RattleType
 Others κ κs′ = typesAt (tail (f.signature .params)) (κ, κs′)
 
-abbrev spells : (κ : Lft) (κs′ : Lfts 4) → Spells (Others κ κs′)
-spells κ κs′ = (slice-vals, (slice-vals, (slice-vals, (slice-vals, tt))))
+abbrev spells : (κ : Lft) (κs′ : Lfts 5) → Spells (Others κ κs′)
+spells κ κs′ = (slice-vals, (slice-vals, (slice-vals, (slice-vals, (slice-vals, tt)))))
 
-abbrev tells : (κ : Lft) (κs′ : Lfts 4) → Tellss (Others κ κs′) (Ises (Others κ κs′)) (spells κ κs′)
-tells κ κs′ = (shr-slice-tells (named 1) (κs′ .0) f32, (mut-slice-tells (named 2) (κs′ .1 .0) f32, (mut-slice-tells (named 3) (κs′ .1 .1 .0) f32, (mut-slice-tells (named 4) (κs′ .1 .1 .1 .0) f32, tt))))
+abbrev tells : (κ : Lft) (κs′ : Lfts 5) → Tellss (Others κ κs′) (Ises (Others κ κs′)) (spells κ κs′)
+tells κ κs′ = (shr-slice-tells (named 1) (κs′ .0) f32, (mut-slice-tells (named 2) (κs′ .1 .0) f32, (mut-slice-tells (named 3) (κs′ .1 .1 .0) f32, (mut-slice-tells (named 4) (κs′ .1 .1 .1 .0) f32, (mut-slice-tells (named 5) (κs′ .1 .1 .1 .1 .0) f64, tt)))))
 
-module _ {M : Type 1} (𝓤 : URA M) (H : Heap 𝓤) (A : Atoms 𝓤) (W : Given 𝓤 H A) (at-mem : Memory → SProp 𝓤) (run : Routine → Fun 𝓤) (κ : Lft) (q : Share) (κs′ : Lfts 4) (qs′ : Shares 4) where
+module _ {M : Type 1} (𝓤 : URA M) (H : Heap 𝓤) (A : Atoms 𝓤) (W : Given 𝓤 H A) (at-mem : Memory → SProp 𝓤) (run : Routine → Fun 𝓤) (κ : Lft) (q : Share) (κs′ : Lfts 5) (qs′ : Shares 5) where
   abbrev Os : List RattleType
   Os = Others κ κs′
 
   abbrev laws : Lawfuls 𝓤 H A Os
-  laws = (shr-slice-lawful 𝓤 H A W (named 1) (κs′ .0) f32, (mut-slice-lawful 𝓤 H A W (named 2) (κs′ .1 .0) f32, (mut-slice-lawful 𝓤 H A W (named 3) (κs′ .1 .1 .0) f32, (mut-slice-lawful 𝓤 H A W (named 4) (κs′ .1 .1 .1 .0) f32, tt))))
+  laws = (shr-slice-lawful 𝓤 H A W (named 1) (κs′ .0) f32, (mut-slice-lawful 𝓤 H A W (named 2) (κs′ .1 .0) f32, (mut-slice-lawful 𝓤 H A W (named 3) (κs′ .1 .1 .0) f32, (mut-slice-lawful 𝓤 H A W (named 4) (κs′ .1 .1 .1 .0) f32, (mut-slice-lawful 𝓤 H A W (named 5) (κs′ .1 .1 .1 .1 .0) f64, tt)))))
 
   abbrev tokens : SProp 𝓤
   tokens = alive 𝓤 H A g.signature κs′ qs′
@@ -85,36 +85,38 @@ module _ {M : Type 1} (𝓤 : URA M) (H : Heap 𝓤) (A : Atoms 𝓤) (W : Given
           split ! $ split ! $ move ! (2 ∷ []) $ fsplit ! $ fsplit3 ! $ drop ! $ move ! (0 ∷ 1 ∷ 3 ∷ 4 ∷ []) $
           -- [obs; the record's borrow; its token; the others' tokens; what the others own; what is asked]
           enter ! C Λ code.function (vptr b o ∷ flat Os vals′) _ $
-          alloc1 ! (λ l₀. alloc1 ! (λ l₁. alloc1 ! (λ l₂. alloc1 ! (λ l₃. alloc1 ! (λ l₄. alloc1 ! (λ l₅. alloc1 ! (λ l₆. alloc1 ! (λ l₇. alloc1 ! (λ l₈. alloc1 ! (λ l₉. alloc1 ! (λ l₁₀. alloc1 ! (λ l₁₁. alloc1 ! (λ l₁₂. alloc1 ! (λ l₁₃. alloc0 ! $ params1 ! $
-          pass1 ! (init ! 24 refl (tt, tt)) $ pass1 ! (init ! 22 refl (typed are .0)) $ pass1 ! (init ! 20 refl (typed are .1 .0)) $ pass1 ! (init ! 18 refl (typed are .1 .1 .0)) $ pass1 ! (init ! 16 refl (typed are .1 .1 .1 .0)) $ pass0 ! $
-          -- [_13; …; ..; room for _0; …; obs; the borrow; its token; the others' tokens; what the others own; what is asked]
-          move ! (28 ∷ 29 ∷ 30 ∷ []) $ opens-record ! tt T.the-type T′.the-laws h b o (λ was.
-          -- [the record's cell; what it owns; the open borrow; obs; auth; _13; …; ..; room for _0; …; the others' tokens; what the others own; what is asked]
-          assigns ! (of-opd ! (load ! (from ! (hop ! (look ! 29 refl) (stop !))) (look-raw ! 0 refl))) (from ! (stop !)) (init ! 17 refl (run-typed 𝓤 H A W h was .0)) $
-          assigns ! (addr ! (from ! (fld ! refl (hop ! (look-in ! 25 (sub ! 0 refl (whole !))) (stop !))))) (from ! (stop !)) (init ! 15 refl (tt, tt)) $
-          assigns ! (agg ! (and-then ! (load ! (from ! (stop !)) (look ! 15 refl)) (and-then ! (load ! (from ! (fld ! refl (stop !))) (look-in ! 25 (sub ! 1 refl (whole !)))) (no-more !)))) (from ! (stop !)) (init ! 13 refl (typed are .1 .0)) $
-          assigns ! (addr ! (from ! (fld ! refl (hop ! (look-in ! 23 (sub ! 0 refl (whole !))) (stop !))))) (from ! (stop !)) (init ! 11 refl (tt, tt)) $
-          assigns ! (agg ! (and-then ! (load ! (from ! (stop !)) (look ! 11 refl)) (and-then ! (load ! (from ! (fld ! refl (stop !))) (look-in ! 23 (sub ! 1 refl (whole !)))) (no-more !)))) (from ! (stop !)) (init ! 9 refl (typed are .1 .1 .0)) $
-          assigns ! (addr ! (from ! (fld ! refl (hop ! (look-in ! 21 (sub ! 0 refl (whole !))) (stop !))))) (from ! (stop !)) (init ! 7 refl (tt, tt)) $
-          assigns ! (agg ! (and-then ! (load ! (from ! (stop !)) (look ! 7 refl)) (and-then ! (load ! (from ! (fld ! refl (stop !))) (look-in ! 21 (sub ! 1 refl (whole !)))) (no-more !)))) (from ! (stop !)) (init ! 5 refl (typed are .1 .1 .1 .0)) $
+          alloc1 ! (λ l₀. alloc1 ! (λ l₁. alloc1 ! (λ l₂. alloc1 ! (λ l₃. alloc1 ! (λ l₄. alloc1 ! (λ l₅. alloc1 ! (λ l₆. alloc1 ! (λ l₇. alloc1 ! (λ l₈. alloc1 ! (λ l₉. alloc1 ! (λ l₁₀. alloc1 ! (λ l₁₁. alloc1 ! (λ l₁₂. alloc1 ! (λ l₁₃. alloc1 ! (λ l₁₄. alloc1 ! (λ l₁₅. alloc1 ! (λ l₁₆. alloc0 ! $ params1 ! $
+          pass1 ! (init ! 30 refl (tt, tt)) $ pass1 ! (init ! 28 refl (typed are .0)) $ pass1 ! (init ! 26 refl (typed are .1 .0)) $ pass1 ! (init ! 24 refl (typed are .1 .1 .0)) $ pass1 ! (init ! 22 refl (typed are .1 .1 .1 .0)) $ pass1 ! (init ! 20 refl (typed are .1 .1 .1 .1 .0)) $ pass0 ! $
+          -- [_16; …; ..; room for _0; …; obs; the borrow; its token; the others' tokens; what the others own; what is asked]
+          move ! (34 ∷ 35 ∷ 36 ∷ []) $ opens-record ! tt T.the-type T′.the-laws h b o (λ was.
+          -- [the record's cell; what it owns; the open borrow; obs; auth; _16; …; ..; room for _0; …; the others' tokens; what the others own; what is asked]
+          assigns ! (of-opd ! (load ! (from ! (hop ! (look ! 35 refl) (stop !))) (look-raw ! 0 refl))) (from ! (stop !)) (init ! 21 refl (run-typed 𝓤 H A W h was .0)) $
+          assigns ! (addr ! (from ! (fld ! refl (hop ! (look-in ! 31 (sub ! 0 refl (whole !))) (stop !))))) (from ! (stop !)) (init ! 19 refl (tt, tt)) $
+          assigns ! (agg ! (and-then ! (load ! (from ! (stop !)) (look ! 19 refl)) (and-then ! (load ! (from ! (fld ! refl (stop !))) (look-in ! 31 (sub ! 1 refl (whole !)))) (no-more !)))) (from ! (stop !)) (init ! 17 refl (typed are .1 .0)) $
+          assigns ! (addr ! (from ! (fld ! refl (hop ! (look-in ! 29 (sub ! 0 refl (whole !))) (stop !))))) (from ! (stop !)) (init ! 15 refl (tt, tt)) $
+          assigns ! (agg ! (and-then ! (load ! (from ! (stop !)) (look ! 15 refl)) (and-then ! (load ! (from ! (fld ! refl (stop !))) (look-in ! 29 (sub ! 1 refl (whole !)))) (no-more !)))) (from ! (stop !)) (init ! 13 refl (typed are .1 .1 .0)) $
+          assigns ! (addr ! (from ! (fld ! refl (hop ! (look-in ! 27 (sub ! 0 refl (whole !))) (stop !))))) (from ! (stop !)) (init ! 11 refl (tt, tt)) $
+          assigns ! (agg ! (and-then ! (load ! (from ! (stop !)) (look ! 11 refl)) (and-then ! (load ! (from ! (fld ! refl (stop !))) (look-in ! 27 (sub ! 1 refl (whole !)))) (no-more !)))) (from ! (stop !)) (init ! 9 refl (typed are .1 .1 .1 .0)) $
+          assigns ! (addr ! (from ! (fld ! refl (hop ! (look-in ! 25 (sub ! 0 refl (whole !))) (stop !))))) (from ! (stop !)) (init ! 7 refl (tt, tt)) $
+          assigns ! (agg ! (and-then ! (load ! (from ! (stop !)) (look ! 7 refl)) (and-then ! (load ! (from ! (fld ! refl (stop !))) (look-in ! 25 (sub ! 1 refl (whole !)))) (no-more !)))) (from ! (stop !)) (init ! 5 refl (typed are .1 .1 .1 .1 .0)) $
           -- the call
-          move ! (33 ∷ 34 ∷ 35 ∷ []) $ use3 W (raw (Callee 𝓤 H A at-mem run .pre to)) (passes-on 𝓤 H A W T.the-type T′.the-laws T′.the-plain h was tokens (owns Os a′ vals′) Asked) $
-          calls-at ! fm (Callee 𝓤 H A at-mem run) known to (and-then ! (load ! (from ! (stop !)) (look ! 18 refl)) (and-then ! (load ! (from ! (stop !)) (look ! 28 refl)) (and-then ! (load ! (from ! (stop !)) (look ! 14 refl)) (and-then ! (load ! (from ! (stop !)) (look ! 10 refl)) (and-then ! (load ! (from ! (stop !)) (look ! 6 refl)) (no-more !)))))) (λ w.
+          move ! (39 ∷ 40 ∷ 41 ∷ []) $ use3 W (raw (Callee 𝓤 H A at-mem run .pre to)) (passes-on 𝓤 H A W T.the-type T′.the-laws T′.the-plain h was tokens (owns Os a′ vals′) Asked) $
+          calls-at ! fm (Callee 𝓤 H A at-mem run) known to (and-then ! (load ! (from ! (stop !)) (look ! 22 refl)) (and-then ! (load ! (from ! (stop !)) (look ! 34 refl)) (and-then ! (load ! (from ! (stop !)) (look ! 18 refl)) (and-then ! (load ! (from ! (stop !)) (look ! 14 refl)) (and-then ! (load ! (from ! (stop !)) (look ! 10 refl)) (and-then ! (load ! (from ! (stop !)) (look ! 6 refl)) (no-more !))))))) (λ w.
           returned ! tt g.ended (g.clauses 𝓤 H A at-mem run) to w (λ r ws. peeks ! P.the-row (Is P.the-row) (shows 𝓤 H A P.the-row) r (w ∷ []) (λ is.
-          -- [what the result owns; the others' tokens; the last values; what is said of them; the record's cell; what it owned; the open borrow; obs; auth; _13; …; ..; room for _0; …]
-          land ! (from ! (stop !)) (init ! 23 refl (result-typed 𝓤 H A W r w is .0)) $ rewrite ! 23 (λ (u : Val). ‵ (fat fullShare P′.mir l₆ 0 u)) (result-told r w is) refl $
-          assigns ! (of-opd ! (load ! (from ! (fld ! refl (stop !))) (look-in ! 23 (sub ! 1 refl (whole !))))) (from ! (hop ! (look ! 33 refl) (stop !))) (store-raw ! 4 refl (run-typed 𝓤 H A W (r .run) (run-is r w is) .0)) $
-          assigns ! (of-opd ! (load ! (from ! (fld ! refl (stop !))) (look-in ! 23 (sub ! 0 refl (whole !))))) (from ! (stop !)) (init ! 35 refl (answer-typed 𝓤 H A W (r .answer) (answer-is r w is) .0)) $
+          -- [what the result owns; the others' tokens; the last values; what is said of them; the record's cell; what it owned; the open borrow; obs; auth; _16; …; ..; room for _0; …]
+          land ! (from ! (stop !)) (init ! 27 refl (result-typed 𝓤 H A W r w is .0)) $ rewrite ! 27 (λ (u : Val). ‵ (fat fullShare P′.mir l₇ 0 u)) (result-told r w is) refl $
+          assigns ! (of-opd ! (load ! (from ! (fld ! refl (stop !))) (look-in ! 27 (sub ! 1 refl (whole !))))) (from ! (hop ! (look ! 39 refl) (stop !))) (store-raw ! 4 refl (run-typed 𝓤 H A W (r .run) (run-is r w is) .0)) $
+          assigns ! (of-opd ! (load ! (from ! (fld ! refl (stop !))) (look-in ! 27 (sub ! 0 refl (whole !))))) (from ! (stop !)) (init ! 41 refl (answer-typed 𝓤 H A W (r .answer) (answer-is r w is) .0)) $
           move ! (4 ∷ 5 ∷ 6 ∷ 7 ∷ 8 ∷ []) $ closes-record ! tt T.the-type T′.the-laws T′.the-plain (r .run) b o (run-is r w is) $
-          -- [obs; the borrow; its token; what the result owns; the others' tokens; the last values; what is said of them; _13; …; ..; _0; …]
-          returns ! (look ! 33 refl) $ forget ! 33 refl $ forget ! 31 refl $ forget ! 29 refl $ forget ! 27 refl $ forget ! 25 refl $ forget ! 23 refl $ forget ! 21 refl $ forget ! 19 refl $ forget ! 17 refl $ forget ! 15 refl $ forget ! 13 refl $ forget ! 11 refl $ forget ! 9 refl $ forget ! 7 refl $
-          move ! (33 ∷ 34 ∷ []) $ free1 ! $ move ! (31 ∷ 32 ∷ []) $ free1 ! $ move ! (29 ∷ 30 ∷ []) $ free1 ! $ move ! (27 ∷ 28 ∷ []) $ free1 ! $ move ! (25 ∷ 26 ∷ []) $ free1 ! $ move ! (23 ∷ 24 ∷ []) $ free1 ! $ move ! (21 ∷ 22 ∷ []) $ free1 ! $ move ! (19 ∷ 20 ∷ []) $ free1 ! $ move ! (17 ∷ 18 ∷ []) $ free1 ! $ move ! (15 ∷ 16 ∷ []) $ free1 ! $ move ! (13 ∷ 14 ∷ []) $ free1 ! $ move ! (11 ∷ 12 ∷ []) $ free1 ! $ move ! (9 ∷ 10 ∷ []) $ free1 ! $ move ! (7 ∷ 8 ∷ []) $ free1 ! $ free0 ! $
-          keep ! (0 ∷ 1 ∷ 2 ∷ 4 ∷ 5 ∷ 6 ∷ []) $ by ! (exits r ws (answer-is r w is))))))))))))))))))))
+          -- [obs; the borrow; its token; what the result owns; the others' tokens; the last values; what is said of them; _16; …; ..; _0; …]
+          returns ! (look ! 39 refl) $ forget ! 39 refl $ forget ! 37 refl $ forget ! 35 refl $ forget ! 33 refl $ forget ! 31 refl $ forget ! 29 refl $ forget ! 27 refl $ forget ! 25 refl $ forget ! 23 refl $ forget ! 21 refl $ forget ! 19 refl $ forget ! 17 refl $ forget ! 15 refl $ forget ! 13 refl $ forget ! 11 refl $ forget ! 9 refl $ forget ! 7 refl $
+          move ! (39 ∷ 40 ∷ []) $ free1 ! $ move ! (37 ∷ 38 ∷ []) $ free1 ! $ move ! (35 ∷ 36 ∷ []) $ free1 ! $ move ! (33 ∷ 34 ∷ []) $ free1 ! $ move ! (31 ∷ 32 ∷ []) $ free1 ! $ move ! (29 ∷ 30 ∷ []) $ free1 ! $ move ! (27 ∷ 28 ∷ []) $ free1 ! $ move ! (25 ∷ 26 ∷ []) $ free1 ! $ move ! (23 ∷ 24 ∷ []) $ free1 ! $ move ! (21 ∷ 22 ∷ []) $ free1 ! $ move ! (19 ∷ 20 ∷ []) $ free1 ! $ move ! (17 ∷ 18 ∷ []) $ free1 ! $ move ! (15 ∷ 16 ∷ []) $ free1 ! $ move ! (13 ∷ 14 ∷ []) $ free1 ! $ move ! (11 ∷ 12 ∷ []) $ free1 ! $ move ! (9 ∷ 10 ∷ []) $ free1 ! $ move ! (7 ∷ 8 ∷ []) $ free1 ! $ free0 ! $
+          keep ! (0 ∷ 1 ∷ 2 ∷ 4 ∷ 5 ∷ 6 ∷ []) $ by ! (exits r ws (answer-is r w is)))))))))))))))))))))))
 
 smoother-blend-meets : {M : Type 1} (𝓤 : URA M) (H : Heap 𝓤) (A : Atoms 𝓤) → Given 𝓤 H A → (mem : Memory → SProp 𝓤) (run : Routine → Fun 𝓤) (𝓣 : Tables 𝓤 H) → Triple 𝓤 (𝓣 .C #g) (Callee 𝓤 H A mem run)
     → Meets 𝓤 H A f.signature (WpFn 𝓤 H (𝓣 .C) (𝓣 .Λ) code.function) (f.spec 𝓤 H A mem run)
 smoother-blend-meets 𝓤 H A W mem run 𝓣 known =
-    by-walk 𝓤 H A W f.ended stayed (goes-ref 𝓤 H A W 5 0 tt (plain (λ _. T.the-row)), gives-go 𝓤 H A W 5 (tail (f.signature .params)) (f.ended .kept .1)) (f.clauses 𝓤 H A mem run) 𝓣 code.function
+    by-walk 𝓤 H A W f.ended stayed (goes-ref 𝓤 H A W 6 0 tt (plain (λ _. T.the-row)), gives-go 𝓤 H A W 6 (tail (f.signature .params)) (f.ended .kept .1)) (f.clauses 𝓤 H A mem run) 𝓣 code.function
     (λ κs. (ptr-vals, spells (κs .0) (κs .1))) (λ κs. (mut-tells (named 0) (κs .0) T.the-row, tells (κs .0) (κs .1)))
     (λ κs qs bounds a _ are. walk 𝓤 H A W mem run (κs .0) (qs .0) (κs .1) (qs .1) (a .0 .ptr .0) (a .0 .ptr .1) (a .0 .name) (a .0 .now) (a .1) (𝓣 .C) (𝓣 .Λ) (fmOf 𝓤 H (W .laws) 𝓣) known (are .1))
 
