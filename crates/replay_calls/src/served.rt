@@ -114,6 +114,7 @@ fn answer_number(a: Answer) -> u32 {
     match a {
         Answer::Refused(n) => n as u32,
         Answer::Done => 0,
+        Answer::Blended { tv: _, tgv: _ } => 0,
         Answer::Blown => 255,
     }
 }
