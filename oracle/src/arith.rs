@@ -1,6 +1,6 @@
 //! The operations "below the Rust" of document 01, Rust's own and the proved ones, with kinds of inputs for each.
 use crate::{
-    floats::{SPECIAL, any, at, beside, exact, special, subnormal},
+    floats::{SPECIAL, SPECIAL64, any, at, at64, beside, exact, special, subnormal},
     macros::mul_add,
     probe::*,
     random::Random,
@@ -111,6 +111,81 @@ pub const OPS: [Op; 6] = [
         ],
     },
 ];
+
+/// Two f32 and an f64: the operations of the totals (M-103).
+pub type WideInputs = (f32, f32, f64);
+
+pub struct WideOp {
+    pub word: &'static str,
+    pub rust: fn(WideInputs) -> f64,
+    /// The bits of the result.
+    pub proved: fn(WideInputs) -> u64,
+}
+
+pub const WIDE_OPS: [WideOp; 2] = [
+    WideOp {
+        word: "f64 fused",
+        rust: |(a, b, t)| f64::from(a).mul_add(f64::from(b), t),
+        proved: |(a, b, t)| unsafe { probe_total_mul_add(a, b, t) },
+    },
+    WideOp {
+        word: "f64 sum of an f32 product",
+        rust: |(a, b, t)| t + f64::from(a * b),
+        proved: |(a, b, t)| unsafe { probe_total_add_product(t, a, b) },
+    },
+];
+
+pub const WIDE_KINDS: [(&str, fn(&mut Random) -> WideInputs); 6] = [
+    ("random bits", |r| (any(r), any(r), f64::from_bits(r.word()))),
+    ("comparable sizes", wide_comparable),
+    ("as totals grow", |r| {
+        let (e, f) = (r.between(-3, 0), r.between(-20, 12));
+        let g = e + f + r.between(0, 25);
+        (at(r, e).abs(), at(r, f).abs(), at64(r, g).abs())
+    }),
+    ("sum at a tie", wide_tie),
+    ("cancellation", |r| {
+        let (e, f) = (r.between(-75, 60), r.between(-75, 60));
+        let (a, b) = (at(r, e), at(r, f));
+        let product = -(f64::from(a) * f64::from(b));
+        (a, b, f64::from_bits(product.to_bits().wrapping_add_signed(r.between(-2, 2))))
+    }),
+    ("some special values", |r| {
+        let (a, b, t) = wide_comparable(r);
+        let t = if r.one_in(2) { f64::from_bits(r.pick(&SPECIAL64)) } else { t };
+        (if r.one_in(2) { special(r) } else { a }, if r.one_in(2) { special(r) } else { b }, t)
+    }),
+];
+
+/// All triples of special values.
+pub fn wide_specials() -> Vec<WideInputs> {
+    let f32s = || SPECIAL.into_iter().map(f32::from_bits);
+    f32s().flat_map(|a| f32s().flat_map(move |b| SPECIAL64.map(|t| (a, b, f64::from_bits(t))))).collect()
+}
+
+fn wide_comparable(r: &mut Random) -> WideInputs {
+    let (e, f) = (r.between(-126, 127), r.between(-126, 127));
+    let g = e + f + r.between(-60, 60);
+    (at(r, e), at(r, f), at64(r, g))
+}
+
+/// The product is half the last place of the f64, or a little beside that half.
+fn wide_tie(r: &mut Random) -> WideInputs {
+    let (e, k) = (r.between(-10, 60), r.between(1, 23) as i32);
+    let t = at64(r, e);
+    let half = e as i32 - 53; // 2^half is half of the place
+    let (m, n): (i128, i128) = match r.below(4) {
+        0 => (1 << k, 1),
+        1 => ((1 << k) + 1, 1),
+        2 => ((1 << k) - 1, 1),
+        _ => ((1 << k) + 1, (1 << k) - 1), // 2^2k - 1
+    };
+    let places = if n == 1 { k } else { 2 * k };
+    let split = r.between(-20, 20) as i32;
+    let product = (exact(m, split), exact(n, half - places - split));
+    let (a, b) = (product.0.expect("an f32"), product.1.expect("an f32"));
+    (a, r.pick(&[1.0, -1.0]) * b, t)
+}
 
 impl Op {
     /// All pairs or triples of special values that Rust answers.

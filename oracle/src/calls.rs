@@ -194,6 +194,8 @@ pub struct Lent {
     pub levels: Vec<i16>,
     pub tables: Vec<u16>,
     pub buffers: Buffers,
+    /// Two places for the totals that blend returns (M-103).
+    pub totals: Vec<f64>,
 }
 
 impl Lent {
@@ -204,6 +206,9 @@ impl Lent {
             return 13;
         }
         if lent(job).iter().any(|b| self.buffers[*b].len() != r.values()) {
+            return 8;
+        }
+        if job == Blend && self.totals.len() != 2 {
             return 8;
         }
         if lent_levels(job) {
@@ -254,7 +259,10 @@ impl Lent {
         match job {
             Push => run.push(c, k.factor),
             Data => run.data(c),
-            Blend => run.blend(k.second_order_weight),
+            Blend => {
+                run.blend(k.second_order_weight);
+                self.totals.copy_from_slice(&run.totals);
+            }
             Move => run.move_plane(c, k.step_size),
             _ => run.project(c),
         }
@@ -316,6 +324,7 @@ impl Lent {
             levels: self.levels.clone(),
             tables: self.tables.clone(),
             buffers: Buffers::default(),
+            totals: vec![],
         }
     }
 
@@ -370,16 +379,19 @@ impl Lent {
             return 9;
         }
         self.start();
+        // a list of calls is lent no room for totals: its blends give theirs to nobody
+        let totals = std::mem::replace(&mut self.totals, vec![0.0; 2]);
         for (i, answer) in answers.iter_mut().enumerate() {
             *answer = self.call(JOBS[jobs[i] as usize], channels[i]) as u8;
         }
+        self.totals = totals;
         0
     }
 }
 
 /// The proved call, by the library.
 pub fn proved(x: &mut Lent, job: Job, c: u32) -> u32 {
-    let Lent { record: run, levels, tables, buffers: [plane, prior, gradient, across, down, saved] } = x;
+    let Lent { record: run, levels, tables, buffers: [plane, prior, gradient, across, down, saved], totals } = x;
     unsafe {
         match job {
             Start => lend!(smoother_start(
@@ -387,7 +399,7 @@ pub fn proved(x: &mut Lent, job: Job, c: u32) -> u32 {
             )),
             Push => lend!(smoother_push(run, c, write plane, write prior)),
             Data => lend!(smoother_data(run, c, read levels, read tables, write gradient, read saved)),
-            Blend => lend!(smoother_blend(run, read plane, write gradient, write across, write down)),
+            Blend => lend!(smoother_blend(run, read plane, write gradient, write across, write down, write totals)),
             Move => lend!(smoother_move(run, c, write plane, read gradient)),
             Project => lend!(smoother_project(
                 run, c, read levels, read tables, write plane, write across, write down, write saved
@@ -398,7 +410,7 @@ pub fn proved(x: &mut Lent, job: Job, c: u32) -> u32 {
 
 /// The proved list of calls, by the library.
 pub fn proved_serve(x: &mut Lent, jobs: &[u8], channels: &[u32], answers: &mut [u8]) -> u32 {
-    let Lent { record: run, levels, tables, buffers: [plane, prior, gradient, across, down, saved] } = x;
+    let Lent { record: run, levels, tables, buffers: [plane, prior, gradient, across, down, saved], .. } = x;
     unsafe {
         lend!(smoother_serve(
             run, read jobs, read channels, write answers, read levels, read tables, write plane, write prior,
@@ -451,6 +463,7 @@ mod tests {
             levels: sheet.channels.iter().flat_map(|c| &c.levels).map(|d| *d as i16).collect(),
             tables: sheet.channels.iter().flat_map(|c| &c.table).map(|q| *q as u16).collect(),
             buffers: [0; 6].map(|_| vec![f32::NAN; record.values()]),
+            totals: vec![0.0; 2],
         }
     }
 

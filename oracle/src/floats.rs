@@ -1,9 +1,14 @@
-//! f32 values by kind, and their comparison: "all NaNs count as one", zeros keep their sign.
+//! f32 and f64 values by kind, and their comparison: "all NaNs count as one", zeros keep their sign.
 use crate::random::Random;
 
 /// One NaN for all.
 pub fn bits(x: f32) -> u32 {
     if x.is_nan() { 0x7fc0_0000 } else { x.to_bits() }
+}
+
+/// One NaN for all.
+pub fn bits64(x: f64) -> u64 {
+    if x.is_nan() { 0x7ff8_0000_0000_0000 } else { x.to_bits() }
 }
 
 pub fn same(x: f32, y: f32) -> bool {
@@ -56,6 +61,35 @@ pub fn subnormal(r: &mut Random) -> f32 {
 pub fn at(r: &mut Random, e: i64) -> f32 {
     let field = (e.clamp(-126, 127) + 127) as u32;
     f32::from_bits(r.bits() & 0x807f_ffff | field << 23)
+}
+
+/// Special values of f64: zeros, smallest and largest subnormals and normals, ones and their neighbours, 2^53 and the sizes where f32 ends, infinities, a NaN.
+pub const SPECIAL64: [u64; 20] = [
+    0x0000_0000_0000_0000,
+    0x8000_0000_0000_0000,
+    0x0000_0000_0000_0001,
+    0x800f_ffff_ffff_ffff,
+    0x0010_0000_0000_0000,
+    0x36a0_0000_0000_0000,
+    0x3690_0000_0000_0000,
+    0x3690_0000_0000_0001,
+    0x3fef_ffff_ffff_ffff,
+    0x3ff0_0000_0000_0000,
+    0xbff0_0000_0000_0000,
+    0x3ff0_0000_0000_0001,
+    0x4340_0000_0000_0000,
+    0x47ef_ffff_e000_0000,
+    0x47ef_ffff_f000_0000,
+    0x7fef_ffff_ffff_ffff,
+    0xffef_ffff_ffff_ffff,
+    0x7ff0_0000_0000_0000,
+    0xfff0_0000_0000_0000,
+    0x7ff8_0000_0000_0000,
+];
+
+/// A normal f64 with the leading one at 2^e.
+pub fn at64(r: &mut Random, e: i64) -> f64 {
+    f64::from_bits(r.word() & 0x800f_ffff_ffff_ffff | ((e + 1023) as u64) << 52)
 }
 
 /// The f32 some places further in the order of bits, the sign kept.

@@ -31,6 +31,8 @@ pub struct Lent {
     pub buffers: Buffers,
     /// How many coefficients the last project moved.
     pub clipped: u32,
+    /// The bits of the last blend's totals.
+    pub totals: [u64; 2],
 }
 
 /// A run of all channels in joint mode, and of each channel in separate mode, as `run::runs` has them. The buffers hold `fill`.
@@ -53,6 +55,7 @@ pub fn runs(sheet: &sheet::Sheet, fill: f32) -> Vec<Lent> {
         buffers: [0; 6].map(|_| vec![fill; channels.len() * (sheet.w * sheet.h) as usize]),
         channels,
         clipped: 0,
+        totals: [0; 2],
     };
     let each = sheet.channels.iter();
     if sheet.joint {
@@ -126,9 +129,10 @@ impl Lent {
             },
             "blend" => unsafe {
                 let channels = self.channels.len();
-                let all = channels * n;
+                let (all, totals) = (channels * n, self.totals.as_mut_ptr());
                 probe_blend(
                     plane, all, gradient, all, across, all, down, all, channels, w, h, iterations, weight, step,
+                    totals, 2,
                 );
             },
             "move" => unsafe { probe_move(plane, n, gradient, n, w, h, iterations, weight, step) },

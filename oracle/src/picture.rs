@@ -1,7 +1,7 @@
 //! The whole program: a sheet text to the lines that are printed, by the published `solve_cpu` and `finish` of lib.rs. The jobs of `run` find blown channels. The rounding of line
 //! `F n` (M-100) is written here, beside the published `finish`; for `A o` (M-102) `solve_cpu` is built with the one reordering.
 use crate::{
-    floats::same,
+    floats::{bits64, same},
     published::{each, once},
     run::runs,
     sheet::{Reorder, Rounding, SMOOTH, Sheet, joined, read},
@@ -20,11 +20,17 @@ pub fn smooth(text: &[u8]) -> String {
     }
 }
 
-/// "on a line `K`, channel, number, channels rising, between the `T` lines and `I`" (M-104), then the picture. None where a channel is blown.
+/// "`T`, channel of the run's start (0 in joint mode), step from 1, and both totals as 16 lowercase hexadecimal digits of their bits (a NaN as 7ff8000000000000), run
+/// after run" (M-103); "on a line `K`, channel, number, channels rising, between the `T` lines and `I`" (M-104); then the picture. None where a channel is blown.
 fn printed(sheet: &Sheet) -> Option<String> {
     let ended = ended(sheet)?;
+    let total = |t: &Total| {
+        let [first, second] = t.totals.map(bits64);
+        format!("T\t{}\t{}\t{first:016x}\t{second:016x}\n", t.channel, t.step)
+    };
+    let totals = ended.totals.iter().map(total);
     let clipped = ended.clipped.iter().enumerate().map(|(c, number)| format!("K\t{c}\t{number}\n"));
-    Some(clipped.collect::<String>() + &picture_lines(&drawn(sheet, ended.planes)))
+    Some(totals.chain(clipped).collect::<String>() + &picture_lines(&drawn(sheet, ended.planes)))
 }
 
 fn picture_lines(image: &RgbImage) -> String {
@@ -34,19 +40,28 @@ fn picture_lines(image: &RgbImage) -> String {
     format!("I\t{}\t{}\n{}", image.width, image.height, rows.collect::<String>())
 }
 
-/// What the runs of a sheet leave, channel after channel: the planes, and how many coefficients the last projection moved.
+/// What a blend returned: the first channel of its run, the step from 1, the totals of both gradients.
+pub struct Total {
+    pub channel: usize,
+    pub step: usize,
+    pub totals: [f64; 2],
+}
+
+/// What the runs of a sheet leave, channel after channel: the planes, and how many coefficients the last projection moved; and the totals of all blends, run after run.
 pub struct Ended {
     pub planes: Vec<Vec<f32>>,
     pub clipped: Vec<u32>,
+    pub totals: Vec<Total>,
 }
 
 /// None where a channel is blown.
 pub fn ended(sheet: &Sheet) -> Option<Ended> {
     let mut planes: Vec<AlignedF32> = vec![];
-    let mut clipped = vec![];
-    for mut run in runs(sheet) {
+    let (mut clipped, mut totals) = (vec![], vec![]);
+    for (channel, mut run) in runs(sheet).into_iter().enumerate() {
         while !run.is_done() {
             run.step(|_, _, _| ());
+            totals.push(Total { channel, step: run.positions[0] / 5, totals: run.totals });
             if run.is_blown() {
                 return None;
             }
@@ -57,7 +72,7 @@ pub fn ended(sheet: &Sheet) -> Option<Ended> {
     let solved = solved(sheet);
     let mut pairs = solved.iter().flatten().zip(planes.iter().flat_map(|p| p.iter()));
     assert!(pairs.all(|(x, y)| same(*x, *y)), "the jobs' planes differ from those of `solve_cpu`");
-    Some(Ended { planes: solved, clipped })
+    Some(Ended { planes: solved, clipped, totals })
 }
 
 /// The published `solve_cpu`.
@@ -106,7 +121,7 @@ mod tests {
     use crate::{
         random::Random,
         run::{Run, runs},
-        texts::{example, fixed_runs, legal},
+        texts::{example, fixed_runs, largest, legal},
     };
 
     #[test]
@@ -134,6 +149,26 @@ mod tests {
         // y = 128.5 and 127.5
         assert_eq!(with("1\t1\t8", "1\t1\t4", "n"), "K\t0\t0\nI\t2\t1\nR\t818181\t818181\n");
         assert_eq!(with("1\t1\t8", "1\t1\t4", "t"), "K\t0\t0\nI\t2\t1\nR\t808080\t808080\n");
+    }
+
+    /// One line T for each blend; the bits of an infinite total; the longest output.
+    #[test]
+    fn totals() {
+        let lines = |sheet: &Sheet| -> Vec<String> { smooth(&sheet.text()).lines().map(str::to_owned).collect() };
+        for (name, sheet, blown) in fixed_runs() {
+            let first: Vec<_> = lines(&sheet).into_iter().filter(|line| line.starts_with('T')).collect();
+            let (steps, counts) = (first.len() as u32, sheet.counts);
+            let due = if sheet.joint || sheet.channels.len() == 1 { counts[0] } else { counts.iter().sum() };
+            assert_eq!(steps, if blown { 0 } else { due }, "{name}");
+        }
+        let (_, sheet, _) = fixed_runs().pop().expect("a sheet");
+        assert!(lines(&sheet)[0].ends_with("\t7ff0000000000000"));
+        let mut separate =
+            fixed_runs().into_iter().find(|(name, ..)| *name == "separate: one step less").expect("one").1;
+        separate.counts = [0, 1, 0];
+        assert!(lines(&separate)[0].starts_with("T\t1\t1\t") && lines(&separate)[1].starts_with("K\t0\t"));
+        // K numbers of four digits would be three bytes more
+        assert_eq!(smooth(&largest().text()).len(), 132_943);
     }
 
     #[test]

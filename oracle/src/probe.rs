@@ -39,6 +39,8 @@ mod probes {
         pub fn probe_clamp(x: f32, low: f32, high: f32) -> f32;
         pub fn probe_mul_add_rounded(a: f32, b: f32, c: f32) -> f32;
         pub fn probe_powi2(x: f32) -> f32;
+        pub fn probe_total_mul_add(a: f32, b: f32, t: f64) -> u64;
+        pub fn probe_total_add_product(t: f64, a: f32, b: f32) -> u64;
         pub fn probe_idct8x8(a: *mut f32, len: usize);
         pub fn probe_dct8x8(a: *mut f32, len: usize);
         pub fn probe_from_blocks(input: *const f32, input_len: usize, output: *mut f32, output_len: usize, w: usize, h: usize);
@@ -123,6 +125,8 @@ mod probes {
             iterations: u32,
             weight: f32,
             step: u32,
+            totals: *mut u64,
+            totals_len: usize,
         );
         pub fn probe_move(
             plane: *mut f32,
@@ -181,12 +185,19 @@ pub fn read(
     }
 }
 
-pub fn solve(header: &[u32], levels: &[i16], tables: &[u16], six: &mut Buffers, clipped: &mut [u32]) -> u32 {
+pub fn solve(
+    header: &[u32],
+    levels: &[i16],
+    tables: &[u16],
+    six: &mut Buffers,
+    clipped: &mut [u32],
+    totals: &mut [f64],
+) -> u32 {
     let [plane, prior, gradient, across, down, saved] = six;
     unsafe {
         lend!(smoother_solve(
             read header, read levels, read tables, write plane, write prior, write gradient, write across, write down, write saved,
-            write clipped
+            write clipped, write totals
         ))
     }
 }

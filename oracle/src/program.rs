@@ -13,8 +13,11 @@ pub enum Ending {
     Late,
 }
 
-/// Runs the program with the text as standard input. It may leave its input unread. It is killed when its time is over, also where it prints
-/// more than a pipe holds, 64 KiB; `smooth` prints at most 7,267 bytes.
+/// More than `smooth` prints: 3,000 lines T, 3 lines K and a picture of 32 by 32 have fewer than 136,269 bytes.
+const MOST: u64 = 1 << 18;
+
+/// Runs the program with the text as standard input. It may leave its input unread. It is killed when its time is over, also where it prints much more than MOST:
+/// nothing is read from it then.
 pub fn run(program: &str, text: &[u8], limit: Duration) -> Ending {
     let mut command = Command::new(program);
     let command = command.stdin(Stdio::piped()).stdout(Stdio::piped()).stderr(Stdio::piped());
@@ -29,6 +32,12 @@ pub fn run(program: &str, text: &[u8], limit: Duration) -> Ending {
             feed();
             drop(feed);
         }
+        let mut output = child.stdout.take().expect("piped");
+        let reader = scope.spawn(move || {
+            let mut printed = vec![];
+            output.by_ref().take(MOST).read_to_end(&mut printed).expect("its output");
+            (output, printed)
+        });
         let status = loop {
             match child.try_wait().expect("its status") {
                 Some(status) => break status,
@@ -40,8 +49,7 @@ pub fn run(program: &str, text: &[u8], limit: Duration) -> Ending {
                 None => thread::sleep(Duration::from_micros(150)),
             }
         };
-        let mut printed = vec![];
-        child.stdout.take().expect("piped").read_to_end(&mut printed).expect("its output");
+        let (_, printed) = reader.join().expect("a reader");
         let complained = child.stderr.take().expect("piped").read(&mut [0]).expect("its complaints") > 0;
         Ending::Ended { status: status.code(), printed, complained }
     })
@@ -80,7 +88,7 @@ fn number(field: &str) -> Option<u32> {
     if plain { field.parse().ok() } else { None }
 }
 
-/// Whether this is one refusal that `smooth` can give, or the numbers of one or three channels and one complete picture.
+/// Whether this is one refusal that `smooth` can give; or the totals of its runs, the numbers of one or three channels, and one complete picture.
 pub fn well_formed(printed: &[u8]) -> bool {
     let Some(text) = std::str::from_utf8(printed).ok().and_then(|text| text.strip_suffix('\n')) else { return false };
     let lines: Vec<Vec<&str>> = text.split('\n').map(|line| line.split('\t').collect()).collect();
@@ -91,13 +99,33 @@ pub fn well_formed(printed: &[u8]) -> bool {
             _ => false,
         };
     }
-    let (clipped, picture) = lines.split_at(lines.iter().take_while(|line| line[0] == "K").count());
+    let (totals, rest) = lines.split_at(lines.iter().take_while(|line| line[0] == "T").count());
+    let (clipped, picture) = rest.split_at(rest.iter().take_while(|line| line[0] == "K").count());
     // at most 32 x 32 coefficients
     let kept = |(c, line): (usize, &Vec<&str>)| match line[1..] {
         [channel, moved] => number(channel) == Some(c as u32) && number(moved).is_some_and(|n| n <= 1024),
         _ => false,
     };
-    matches!(clipped.len(), 1 | 3) && clipped.iter().enumerate().all(kept) && is_picture(picture)
+    matches!(clipped.len(), 1 | 3)
+        && are_totals(totals, clipped.len())
+        && clipped.iter().enumerate().all(kept)
+        && is_picture(picture)
+}
+
+/// The channel of each run's start rises, and within a run the step does, from 1 by 1.
+fn are_totals(lines: &[Vec<&str>], channels: usize) -> bool {
+    let hex = |word: &str| word.len() == 16 && word.bytes().all(|b| matches!(b, b'0'..=b'9' | b'a'..=b'f'));
+    let mut last = None;
+    lines.iter().all(|line| {
+        let &[_, channel, step, first, second] = &line[..] else { return false };
+        let (Some(channel), Some(step)) = (number(channel), number(step)) else { return false };
+        let follows = match last.replace((channel, step)) {
+            Some((before, steps)) if before == channel => step == steps + 1,
+            Some((before, _)) => before < channel && step == 1,
+            None => step == 1,
+        };
+        follows && (channel as usize) < channels && step <= 1000 && hex(first) && hex(second)
+    })
 }
 
 fn is_picture(lines: &[Vec<&str>]) -> bool {
@@ -117,6 +145,9 @@ mod tests {
         let good = [
             "K\t0\t0\nI\t2\t1\nR\t818181\t818181\n",
             "K\t0\t64\nK\t1\t0\nK\t2\t1024\nI\t2\t1\nR\t818181\t818181\n",
+            "T\t0\t1\t0000000000000000\t7ff0000000000000\nK\t0\t0\nI\t1\t1\nR\t818181\n",
+            "T\t0\t1\t0000000000000000\t7ff8000000000000\nT\t0\t2\t0000000000000000\t3ff0000000000000\nT\t2\t1\t3ff0000000000000\t4000000000000000\n\
+             K\t0\t0\nK\t1\t0\nK\t2\t1\nI\t1\t1\nR\t818181\n",
             "X\t7\t1\n",
             "X\t1\t54\n",
             "X\t10\t0\n",
@@ -134,6 +165,15 @@ mod tests {
             "X\t07\t1\n",
             "X\t7\t+1\n",
             "X 7 1\n",
+            "T\t0\t1\t0000000000000000\t0000000000000000\nX\t10\t0\n",
+            "K\t0\t0\nT\t0\t1\t0000000000000000\t0000000000000000\nI\t1\t1\nR\t818181\n",
+            "T\t0\t0\t0000000000000000\t0000000000000000\nK\t0\t0\nI\t1\t1\nR\t818181\n",
+            "T\t0\t2\t0000000000000000\t0000000000000000\nK\t0\t0\nI\t1\t1\nR\t818181\n",
+            "T\t1\t1\t0000000000000000\t0000000000000000\nK\t0\t0\nI\t1\t1\nR\t818181\n",
+            "T\t0\t1\t0000000000000000\t000000000000000\nK\t0\t0\nI\t1\t1\nR\t818181\n",
+            "T\t0\t1\t0000000000000000\t000000000000000A\nK\t0\t0\nI\t1\t1\nR\t818181\n",
+            "T\t0\t1\t0000000000000000\nK\t0\t0\nI\t1\t1\nR\t818181\n",
+            "T\t0\t1\t0000000000000000\t0000000000000000\nI\t1\t1\nR\t818181\n",
             "K\t0\t0\n",
             "K\t0\t0\nX\t10\t0\n",
             "I\t2\t1\nR\t818181\t818181\n",
@@ -167,6 +207,8 @@ mod tests {
         let ended =
             |status, printed: &[u8]| Ending::Ended { status: Some(status), printed: printed.into(), complained: false };
         assert_eq!(run("cat", b"abc", second), ended(0, b"abc"));
+        let long: Vec<u8> = (0..136_269).map(|i| i as u8).collect();
+        assert_eq!(run("cat", &long, second), ended(0, &long));
         assert_eq!(run("false", &[0; 1_000_000], second), ended(1, b""));
         assert_eq!(run("yes", b"", second), Ending::Late);
     }

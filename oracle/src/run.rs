@@ -74,6 +74,8 @@ pub struct Run {
     pub marks: Vec<bool>,
     /// How many coefficients the channel's last projection moved; 0 before the first (M-104).
     pub clipped: Vec<u32>,
+    /// What `tv_gradient` and `tgv_gradient` returned in the last blend; zeros before the first (M-103).
+    pub totals: [f64; 2],
     pub auxs: Vec<Aux>,
     coefs: Vec<ScalarCoef>,
     owns: Vec<sheet::Channel>,
@@ -113,6 +115,7 @@ impl Run {
             positions: vec![0; coefs.len()],
             marks: vec![false; coefs.len()],
             clipped: vec![0; coefs.len()],
+            totals: [0.0; 2],
             auxs: coefs.iter().map(|coef| Aux::init(w, h, (w * h) as usize, coef)).collect(),
             coefs,
             owns: owns.to_vec(),
@@ -147,6 +150,7 @@ impl Run {
             positions: vec![0; owns.len()],
             marks: vec![false; owns.len()],
             clipped: vec![0; owns.len()],
+            totals: [0.0; 2],
             auxs: buffers.into_iter().map(aux).collect(),
             coefs: owns.iter().map(|own| without_image(&each::coefficient(own))).collect(),
             owns,
@@ -207,8 +211,9 @@ impl Run {
 
     pub fn blend(&mut self, second_order_weight: f32) {
         let (w, h, nchannel) = (self.w, self.h, self.channels());
-        tv_gradient(w, h, nchannel, &mut self.auxs);
-        tgv_gradient(w, h, nchannel, &mut self.auxs, second_order_weight);
+        let first = tv_gradient(w, h, nchannel, &mut self.auxs);
+        let second = tgv_gradient(w, h, nchannel, &mut self.auxs, second_order_weight);
+        self.totals = [first, second];
         self.positions.iter_mut().for_each(|p| *p += 1);
     }
 

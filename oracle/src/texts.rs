@@ -628,6 +628,33 @@ pub fn long() -> Vec<(Vec<u8>, Option<Refusal>)> {
     ]
 }
 
+/// The sheet for which `smooth` prints most: three runs of 1,000 steps, and the largest picture.
+pub fn largest() -> Sheet {
+    let mut r = Random::new(1);
+    let mut channel = |_| Channel {
+        w: 32,
+        h: 32,
+        across: 1,
+        down: 1,
+        table: vec![255; 64],
+        levels: (0..1024).map(|_| r.between(-9, 9) as i32).collect(),
+    };
+    let weights = [Weight::Bits(0.3_f32.to_bits()); 3];
+    Sheet {
+        w: 32,
+        h: 32,
+        picture_w: 32,
+        picture_h: 32,
+        joint: false,
+        counts: [1000; 3],
+        smoothing: weights,
+        data: [Weight::Bits(0.001_f32.to_bits()); 3],
+        rounding: None,
+        reorder: None,
+        channels: [0; 3].map(&mut channel).into(),
+    }
+}
+
 /// Sheets that tell readings of document 01 apart by whether a channel is blown.
 pub fn fixed_runs() -> Vec<(&'static str, Sheet, bool)> {
     let one = read(&example(), SMOOTH).expect("legal");
@@ -639,6 +666,18 @@ pub fn fixed_runs() -> Vec<(&'static str, Sheet, bool)> {
         ..one.clone()
     };
     const HUGE: u32 = 0x7f00_0000;
+    /// The largest data weight with a finite alpha.
+    const LARGEST: u32 = 0x7ab5_baae;
+    // a channel whose gradient overflows in the third step of three, after planes that moved
+    let mut levels = vec![0; 256];
+    [(0, 1), (25, -1), (64, 1), (65, 1), (128, 50), (192, 50)].into_iter().for_each(|(k, level)| levels[k] = level);
+    let late = Channel { w: 16, h: 16, across: 1, down: 1, table: vec![1; 64], levels };
+    let with_late = |sheet: Sheet| {
+        let mut channels = sheet.channels;
+        *channels.last_mut().expect("a channel") = late.clone();
+        Sheet { w: 32, h: 32, reorder: Some(Reorder::Once), channels, ..sheet }
+    };
+    let infinite = edited(&[(0, 7, "1"), (0, 10, "h7e000000"), (2, 2, "100"), (2, 10, "-77")]);
     vec![
         ("huge data weight", sheet(true, 1, [1, 0, 0], [HUGE, 0, 0]), true),
         ("huge data weight, no step", sheet(true, 1, [0, 0, 0], [HUGE, 0, 0]), false),
@@ -646,9 +685,13 @@ pub fn fixed_runs() -> Vec<(&'static str, Sheet, bool)> {
         ("separate: the second data weight is spare", sheet(false, 3, [0, 1, 0], [0, HUGE, 0]), false),
         ("joint: the first iteration count for all", sheet(true, 3, [0, 1, 0], [HUGE, 0, 0]), false),
         ("joint: each channel's data weight", sheet(true, 3, [1, 0, 0], [0, 0, HUGE]), true),
-        ("largest data weight with a finite alpha", sheet(true, 1, [1, 0, 0], [0x7ab5_baae, 0, 0]), false),
+        ("largest data weight with a finite alpha", sheet(true, 1, [1, 0, 0], [LARGEST, 0, 0]), false),
         ("smallest data weight with an infinite alpha", sheet(true, 1, [1, 0, 0], [0x7ab5_baaf, 0, 0]), true),
         ("squares of the gradient overflow", sheet(true, 1, [2, 0, 0], [0x7100_0000, 0, 0]), false),
+        ("blown in the last step", with_late(sheet(true, 1, [3, 0, 0], [LARGEST, 0, 0])), true),
+        ("separate: blown in the last run", with_late(sheet(false, 3, [1, 1, 3], [LARGEST, 0, 0])), true),
+        ("separate: one step less", with_late(sheet(false, 3, [1, 1, 2], [LARGEST, 0, 0])), false),
+        ("the second total is infinite", read(&infinite, SMOOTH).expect("legal"), false),
     ]
 }
 

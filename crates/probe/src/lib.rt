@@ -4,7 +4,9 @@ mod jobs;
 ghost use mathlib.Core.Path.{_≡_};
 ghost use Prim.Native.Nat.{_*_, _/_, _%_, _<_, _≤_};
 ghost use lib.ListN.{length};
-ghost use Rattle.float.specs.Ops.{clamp, fused, midpoint, mulAdd, root, square};
+ghost use lib.Ieee.{binary64, toBits};
+ghost use Rattle.float.specs.Names.{_⊗_, _⊞_};
+ghost use Rattle.float.specs.Ops.{clamp, fused, fusedAt, midpoint, mulAdd, root, square};
 ghost use Rattle.utils.specs.Auxiliary.{upsamplePixels};
 ghost use Rattle.utils.specs.Blocks.{fromBlocks, toBlocks};
 ghost use Rattle.utils.specs.Dct.{dct8x8, idct8x8};
@@ -49,6 +51,21 @@ pub extern "C" fn probe_powi2(x: f32) -> f32
     ensures { λ r. ⌜ r ≡ square x ⌝ }
 {
     float::powi2(x)
+}
+
+// The two sums of f64 that the totals are made of, by their bits.
+#[no_mangle]
+pub extern "C" fn probe_total_mul_add(a: f32, b: f32, t: f64) -> u64
+    ensures { λ r. ⌜ r ≡ toBits binary64 (fusedAt binary64 a b t) ⌝ }
+{
+    float::double::to_bits(float::double::mul_add(a, b, t))
+}
+
+#[no_mangle]
+pub extern "C" fn probe_total_add_product(t: f64, a: f32, b: f32) -> u64
+    ensures { λ r. ⌜ r ≡ toBits binary64 (t ⊞ (a ⊗ b)) ⌝ }
+{
+    float::double::to_bits(float::double::add_product(t, a, b))
 }
 
 #[no_mangle]

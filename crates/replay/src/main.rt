@@ -32,6 +32,9 @@ fn same_line(s: &[u8], at: usize) -> bool
     if first == b'r' {
         return sheets::same_read(s, at);
     }
+    if first == b'w' {
+        return arith::same_wide(s, at);
+    }
     if second == b'r' {
         return transforms::same_from(s, at);
     }

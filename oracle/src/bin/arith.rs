@@ -1,11 +1,12 @@
 //! The proved operations beside Rust's, bit for bit.
 //!
-//!     arith [SEED [COUNT]]        compares COUNT inputs per operation (10,000,000) and all special values
+//!     arith [SEED [COUNT]]        compares COUNT inputs per operation (10,000,000) and all special values; the two of f64 among them
 //!     arith --every               compares `sqrt` and `powi2` at every f32
-//!     arith --list N [SEED]       prints N of Rust's answers, `OP A B C R` in hexadecimal
+//!     arith --list N [SEED]       prints N of Rust's answers, `OP A B C R` in hexadecimal, and N / 10 lines `wide`: four products A B, summed in f64 from 0, the first
+//!                                 and the third fused, the others rounded to f32 first, then both halves of the sum's bits
 use oracle::{
-    arith::{Inputs, OPS, Op},
-    floats::{bits, same},
+    arith::{Inputs, OPS, Op, WIDE_KINDS, WIDE_OPS, WideInputs, WideOp, wide_specials},
+    floats::{bits, bits64, same},
     random::Random,
     tally::Tally,
 };
@@ -31,6 +32,11 @@ fn check(tally: &mut Tally, op: &Op, inputs: Inputs) {
     tally.count(same(proved, (op.rust)(inputs)), || format!("{}, proved {:08x}", line(op, &inputs), proved.to_bits()));
 }
 
+fn check_wide(tally: &mut Tally, op: &WideOp, inputs: WideInputs) {
+    let (rust, proved) = (bits64((op.rust)(inputs)), (op.proved)(inputs));
+    tally.count(rust == proved, || format!("{} {inputs:?}: Rust's {rust:016x}, proved {proved:016x}", op.word));
+}
+
 fn compare(seed: u64, count: u64) -> ExitCode {
     let (mut r, mut tally) = (Random::new(seed), Tally::default());
     println!("seed {seed}");
@@ -41,6 +47,16 @@ fn compare(seed: u64, count: u64) -> ExitCode {
             tally.kind(&format!("{} {name}", op.word));
             for _ in 0..count.div_ceil(op.kinds.len() as u64) {
                 check(&mut tally, op, make(&mut r));
+            }
+        }
+    }
+    for op in &WIDE_OPS {
+        tally.kind(&format!("{} all special values", op.word));
+        wide_specials().into_iter().for_each(|inputs| check_wide(&mut tally, op, inputs));
+        for (name, make) in WIDE_KINDS {
+            tally.kind(&format!("{} {name}", op.word));
+            for _ in 0..count.div_ceil(WIDE_KINDS.len() as u64) {
+                check_wide(&mut tally, op, make(&mut r));
             }
         }
     }
@@ -56,6 +72,21 @@ fn every() -> ExitCode {
     tally.close()
 }
 
+/// Some of the products are infinite or NaN.
+fn wide_line(r: &mut Random) -> String {
+    let mut pairs = [0; 4].map(|_| {
+        let (_, make) = r.pick(&WIDE_KINDS[1..5]);
+        let (a, b, _) = make(r);
+        (a, b)
+    });
+    if r.one_in(8) {
+        pairs[r.below(4)].0 = r.pick(&[f32::INFINITY, f32::NEG_INFINITY, f32::NAN, -0.0]);
+    }
+    let sum = pairs.iter().enumerate().fold(0.0, |t, (i, (a, b))| (WIDE_OPS[i % 2].rust)((*a, *b, t)));
+    let operands: String = pairs.iter().map(|(a, b)| format!(" {:08x} {:08x}", a.to_bits(), b.to_bits())).collect();
+    format!("wide{operands} {:08x} {:08x}", bits64(sum) >> 32, bits64(sum) as u32)
+}
+
 fn list(count: u64, seed: u64) -> ExitCode {
     let mut r = Random::new(seed);
     for i in 0..count as usize {
@@ -63,5 +94,6 @@ fn list(count: u64, seed: u64) -> ExitCode {
         let (_, make) = op.kinds[i / OPS.len() % op.kinds.len()];
         println!("{}", line(op, &make(&mut r)));
     }
+    (0..count / 10).for_each(|_| println!("{}", wide_line(&mut r)));
     ExitCode::SUCCESS
 }

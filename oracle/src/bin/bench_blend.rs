@@ -4,7 +4,11 @@ use artefact::{
     AlignedF32, Aux, PixelDifference,
     pipeline::open::{tgv_gradient, tv_gradient},
 };
-use oracle::{floats::same, probe::probe_blend, random::Random};
+use oracle::{
+    floats::{bits64, same},
+    probe::probe_blend,
+    random::Random,
+};
 use std::time::Instant;
 
 const SIDE: usize = 512;
@@ -27,19 +31,21 @@ fn main() {
     for _ in 0..rounds {
         let mut auxs: Vec<Aux> = (0..3).map(aux).collect();
         let start = Instant::now();
-        tv_gradient(SIDE as u32, SIDE as u32, 3, &mut auxs);
-        tgv_gradient(SIDE as u32, SIDE as u32, 3, &mut auxs, weight / 2.0_f32.sqrt());
+        let first = tv_gradient(SIDE as u32, SIDE as u32, 3, &mut auxs);
+        let second = tgv_gradient(SIDE as u32, SIDE as u32, 3, &mut auxs, weight / 2.0_f32.sqrt());
         rust = rust.min(start.elapsed().as_secs_f64());
         let [mut gradient, mut across, mut down] = [0; 3].map(|_| vec![0f32; 3 * COUNT]);
-        let (n, side) = (3 * COUNT, SIDE as u32);
+        let (n, side, mut totals) = (3 * COUNT, SIDE as u32, [0; 2]);
         let start = Instant::now();
         unsafe {
             let (g, a, d) = (gradient.as_mut_ptr(), across.as_mut_ptr(), down.as_mut_ptr());
-            probe_blend(planes.as_ptr(), n, g, n, a, n, d, n, 3, side, side, 10, weight, 0);
+            let t = totals.as_mut_ptr();
+            probe_blend(planes.as_ptr(), n, g, n, a, n, d, n, 3, side, side, 10, weight, 0, t, 2);
         }
         proved = proved.min(start.elapsed().as_secs_f64());
         let published = auxs.iter().flat_map(|aux| aux.obj_gradient.iter());
         assert!(published.zip(&gradient).all(|(x, y)| same(*x, *y)), "the gradients differ");
+        assert_eq!([first, second].map(bits64), totals, "the totals differ");
     }
     println!("published {:.1} ms, proved {:.1} ms, ratio {:.1}", rust * 1e3, proved * 1e3, proved / rust);
 }

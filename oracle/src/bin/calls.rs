@@ -9,7 +9,7 @@
 //! field of the record, or two of them; or other legal places and values. Each list ends with a call on a record with another kept number.
 use oracle::{
     calls::{BLOWN, Channel, JOBS, Job, Lent, NAMES, Record, lent, proved, proved_serve},
-    floats::{any, at, bits, same, special, subnormal},
+    floats::{any, at, bits, bits64, same, special, subnormal},
     random::Random,
     replay::{Calls, digest, fits, line},
     tally::Tally,
@@ -48,6 +48,7 @@ fn fresh(r: &mut Random, limit: u32) -> Lent {
         levels: owns.iter().flat_map(|c| &c.levels).map(|d| *d as i16).collect(),
         tables: owns.iter().flat_map(|c| &c.table).map(|q| *q as u16).collect(),
         buffers: Default::default(),
+        totals: vec![7.0; 2],
     };
     refill(r, &mut x);
     x
@@ -114,6 +115,10 @@ fn choose(r: &mut Random, x: &Lent, likely: usize) -> (Job, u32) {
 fn damage(r: &mut Random, x: &mut Lent, job: Job) {
     match r.below(8) {
         0 | 1 => {
+            if job == Job::Blend && r.one_in(4) {
+                x.totals.resize(r.pick(&[0, 1, 3, 4]), 7.0);
+                return;
+            }
             let names = if r.one_in(4) { &[0, 1, 2, 3, 4, 5][..] } else { lent(job) };
             let b = r.pick(names);
             let length = other_length(r, x.buffers[b].len(), x.buffers[b].len() / 3);
@@ -207,6 +212,7 @@ enum Fault {
     Position,
     Mark,
     Clipped,
+    Total,
     Value,
     Sign,
     Rest,
@@ -215,12 +221,13 @@ enum Fault {
     ServeByte,
 }
 
-const FAULTS: [Fault; 11] = [
+const FAULTS: [Fault; 12] = [
     Fault::Answer,
     Fault::Blown,
     Fault::Position,
     Fault::Mark,
     Fault::Clipped,
+    Fault::Total,
     Fault::Value,
     Fault::Sign,
     Fault::Rest,
@@ -237,7 +244,7 @@ struct Compare {
     planted: u64,
 }
 
-/// The first difference of record or buffers.
+/// The first difference of the record, and of the buffers or blend's totals.
 fn difference(mine: &Lent, theirs: &Lent) -> (Option<String>, Option<String>) {
     let (numbers, others) = (mine.record.numbers(), theirs.record.numbers());
     let record = (numbers != others).then(|| format!("record {numbers:?}, proved {others:?}"));
@@ -249,6 +256,10 @@ fn difference(mine: &Lent, theirs: &Lent) -> (Option<String>, Option<String>) {
             buffers = Some(format!("{} at {i}: {:08x}, proved {:08x}", NAMES[b], bits(x[i]), bits(y[i])));
             break;
         }
+    }
+    let bits = |x: &Lent| x.totals.iter().map(|total| bits64(*total)).collect::<Vec<_>>();
+    if bits(mine) != bits(theirs) {
+        buffers = buffers.or(Some(format!("totals {:016x?}, proved {:016x?}", bits(mine), bits(theirs))));
     }
     (record, buffers)
 }
@@ -276,6 +287,11 @@ impl Compare {
             self.plant(theirs, &mut other, job, c);
         }
         self.met(&format!("{kind}: {job:?} answered {answer}"));
+        if job == Job::Blend && answer == 0 {
+            let unlike = |name: &str, is: fn(f64) -> bool| mine.totals.iter().any(|x| is(*x)).then(|| name.to_owned());
+            let odd = [unlike("infinite", f64::is_infinite), unlike("NaN", f64::is_nan)];
+            odd.into_iter().flatten().for_each(|name| self.met(&format!("blends with a total that is {name}")));
+        }
         let (record, buffers) = difference(mine, theirs);
         let row = format!("{kind}: {job:?}");
         let show = || format!("{job:?} of channel {c} on {:?}, call {}", before.0, before.1);
@@ -315,6 +331,10 @@ impl Compare {
             Fault::Clipped if accepted && job == Job::Project => {
                 theirs.record.channels[c].clipped ^= 1;
                 true
+            }
+            Fault::Total if accepted && job == Job::Blend => {
+                theirs.totals[1] = f64::from_bits(bits64(theirs.totals[1]) ^ 1);
+                !theirs.totals[1].is_nan()
             }
             Fault::Value if accepted => value.filter(|x| x.is_finite()).is_some_and(|x| {
                 *x = f32::from_bits(x.to_bits() ^ 1);

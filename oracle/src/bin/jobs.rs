@@ -1,11 +1,11 @@
-//! The proved jobs beside the published ones: all six buffers and the condition of job 5 after start and after each job, bit for bit, and how many coefficients each
-//! project moved.
+//! The proved jobs beside the published ones: all six buffers and the condition of job 5 after start and after each job, bit for bit, the totals of
+//! each blend, and how many coefficients each project moved.
 //!
 //!     jobs [SEED [COUNT]]     COUNT sheets (2,400) of sides up to 64, job after job; as many with other values in the buffers before each
 //!                             job; and eight of 512 by 512
 //!     jobs --faults           plants wrong values, in one buffer after another, and wrong marks, and fails unless each is reported
 use oracle::{
-    floats::{any, at, bits, same, special, subnormal},
+    floats::{any, at, bits, bits64, same, special, subnormal},
     jobs::{self, JOBS, Lent},
     random::Random,
     run::{Run, runs},
@@ -98,7 +98,7 @@ struct Compare {
     tally: Tally,
     values: u64,
     met: BTreeMap<&'static str, u64>,
-    /// A wrong answer of the proved side, planted to see that it is reported: which, a buffer's name, `blown` or `clipped`, and how often.
+    /// A wrong answer of the proved side, planted to see that it is reported: which, a buffer's name, `blown`, `totals` or `clipped`, and how often.
     fault: &'static str,
     planted: u64,
 }
@@ -133,6 +133,21 @@ impl Compare {
         self.planted += u64::from(planted);
         let equal = is_blown(&buffers, lent.own_count(c)) == (lent.is_blown(c) != planted);
         self.tally.count_in(&format!("{kind}: blown"), equal, || format!("channel {c} after {job}"));
+    }
+
+    /// The totals of the blend just done on both sides.
+    fn totals(&mut self, kind: &str, run: &Run, lent: &Lent) {
+        let (rust, mut proved) = (run.totals.map(bits64), lent.totals);
+        if self.fault == "totals" {
+            proved[1] ^= 1;
+            self.planted += 1;
+        }
+        self.met("totals that are 0", rust.iter().filter(|x| **x == 0).count() as u64);
+        self.met("totals that are infinite", run.totals.iter().filter(|x| x.is_infinite()).count() as u64);
+        self.met("totals that are NaN", run.totals.iter().filter(|x| x.is_nan()).count() as u64);
+        self.tally.count_in(&format!("{kind}: totals"), rust == proved, || {
+            format!("Rust's {rust:016x?}, proved {proved:016x?}, position {}", run.positions[0])
+        });
     }
 
     /// The number of the project just done on both sides, in channel c.
@@ -179,6 +194,9 @@ impl Compare {
                     if job != "blend" || c == 0 {
                         lent.job(job, c, step);
                     }
+                    if job == "blend" && c == 0 {
+                        self.totals(kind, run, &lent);
+                    }
                     self.look(kind, job, run, &lent, c);
                     if job == "project" {
                         self.clipped(kind, run, &lent, c);
@@ -203,6 +221,9 @@ impl Compare {
                     fill(&mut run, &mut lent, |_, n| (0..n).map(|_| make(r)).collect());
                     rust(&mut run, job, c, step);
                     lent.job(job, c, step);
+                    if *job == "blend" {
+                        self.totals("other buffers", &run, &lent);
+                    }
                     if *job == "project" {
                         self.clipped("other buffers", &run, &lent, c);
                     }
@@ -308,7 +329,7 @@ fn compare(all: &mut Compare, r: &mut Random, count: u64) {
     }
 }
 
-const FAULTS: [&str; 8] = ["plane", "prior", "gradient", "across", "down", "saved", "blown", "clipped"];
+const FAULTS: [&str; 9] = ["plane", "prior", "gradient", "across", "down", "saved", "blown", "totals", "clipped"];
 
 /// Each has to be reported as often as it was planted, at least once.
 fn faults() -> ExitCode {

@@ -8,7 +8,7 @@
 //! a quantiser or a level, or in two of these: the answer is then document 01's, and a refusal leaves all buffers as they were.
 use oracle::{
     bench::best,
-    floats::{any, same},
+    floats::{any, bits64, same},
     picture::{drawn, ended, nearest, solved},
     probe,
     random::Random,
@@ -42,6 +42,8 @@ struct Lent {
     six: [Vec<f32>; 6],
     /// Each channel's number of the last project.
     clipped: Vec<u32>,
+    /// Both totals of each blend, run after run.
+    totals: Vec<f64>,
 }
 
 impl Lent {
@@ -56,11 +58,12 @@ impl Lent {
         let left = any(r);
         let six = [0; 6].map(|_| (0..all).map(|i| if i % 7 == 0 { any(r) } else { left }).collect());
         let clipped = vec![77; numbers[4] as usize];
-        Self { numbers, levels, tables, six, clipped }
+        let totals = vec![7.0; 2 * blends(&numbers)];
+        Self { numbers, levels, tables, six, clipped, totals }
     }
 
     fn solve(&mut self) -> u32 {
-        probe::solve(&self.numbers, &self.levels, &self.tables, &mut self.six, &mut self.clipped)
+        probe::solve(&self.numbers, &self.levels, &self.tables, &mut self.six, &mut self.clipped, &mut self.totals)
     }
 
     /// By document 01 and docs/DECISIONS.md, in order: no record (8), no legal record (13), lengths (8), quantisers (4), levels (5).
@@ -76,7 +79,8 @@ impl Lent {
         let all = count * (n[0] * n[1]) as usize;
         let own: usize = (0..count).map(|c| (n[15 + 4 * c] * n[16 + 4 * c]) as usize).sum();
         let inputs = self.levels.len() == own && self.tables.len() == 64 * count;
-        if !inputs || self.six.iter().any(|x| x.len() != all) || self.clipped.len() != count {
+        let lent_out = self.clipped.len() == count && self.totals.len() == 2 * blends(n);
+        if !inputs || !lent_out || self.six.iter().any(|x| x.len() != all) {
             8
         } else if self.tables.iter().any(|q| !(1..=255).contains(q)) {
             4
@@ -132,6 +136,12 @@ impl Lent {
     }
 }
 
+/// How many blends the runs of a record's numbers have: one run of the first count in joint mode, else one of each channel's.
+fn blends(numbers: &[u32]) -> usize {
+    let counts = if numbers[5] == 1 { &numbers[6..7] } else { &numbers[6..][..numbers[4] as usize] };
+    counts.iter().map(|n| *n as usize).sum()
+}
+
 /// Changes a length, a number, a quantiser or a level. Iteration counts stay small or become illegal.
 fn damage(r: &mut Random, x: &mut Lent) {
     const NUMBERS: [u32; 22] = [
@@ -158,7 +168,8 @@ fn damage(r: &mut Random, x: &mut Lent) {
         0xbf80_0000,
         u32::MAX,
     ];
-    match r.below(11) {
+    match r.below(12) {
+        11 => x.totals.resize(longer(r, x.totals.len()), 7.0),
         10 => x.clipped.resize(r.pick(&[0, 1, 2, 3, 4]), 77),
         0 => x.numbers.resize(r.pick(&[0, 1, 27, 28, 30, 58]), 1),
         1 => x.levels.resize(longer(r, x.levels.len()), 0),
@@ -231,7 +242,7 @@ fn full(r: &mut Random, side: u32, joint: bool, steps: u32) -> Sheet {
     }
 }
 
-const FAULTS: [&str; 13] = [
+const FAULTS: [&str; 15] = [
     "the other mode",
     "the other start",
     "the second data weight for the first",
@@ -239,6 +250,8 @@ const FAULTS: [&str; 13] = [
     "the lowest bit of the last value",
     "one coefficient more",
     "a number changed by a refusal",
+    "a total changed by a refusal",
+    "the lowest bit of the last total",
     "done where blown",
     "a value changed by a refusal",
     "another number of a refusal",
@@ -264,10 +277,12 @@ fn compare(count: u64, seed: u64, fault: &str) -> (Tally, BTreeMap<u32, u64>) {
                 match fault {
                     "a value changed by a refusal" => x.six[0].iter_mut().take(1).for_each(|v| *v = 1.5),
                     "a number changed by a refusal" => x.clipped.iter_mut().take(1).for_each(|n| *n = 78),
+                    "a total changed by a refusal" => x.totals.iter_mut().take(1).for_each(|t| *t = 8.0),
                     "another number of a refusal" => answer = 21 - answer,
                     _ => (),
                 }
-                let kept = x.six.iter().zip(&before.six).all(|(a, b)| equal(a, b)) && x.clipped == before.clipped;
+                let lent_out = x.clipped == before.clipped && x.totals == before.totals;
+                let kept = lent_out && x.six.iter().zip(&before.six).all(|(a, b)| equal(a, b));
                 tally.count_in("refused", answer == due && kept, || format!("{answer} for {due}, {:?}", x.numbers));
             } else {
                 let sheet = x.sheet();
@@ -318,7 +333,7 @@ fn ties(tally: &mut Tally) {
     }
 }
 
-/// Solves, and holds the planes against the published ones and the numbers against the own count; gives the proved planes.
+/// Solves, and holds planes and totals against the published ones and the numbers against the own count; gives the proved planes.
 fn solved_as(
     tally: &mut Tally,
     answers: &mut BTreeMap<u32, u64>,
@@ -334,21 +349,29 @@ fn solved_as(
         "one step less" => x.numbers[6] = x.numbers[6].saturating_sub(1),
         _ => (),
     }
+    x.totals.resize(2 * blends(&x.numbers), 7.0);
     let mut answer = x.solve();
-    let ([mut plane, ..], mut clipped) = (x.six, x.clipped);
+    let ([mut plane, ..], mut clipped, mut totals) = (x.six, x.clipped, x.totals);
     *answers.entry(answer).or_default() += 1;
     match fault {
         "the lowest bit of the last value" => {
             plane.iter_mut().last().into_iter().for_each(|v| *v = f32::from_bits(v.to_bits() ^ 1));
         }
         "one coefficient more" => clipped[0] += 1,
+        "the lowest bit of the last total" => {
+            totals.iter_mut().last().into_iter().for_each(|t| *t = f64::from_bits(t.to_bits() ^ 1));
+        }
         "done where blown" if answer == 255 => answer = 0,
         _ => (),
     }
     let due = ended(sheet);
     let equal = match &due {
         None => answer == 255 && clipped.iter().all(|n| *n == 77),
-        Some(due) => answer == 0 && equal(&plane, &due.planes.concat()) && clipped == due.clipped,
+        Some(due) => {
+            let bits = |xs: &mut dyn Iterator<Item = f64>| xs.map(bits64).collect::<Vec<_>>();
+            let same_totals = bits(&mut totals.iter().copied()) == bits(&mut due.totals.iter().flat_map(|t| t.totals));
+            answer == 0 && equal(&plane, &due.planes.concat()) && clipped == due.clipped && same_totals
+        }
     };
     tally.count_in(kind, equal, || format!("answer {answer}, blown {}, numbers {:?}", due.is_none(), x.numbers));
     (answer == 0).then_some(plane)

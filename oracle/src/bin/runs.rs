@@ -103,6 +103,7 @@ fn lent(sheet: &Sheet, c: usize, fill: f32) -> Lent {
         levels: owns.iter().flat_map(|c| &c.levels).map(|d| *d as i16).collect(),
         tables: owns.iter().flat_map(|c| &c.table).map(|q| *q as u16).collect(),
         buffers: [0; 6].map(|_| vec![fill; record.values()]),
+        totals: vec![0.0; 2],
     }
 }
 

@@ -24,7 +24,8 @@ fn main() -> ExitCode {
             let program = args.get(1).expect("a program");
             let long = texts::long().into_iter().map(|(text, _)| ("long text", text));
             let texts = texts::all(number(3, 1), number(2, 1000), 32, number(4, 5) as u32);
-            return compare(program, long.chain(texts));
+            let largest = std::iter::once(("largest output", texts::largest().text()));
+            return compare(program, largest.chain(long).chain(texts));
         }
         Some("--pack") => {
             let folder = Path::new(args.get(3).expect("a folder"));
