@@ -1,5 +1,6 @@
 -- `alone_value`: the parts that are lent on are channel c's. Each need is a declaration of its own: one of them all takes too many steps.
 use native.Mathlib.Omega.{arith}
+use Rattle.start.specs.Coef.{pairs}
 use Rattle.rounds.specs.Whole.{six, loan}
 use Rattle.solve.proofs.Alone.{own-room, alone-is}
 use borrow.Author.Needs.{needs}
@@ -87,6 +88,18 @@ part-run-value-end-6 c = search needs
 mul-run-value-7 : tie.Need-mul-run-value-7
 mul-run-value-7 c = search needs
 
+sub-run-value-7 : tie.Need-sub-run-value-7
+sub-run-value-7 c = search needs
+
+part-run-value-start-7 : tie.Need-part-run-value-start-7
+part-run-value-start-7 c = search needs
+
+part-run-value-end-7 : tie.Need-part-run-value-end-7
+part-run-value-end-7 c = search needs
+
+mul-run-value-8 : tie.Need-mul-run-value-8
+mul-run-value-8 c = search needs
+
 same-length-5 : tie.Need-same-length-5
 same-length-5 c = search needs
 
@@ -96,38 +109,38 @@ same-length-6 c = search needs
 same-length-7 : tie.Need-same-length-7
 same-length-7 c = search needs
 
-sub-run-value-7 : tie.Need-sub-run-value-7
-sub-run-value-7 c = omega (arith, c .before .before .before .before .before .before .before .parts-of .ensures .from-is, c .before .before .before .before .before .before .before .parts-of .ensures .to-is, c .before .before .before .before .before .before .before .parts-of .ensures .to-most, c .before .before .before .before .before .before .before .parts-of .ensures .to-small, c .before .before .before .before .before .before .before .before .before .before .before .before .before .before .before .before .pre .down-long)
-
-part-run-value-start-7 : tie.Need-part-run-value-start-7
-part-run-value-start-7 c = omega (arith, c .before .before .before .before .before .before .before .parts-of .ensures .from-is, c .before .before .before .before .before .before .before .parts-of .ensures .to-is, c .before .before .before .before .before .before .before .parts-of .ensures .to-most, c .before .before .before .before .before .before .before .parts-of .ensures .to-small, c .before .before .before .before .before .before .before .before .before .before .before .before .before .before .before .before .pre .down-long)
-
-part-run-value-end-7 : tie.Need-part-run-value-end-7
-part-run-value-end-7 c = omega (arith, c .before .before .before .before .before .before .before .parts-of .ensures .from-is, c .before .before .before .before .before .before .before .parts-of .ensures .to-is, c .before .before .before .before .before .before .before .parts-of .ensures .to-most, c .before .before .before .before .before .before .before .parts-of .ensures .to-small, c .before .before .before .before .before .before .before .before .before .before .before .before .before .before .before .before .pre .down-long)
-
-mul-run-value-8 : tie.Need-mul-run-value-8
-mul-run-value-8 c = omega (arith, c .before .before .before .before .before .before .before .before .parts-of .ensures .from-is, c .before .before .before .before .before .before .before .before .parts-of .ensures .to-is, c .before .before .before .before .before .before .before .before .parts-of .ensures .to-most, c .before .before .before .before .before .before .before .before .parts-of .ensures .to-small, c .before .before .before .before .before .before .before .before .before .before .before .before .before .before .before .before .before .pre .saved-long)
-
 sub-run-value-8 : tie.Need-sub-run-value-8
-sub-run-value-8 c = omega (arith, c .before .before .before .before .before .before .before .before .parts-of .ensures .from-is, c .before .before .before .before .before .before .before .before .parts-of .ensures .to-is, c .before .before .before .before .before .before .before .before .parts-of .ensures .to-most, c .before .before .before .before .before .before .before .before .parts-of .ensures .to-small, c .before .before .before .before .before .before .before .before .before .before .before .before .before .before .before .before .before .pre .saved-long)
+sub-run-value-8 c = omega (arith, c .before .before .before .before .before .before .before .parts-of .ensures .from-is, c .before .before .before .before .before .before .before .parts-of .ensures .to-is, c .before .before .before .before .before .before .before .parts-of .ensures .to-most, c .before .before .before .before .before .before .before .parts-of .ensures .to-small, c .before .before .before .before .before .before .before .before .before .before .before .before .before .before .before .before .pre .down-long)
 
 part-run-value-start-8 : tie.Need-part-run-value-start-8
-part-run-value-start-8 c = omega (arith, c .before .before .before .before .before .before .before .before .parts-of .ensures .from-is, c .before .before .before .before .before .before .before .before .parts-of .ensures .to-is, c .before .before .before .before .before .before .before .before .parts-of .ensures .to-most, c .before .before .before .before .before .before .before .before .parts-of .ensures .to-small, c .before .before .before .before .before .before .before .before .before .before .before .before .before .before .before .before .before .pre .saved-long)
+part-run-value-start-8 c = omega (arith, c .before .before .before .before .before .before .before .parts-of .ensures .from-is, c .before .before .before .before .before .before .before .parts-of .ensures .to-is, c .before .before .before .before .before .before .before .parts-of .ensures .to-most, c .before .before .before .before .before .before .before .parts-of .ensures .to-small, c .before .before .before .before .before .before .before .before .before .before .before .before .before .before .before .before .pre .down-long)
 
 part-run-value-end-8 : tie.Need-part-run-value-end-8
-part-run-value-end-8 c = omega (arith, c .before .before .before .before .before .before .before .before .parts-of .ensures .from-is, c .before .before .before .before .before .before .before .before .parts-of .ensures .to-is, c .before .before .before .before .before .before .before .before .parts-of .ensures .to-most, c .before .before .before .before .before .before .before .before .parts-of .ensures .to-small, c .before .before .before .before .before .before .before .before .before .before .before .before .before .before .before .before .before .pre .saved-long)
+part-run-value-end-8 c = omega (arith, c .before .before .before .before .before .before .before .parts-of .ensures .from-is, c .before .before .before .before .before .before .before .parts-of .ensures .to-is, c .before .before .before .before .before .before .before .parts-of .ensures .to-most, c .before .before .before .before .before .before .before .parts-of .ensures .to-small, c .before .before .before .before .before .before .before .before .before .before .before .before .before .before .before .before .pre .down-long)
 
 mul-run-value-9 : tie.Need-mul-run-value-9
-mul-run-value-9 c = omega (arith, c .before .before .before .before .before .before .before .before .before .parts-of .ensures .x-is, c .before .before .before .before .before .before .before .before .before .parts-of .ensures .y-is, c .before .before .before .before .before .before .before .before .before .parts-of .ensures .x-most, c .before .before .before .before .before .before .before .before .before .parts-of .ensures .y-most, c .before .before .before .before .before .before .before .before .before .parts-of .ensures .y-small, c .before .before .before .before .before .before .before .before .before .before .before .before .before .before .before .before .before .before .pre .totals-long)
+mul-run-value-9 c = omega (arith, c .before .before .before .before .before .before .before .before .parts-of .ensures .from-is, c .before .before .before .before .before .before .before .before .parts-of .ensures .to-is, c .before .before .before .before .before .before .before .before .parts-of .ensures .to-most, c .before .before .before .before .before .before .before .before .parts-of .ensures .to-small, c .before .before .before .before .before .before .before .before .before .before .before .before .before .before .before .before .before .pre .saved-long)
 
 sub-run-value-9 : tie.Need-sub-run-value-9
-sub-run-value-9 c = omega (arith, c .before .before .before .before .before .before .before .before .before .parts-of .ensures .x-is, c .before .before .before .before .before .before .before .before .before .parts-of .ensures .y-is, c .before .before .before .before .before .before .before .before .before .parts-of .ensures .x-most, c .before .before .before .before .before .before .before .before .before .parts-of .ensures .y-most, c .before .before .before .before .before .before .before .before .before .parts-of .ensures .y-small, c .before .before .before .before .before .before .before .before .before .before .before .before .before .before .before .before .before .before .pre .totals-long)
+sub-run-value-9 c = omega (arith, c .before .before .before .before .before .before .before .before .parts-of .ensures .from-is, c .before .before .before .before .before .before .before .before .parts-of .ensures .to-is, c .before .before .before .before .before .before .before .before .parts-of .ensures .to-most, c .before .before .before .before .before .before .before .before .parts-of .ensures .to-small, c .before .before .before .before .before .before .before .before .before .before .before .before .before .before .before .before .before .pre .saved-long)
 
 part-run-value-start-9 : tie.Need-part-run-value-start-9
-part-run-value-start-9 c = omega (arith, c .before .before .before .before .before .before .before .before .before .parts-of .ensures .x-is, c .before .before .before .before .before .before .before .before .before .parts-of .ensures .y-is, c .before .before .before .before .before .before .before .before .before .parts-of .ensures .x-most, c .before .before .before .before .before .before .before .before .before .parts-of .ensures .y-most, c .before .before .before .before .before .before .before .before .before .parts-of .ensures .y-small, c .before .before .before .before .before .before .before .before .before .before .before .before .before .before .before .before .before .before .pre .totals-long)
+part-run-value-start-9 c = omega (arith, c .before .before .before .before .before .before .before .before .parts-of .ensures .from-is, c .before .before .before .before .before .before .before .before .parts-of .ensures .to-is, c .before .before .before .before .before .before .before .before .parts-of .ensures .to-most, c .before .before .before .before .before .before .before .before .parts-of .ensures .to-small, c .before .before .before .before .before .before .before .before .before .before .before .before .before .before .before .before .before .pre .saved-long)
 
 part-run-value-end-9 : tie.Need-part-run-value-end-9
-part-run-value-end-9 c = omega (arith, c .before .before .before .before .before .before .before .before .before .parts-of .ensures .x-is, c .before .before .before .before .before .before .before .before .before .parts-of .ensures .y-is, c .before .before .before .before .before .before .before .before .before .parts-of .ensures .x-most, c .before .before .before .before .before .before .before .before .before .parts-of .ensures .y-most, c .before .before .before .before .before .before .before .before .before .parts-of .ensures .y-small, c .before .before .before .before .before .before .before .before .before .before .before .before .before .before .before .before .before .before .pre .totals-long)
+part-run-value-end-9 c = omega (arith, c .before .before .before .before .before .before .before .before .parts-of .ensures .from-is, c .before .before .before .before .before .before .before .before .parts-of .ensures .to-is, c .before .before .before .before .before .before .before .before .parts-of .ensures .to-most, c .before .before .before .before .before .before .before .before .parts-of .ensures .to-small, c .before .before .before .before .before .before .before .before .before .before .before .before .before .before .before .before .before .pre .saved-long)
+
+mul-run-value-10 : tie.Need-mul-run-value-10
+mul-run-value-10 c = omega (arith, c .before .before .before .before .before .before .before .before .before .parts-of .ensures .x-is, c .before .before .before .before .before .before .before .before .before .parts-of .ensures .y-is, c .before .before .before .before .before .before .before .before .before .parts-of .ensures .x-most, c .before .before .before .before .before .before .before .before .before .parts-of .ensures .y-most, c .before .before .before .before .before .before .before .before .before .parts-of .ensures .y-small, c .before .before .before .before .before .before .before .before .before .before .before .before .before .before .before .before .before .before .pre .totals-long)
+
+sub-run-value-10 : tie.Need-sub-run-value-10
+sub-run-value-10 c = omega (arith, c .before .before .before .before .before .before .before .before .before .parts-of .ensures .x-is, c .before .before .before .before .before .before .before .before .before .parts-of .ensures .y-is, c .before .before .before .before .before .before .before .before .before .parts-of .ensures .x-most, c .before .before .before .before .before .before .before .before .before .parts-of .ensures .y-most, c .before .before .before .before .before .before .before .before .before .parts-of .ensures .y-small, c .before .before .before .before .before .before .before .before .before .before .before .before .before .before .before .before .before .before .pre .totals-long)
+
+part-run-value-start-10 : tie.Need-part-run-value-start-10
+part-run-value-start-10 c = omega (arith, c .before .before .before .before .before .before .before .before .before .parts-of .ensures .x-is, c .before .before .before .before .before .before .before .before .before .parts-of .ensures .y-is, c .before .before .before .before .before .before .before .before .before .parts-of .ensures .x-most, c .before .before .before .before .before .before .before .before .before .parts-of .ensures .y-most, c .before .before .before .before .before .before .before .before .before .parts-of .ensures .y-small, c .before .before .before .before .before .before .before .before .before .before .before .before .before .before .before .before .before .before .pre .totals-long)
+
+part-run-value-end-10 : tie.Need-part-run-value-end-10
+part-run-value-end-10 c = omega (arith, c .before .before .before .before .before .before .before .before .before .parts-of .ensures .x-is, c .before .before .before .before .before .before .before .before .before .parts-of .ensures .y-is, c .before .before .before .before .before .before .before .before .before .parts-of .ensures .x-most, c .before .before .before .before .before .before .before .before .before .parts-of .ensures .y-most, c .before .before .before .before .before .before .before .before .before .parts-of .ensures .y-small, c .before .before .before .before .before .before .before .before .before .before .before .before .before .before .before .before .before .before .pre .totals-long)
 
 run-value-requires : tie.Need-run-value-requires
 run-value-requires c κs = rw (c .before .before .before .before .before .before .before .before .before .alone-of .ensures, c .before .before .before .before .before .before .before .before .before .before .parts-of .ensures .x-is, c .before .before .before .before .before .before .before .before .before .before .parts-of .ensures .y-is) (own-room (c .before .before .before .before .before .before .before .before .before .before .before .before .before .before .before .before .before .before .before .args .s) (c .before .before .before .before .before .before .before .before .before .before .before .before .before .before .before .before .before .before .before .args .c) (c .before .before .before .before .before .before .before .before .before .before .before .before .before .before .before .before .before .before .before .args .totals .now) (c .before .before .before .before .before .before .before .before .before .before .before .before .before .before .before .before .before .before .before .pre .totals-long) (c .before .before .before .before .before .before .before .before .before .before .before .before .before .before .before .before .before .before .before .pre .below))
@@ -149,7 +162,7 @@ returns c =
     let a = c .before .before .before .before .before .before .before .before .before .before .before .before .before .before .before .before .before .before .before .before .before .before .before .before .before .before .before .before .before .before .before .before .before .before .args in
     let p = c .before .before .before .before .before .before .before .before .before .before .before .before .before .before .before .before .before .before .before .before .before .before .before .before .before .parts-of .result in
     let o = c .before .before .before .before .before .before .before .before .before .before .before .before .before .before .run-value in
-    alone-is (a .s) (a .c) (a .levels .now) (a .tables .now)
+    alone-is (a .s) (a .c) (pairs (a .lows .now) (a .highs .now)) (a .tables .now)
     (loan (six (a .plane .now) (a .prior .now) (a .gradient .now) (a .across .now) (a .down .now) (a .saved .now)) (a .totals .now))
     (p .from) (p .to) (p .«levels_from») (p .«levels_to») (p .«tables_from») (p .«tables_to») (p .«totals_from») (p .«totals_to») (c .before .before .before .before .before .before .before .before .before .before .before .before .before .before .before .before .before .before .before .before .before .before .before .before .before .parts-of .ensures)
     (c .before .before .before .before .before .before .before .before .before .before .before .before .before .before .before .before .before .before .before .before .before .before .before .before .alone-of .result) (c .before .before .before .before .before .before .before .before .before .before .before .before .before .before .before .before .before .before .before .before .before .before .before .before .alone-of .ensures) (o .result .answer) (o .result .run) _ (o .ensures)
@@ -157,10 +170,10 @@ returns c =
 pub alone-value-spec : {M : Type 1} → statement M
 alone-value-spec =
     tie.close
-    (tie.spec parts-of-requires alone-of-requires mul-run-value sub-run-value part-run-value-start part-run-value-end mul-run-value-2 sub-run-value-2
-    part-run-value-start-2 part-run-value-end-2 mul-run-value-3 sub-run-value-3 part-run-value-start-3 part-run-value-end-3 mul-run-value-4
-    sub-run-value-4 part-run-value-start-4 part-run-value-end-4 mul-run-value-5 sub-run-value-5 part-run-value-start-5 part-run-value-end-5
-    mul-run-value-6 sub-run-value-6 part-run-value-start-6 part-run-value-end-6 mul-run-value-7 sub-run-value-7 part-run-value-start-7
-    part-run-value-end-7 mul-run-value-8 sub-run-value-8 part-run-value-start-8 part-run-value-end-8 mul-run-value-9 sub-run-value-9
-    part-run-value-start-9 part-run-value-end-9 run-value-requires same-length same-length-2 same-length-3 same-length-4 same-length-5 same-length-6
+    (tie.spec parts-of-requires alone-of-requires mul-run-value sub-run-value part-run-value-start part-run-value-end mul-run-value-2 sub-run-value-2 part-run-value-start-2 part-run-value-end-2 mul-run-value-3 sub-run-value-3
+    part-run-value-start-3 part-run-value-end-3 mul-run-value-4 sub-run-value-4 part-run-value-start-4 part-run-value-end-4 mul-run-value-5
+    sub-run-value-5 part-run-value-start-5 part-run-value-end-5 mul-run-value-6 sub-run-value-6 part-run-value-start-6 part-run-value-end-6
+    mul-run-value-7 sub-run-value-7 part-run-value-start-7 part-run-value-end-7 mul-run-value-8 sub-run-value-8 part-run-value-start-8
+    part-run-value-end-8 mul-run-value-9 sub-run-value-9 part-run-value-start-9 part-run-value-end-9 mul-run-value-10 sub-run-value-10
+    part-run-value-start-10 part-run-value-end-10 run-value-requires same-length same-length-2 same-length-3 same-length-4 same-length-5 same-length-6
     same-length-7 returns)
