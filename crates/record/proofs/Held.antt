@@ -1,0 +1,35 @@
+-- When a channel of the struct is held (M-108).
+use mathlib.Core.Path.{_≡_, refl, sym, ap, _∙_}
+use mathlib.Core.Bool.{Bool, true, false, _&&_}
+use mathlib.Core.List.{[], _∷_}
+use Prim.Native.Nat.{ℕ, zero, suc, _/_, _≤_, _<_}
+use native.Mathlib.Omega.{arith}
+use lib.Dec.{leb, ltb}
+use lib.ListN.{getD}
+use borrow.Author.Tests.{leb-true, leb-false, lt-ltb, le-ltb}
+use Rattle.calls.specs.Run.{own, place, held}
+use Rattle.record.specs.Model.{ChannelIs, sheetOf, placesOf}
+use Rattle.record.specs.declared.Run.{Run}
+use Rattle.record.specs.declared.Channel.{Channel}
+
+-- in its next job
+pub held-next : (r : Run) (c : ℕ) (x : Channel) → ChannelIs r c x → c < r .count → leb (x .held) (x .position / 5) ≡ held (sheetOf r) c (place (placesOf r) c .position / 5)
+held-next r c x is h = λ i. sym (lt-ltb c (r .count) h) i && leb (is .its-own i .held) (is .its-place i .position / 5)
+
+-- in a step
+pub held-here : (r : Run) (c step : ℕ) (x : Channel) → ChannelIs r c x → leb (r .count) c ≡ false → leb (x .held) step ≡ held (sheetOf r) c step
+held-here r c step x is e = λ i. sym (lt-ltb c (r .count) (leb-false (r .count) c e)) i && leb (is .its-own i .held) step
+
+absent : (r : Run) (c step : ℕ) → r .count ≤ c → false ≡ held (sheetOf r) c step
+absent r c step h = λ i. sym (le-ltb c (r .count) h) i && leb (own (sheetOf r) c .held) step
+
+pub held-absent : (r : Run) (c step : ℕ) → leb (r .count) c ≡ true → false ≡ held (sheetOf r) c step
+held-absent r c step e = absent r c step (leb-true (r .count) c e)
+
+-- three flags tell of every channel
+pub flags-are : (r : Run) → r .count ≤ 3 → (step : ℕ) (x y z : Bool) → x ≡ held (sheetOf r) 0 step → y ≡ held (sheetOf r) 1 step → z ≡ held (sheetOf r) 2 step
+    → (c : ℕ) → getD (x ∷ y ∷ z ∷ []) c false ≡ held (sheetOf r) c step
+flags-are r small step x y z a b d zero = a
+flags-are r small step x y z a b d (suc zero) = b
+flags-are r small step x y z a b d (suc (suc zero)) = d
+flags-are r small step x y z a b d (suc (suc (suc c))) = absent r (suc (suc (suc c))) step (omega (arith, small))
