@@ -1,4 +1,4 @@
--- What holds of every sheet that is read: document 01's rules as facts. A theorem of the reader, `legal` of sheet/proofs/LegalLaws.antt.
+-- What holds of every sheet that is read: document 01's rules as facts. A theorem of the reader, `legal` of grammar/proofs/LegalLaws.antt.
 use Prim.Native.Nat.{ℕ, _%_, _≤_, _<_, _*_}
 use mathlib.Core.Path.{_≡_}
 use lib.IntN.{ℤ, pos, negsuc}
@@ -6,12 +6,14 @@ use Rattle.contents.specs.declared.Weight.{Weight}
 use Rattle.contents.specs.declared.Weight.the-variants as weight
 use mathlib.Core.List.{List, [], _∷_}
 use mathlib.Core.Logic.{_⊎_}
-use lib.ListN.{length}
+use mathlib.Core.Bool.{Bool, true, false}
+use lib.ListN.{length, take, drop}
+use lib.Signed.{leZ}
 use Rattle.contents.specs.declared.Limits.{Limits}
 use Rattle.contents.specs.declared.Header.{Header}
 use Rattle.contents.specs.declared.Channel.{Channel}
 use Rattle.contents.specs.declared.Sheet.{Sheet}
-use Rattle.contents.specs.Sheets.{Held, noChannel, channelAt, levelsTo}
+use Rattle.contents.specs.Sheets.{Lent, Held, noChannel, channelAt, levelsTo}
 
 pub record Between (a b n : ℕ) : Type 0 where
   pub low : a ≤ n
@@ -71,12 +73,31 @@ abbrev pub LegalLevels : List ℤ → Type 0
 LegalLevels [] = Unit {0}
 LegalLevels (z ∷ zs) = LegalLevel z × LegalLevels zs
 
-pub record LegalSheet (limits : Limits) (s : Sheet) (h : Held) : Type 0 where
+-- "14 "range", low above high" (M-105)
+abbrev pub LegalRanges : List ℤ → List ℤ → Type 0
+LegalRanges [] hs = Unit {0}
+LegalRanges (l ∷ ls) [] = Unit {0}
+LegalRanges (l ∷ ls) (h ∷ hs) = (leZ l h ≡ true) × LegalRanges ls hs
+
+pub record LegalSheet (limits : Limits) (s : Sheet) (h : Lent) : Type 0 where
   pub limits-legal : LegalLimits limits
   pub header : LegalHeader limits (s .header)
   pub channel : (j : ℕ) → j < s .header .channels → LegalChannel (s .header) (channelAt s j)
   pub spare : (j : ℕ) → s .header .channels ≤ j → j < 3 → channelAt s j ≡ noChannel
-  pub levels-count : length (h .levels) ≡ levelsTo s (s .header .channels)
+  pub lows-count : length (h .lows) ≡ levelsTo s (s .header .channels)
+  pub highs-count : length (h .highs) ≡ levelsTo s (s .header .channels)
   pub tables-count : length (h .tables) ≡ 64 * s .header .channels
-  pub levels : LegalLevels (h .levels)
+  pub lows : LegalLevels (h .lows)
+  pub highs : LegalLevels (h .highs)
+  pub ranges : LegalRanges (h .lows) (h .highs)
   pub tables : LegalQuantisers (h .tables)
+
+-- "a `B` level stands in both": where a block isn't ranged, its lows are its highs
+abbrev pub LegalKinds : List Bool → List ℤ → List ℤ → Type 0
+LegalKinds [] ls hs = Unit {0}
+LegalKinds (r ∷ rs) ls hs = (r ≡ false → take 64 ls ≡ take 64 hs) × LegalKinds rs (drop 64 ls) (drop 64 hs)
+
+-- Which lines its blocks may have: one kind for each block
+pub record LegalBlocks (h : Held) : Type 0 where
+  pub kinds-count : 64 * length (h .ranged) ≡ length (h .lent .lows)
+  pub kinds : LegalKinds (h .ranged) (h .lent .lows) (h .lent .highs)

@@ -1,7 +1,7 @@
--- A sheet's channels, and what stands beside it: levels and tables.
+-- A sheet's channels, and what stands beside it: levels, tables and the kinds of its blocks.
 use Prim.Native.Nat.{ℕ, zero, suc, _+_, _*_}
 use mathlib.Core.List.{List, [], _∷_}
-use mathlib.Core.Bool.{cond, false}
+use mathlib.Core.Bool.{Bool, cond, false}
 use lib.ListN.{take}
 use lib.Dec.{eqb}
 use lib.IntN.{ℤ}
@@ -12,13 +12,25 @@ use Rattle.contents.specs.declared.Weight.the-variants as weight
 use Rattle.contents.specs.declared.Choice.the-variants as choice
 use Rattle.contents.specs.declared.Settings.{Settings}
 
--- What goes to the lent buffers: levels and tables
-pub record Held : Type 0 where
-  pub levels : List ℤ
+-- What goes to the lent buffers: the lowest and the highest level of each place, and the tables
+pub record Lent : Type 0 where
+  pub lows : List ℤ
+  pub highs : List ℤ
   pub tables : List ℕ
 
-abbrev pub held : List ℤ → List ℕ → Held
-held ls ts = record { levels = ls; tables = ts }
+abbrev pub lent : List ℤ → List ℤ → List ℕ → Lent
+lent ls hs ts = record { lows = ls; highs = hs; tables = ts }
+
+-- What a text holds beside its sheet: these, and of each block whether its line was `G`, with 64 pairs, or `B`, with 64 levels
+pub record Held : Type 0 where
+  pub lent : Lent
+  pub ranged : List Bool
+
+abbrev pub held : Lent → List Bool → Held
+held b rs = record { lent = b; ranged = rs }
+
+abbrev pub nothing : Held
+nothing = held (lent [] [] []) []
 
 -- no header, no settings, no channel
 abbrev pub noHeader : Header

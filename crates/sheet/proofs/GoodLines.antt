@@ -2,7 +2,7 @@
 use Prim.Native.Nat.{ℕ, zero, suc, _<_, _≤_}
 use mathlib.Core.Path.{_≡_, refl, sym, ap, _∙_}
 use mathlib.Core.List.{List, [], _∷_, _++_, append-nil}
-use mathlib.Core.Bool.{Bool, true, not, _&&_}
+use mathlib.Core.Bool.{Bool, true, false, not, _&&_}
 use mathlib.Core.Option.{Option, none, some}
 use native.Mathlib.Omega.{arith}
 use lib.ListN.{length, getD, drop, replicate, drop-of-length-le}
@@ -10,14 +10,16 @@ use lib.Seq.{drop-cons}
 use borrow.Author.Tests.{not-true}
 use Rattle.text.specs.declared.field.Rule.{Rule}
 use Rattle.text.specs.declared.field.Rule.the-variants as rule
+use Rattle.text.specs.declared.field.Field.{Field}
 use Rattle.text.specs.Pieces.{split}
-use Rattle.text.specs.Fields.{fieldOf, faultIn}
+use Rattle.text.specs.Fields.{fieldOf, faultIn, lowsIn, highsIn, tablesIn}
 use Rattle.digits.specs.Written.{joined}
 use Rattle.text.proofs.JoinLaws.{joined-split}
-use Rattle.text.proofs.GoodLaws.{addsTable, addsLevel, tables-none, levels-none, quantiser-good, level-good}
+use Rattle.text.proofs.GoodLaws.{addsTable, addsLevel, tables-none, levels-none, quantiser-good}
 use Rattle.digits.proofs.Both.{both-left, both-right}
-use Rattle.sheet.specs.Lines.{factor, ownSide, channelRules, blockRules, orElse, firstFault, lineLevels, lineTables}
-use Rattle.contents.specs.Legal.{LegalLevels, LegalQuantisers}
+use Rattle.contents.specs.Sheets.{lent, Held, held}
+use Rattle.sheet.specs.Lines.{factor, ownSide, channelRules, orElse, firstFault, lineAdds, kindOf, holding}
+use Rattle.contents.specs.Legal.{LegalQuantisers}
 
 pub or-left : (k m : Option ℕ) → orElse k m ≡ none → k ≡ none
 or-left none m e = refl
@@ -45,66 +47,71 @@ fault-drop (suc i) (r ∷ rs) (f ∷ fs) e = fault-drop i rs fs (or-right (fault
 
 -- Rules that add nothing
 
-abbrev pub noTables : List Rule → Bool
-noTables [] = true
-noTables (r ∷ rs) = not (addsTable r) && noTables rs
+abbrev pub noneOf : (Rule → Bool) → List Rule → Bool
+noneOf adds [] = true
+noneOf adds (r ∷ rs) = not (adds r) && noneOf adds rs
 
-abbrev pub noLevels : List Rule → Bool
-noLevels [] = true
-noLevels (r ∷ rs) = not (addsLevel r) && noLevels rs
+module _ {A : Type 0} (add : Field → List A) (adds : Rule → Bool) (none : (r : Rule) (f : List ℕ) → adds r ≡ false → add (fieldOf r f) ≡ []) where
+  adds-nil : (rs : List Rule) → lineAdds add rs [] ≡ []
+  adds-nil [] = refl
+  adds-nil (r ∷ rs) = refl
 
-tables-nil : (rs : List Rule) → lineTables rs [] ≡ []
-tables-nil [] = refl
-tables-nil (r ∷ rs) = refl
+  adds-skip : (rs qs : List Rule) (fs : List (List ℕ)) → noneOf adds rs ≡ true → lineAdds add (rs ++ qs) fs ≡ lineAdds add qs (drop (length rs) fs)
+  adds-skip [] qs fs e = refl
+  adds-skip (r ∷ rs) qs [] e = sym (adds-nil qs)
+  adds-skip (r ∷ rs) qs (f ∷ fs) e =
+      rw (none r f (not-true (adds r) (both-left (not (adds r)) (noneOf adds rs) e))) (adds-skip rs qs fs (both-right (not (adds r)) (noneOf adds rs) e))
 
-levels-nil : (rs : List Rule) → lineLevels rs [] ≡ []
-levels-nil [] = refl
-levels-nil (r ∷ rs) = refl
+  adds-none : (rs : List Rule) (fs : List (List ℕ)) → noneOf adds rs ≡ true → lineAdds add rs fs ≡ []
+  adds-none rs fs e = sym (ap (λ (x : List Rule). lineAdds add x fs) (append-nil rs)) ∙ adds-skip rs [] fs e
 
-pub tables-skip : (rs qs : List Rule) (fs : List (List ℕ)) → noTables rs ≡ true → lineTables (rs ++ qs) fs ≡ lineTables qs (drop (length rs) fs)
-tables-skip [] qs fs e = refl
-tables-skip (r ∷ rs) qs [] e = sym (tables-nil qs)
-tables-skip (r ∷ rs) qs (f ∷ fs) e =
-    rw (tables-none r f (not-true (addsTable r) (both-left (not (addsTable r)) (noTables rs) e))) (tables-skip rs qs fs (both-right (not (addsTable r)) (noTables rs) e))
+pub tables-skip : (rs qs : List Rule) (fs : List (List ℕ)) → noneOf addsTable rs ≡ true → lineAdds tablesIn (rs ++ qs) fs ≡ lineAdds tablesIn qs (drop (length rs) fs)
+tables-skip = adds-skip tablesIn addsTable tables-none
 
-pub levels-skip : (rs qs : List Rule) (fs : List (List ℕ)) → noLevels rs ≡ true → lineLevels (rs ++ qs) fs ≡ lineLevels qs (drop (length rs) fs)
-levels-skip [] qs fs e = refl
-levels-skip (r ∷ rs) qs [] e = sym (levels-nil qs)
-levels-skip (r ∷ rs) qs (f ∷ fs) e =
-    rw (levels-none r f (not-true (addsLevel r) (both-left (not (addsLevel r)) (noLevels rs) e))) (levels-skip rs qs fs (both-right (not (addsLevel r)) (noLevels rs) e))
+pub lows-skip : (rs qs : List Rule) (fs : List (List ℕ)) → noneOf addsLevel rs ≡ true → lineAdds lowsIn (rs ++ qs) fs ≡ lineAdds lowsIn qs (drop (length rs) fs)
+lows-skip = adds-skip lowsIn addsLevel (λ r f e. levels-none r f e .0)
 
-pub tables-without : (rs : List Rule) (fs : List (List ℕ)) → noTables rs ≡ true → lineTables rs fs ≡ []
-tables-without rs fs e = sym (ap (λ (x : List Rule). lineTables x fs) (append-nil rs)) ∙ tables-skip rs [] fs e
+pub highs-skip : (rs qs : List Rule) (fs : List (List ℕ)) → noneOf addsLevel rs ≡ true → lineAdds highsIn (rs ++ qs) fs ≡ lineAdds highsIn qs (drop (length rs) fs)
+highs-skip = adds-skip highsIn addsLevel (λ r f e. levels-none r f e .1)
 
-pub levels-without : (rs : List Rule) (fs : List (List ℕ)) → noLevels rs ≡ true → lineLevels rs fs ≡ []
-levels-without rs fs e = sym (ap (λ (x : List Rule). lineLevels x fs) (append-nil rs)) ∙ levels-skip rs [] fs e
+pub tables-without : (rs : List Rule) (fs : List (List ℕ)) → noneOf addsTable rs ≡ true → lineAdds tablesIn rs fs ≡ []
+tables-without = adds-none tablesIn addsTable tables-none
 
-pub channel-tables : (fs : List (List ℕ)) → lineTables channelRules fs ≡ lineTables (replicate 64 rule.Quantiser) (drop 5 fs)
-channel-tables fs = tables-skip (rule.Tag 67 ∷ ownSide ∷ ownSide ∷ factor ∷ factor ∷ []) (replicate 64 rule.Quantiser) fs refl
+pub lows-without : (rs : List Rule) (fs : List (List ℕ)) → noneOf addsLevel rs ≡ true → lineAdds lowsIn rs fs ≡ []
+lows-without = adds-none lowsIn addsLevel (λ r f e. levels-none r f e .0)
 
-pub block-levels : (fs : List (List ℕ)) → lineLevels blockRules fs ≡ lineLevels (replicate 64 rule.Level) (drop 1 fs)
-block-levels fs = levels-skip (rule.Tag 66 ∷ []) (replicate 64 rule.Level) fs refl
+pub highs-without : (rs : List Rule) (fs : List (List ℕ)) → noneOf addsLevel rs ≡ true → lineAdds highsIn rs fs ≡ []
+highs-without = adds-none highsIn addsLevel (λ r f e. levels-none r f e .1)
 
--- A run of quantisers, and of levels
+-- a line that adds nothing, and a channel's line
+pub holds-none : (H : Held) (g : ℕ) (rs : List Rule) (fs : List (List ℕ)) → kindOf g ≡ [] → noneOf addsLevel rs ≡ true → noneOf addsTable rs ≡ true → holding H g rs fs ≡ H
+holds-none H g rs fs k l t =
+    rw (lows-without rs fs l, highs-without rs fs l, tables-without rs fs t, k, append-nil (H .lent .lows), append-nil (H .lent .highs), append-nil (H .lent .tables), append-nil (H .ranged))
+
+abbrev pub withTable : Held → List ℕ → Held
+withTable H qs = held (lent (H .lent .lows) (H .lent .highs) (H .lent .tables ++ qs)) (H .ranged)
+
+pub holds-table : (H : Held) (fs : List (List ℕ)) → holding H 67 channelRules fs ≡ withTable H (lineAdds tablesIn (replicate 64 rule.Quantiser) (drop 5 fs))
+holds-table H fs =
+    rw (
+      lows-without channelRules fs refl,
+      highs-without channelRules fs refl,
+      tables-skip (rule.Tag 67 ∷ ownSide ∷ ownSide ∷ factor ∷ factor ∷ []) (replicate 64 rule.Quantiser) fs refl,
+      append-nil (H .lent .lows),
+      append-nil (H .lent .highs),
+      append-nil (H .ranged),
+    )
+
+-- A run of quantisers
 
 pub all-quantisers : (n : ℕ) (fs : List (List ℕ)) → length fs ≡ n → firstFault (replicate n rule.Quantiser) fs ≡ none
-    → LegalQuantisers (lineTables (replicate n rule.Quantiser) fs) × (length (lineTables (replicate n rule.Quantiser) fs) ≡ n)
+    → LegalQuantisers (lineAdds tablesIn (replicate n rule.Quantiser) fs) × (length (lineAdds tablesIn (replicate n rule.Quantiser) fs) ≡ n)
 all-quantisers zero [] h e = (tt, refl)
 all-quantisers zero (f ∷ fs) h e = let y : ⊥ = omega arith in absurd y
 all-quantisers (suc n) [] h e = let y : ⊥ = omega arith in absurd y
 all-quantisers (suc n) (f ∷ fs) h e =
     let g = quantiser-good f (or-left (faultIn (fieldOf rule.Quantiser f)) (firstFault (replicate n rule.Quantiser) fs) e) in
     let r = all-quantisers n fs (omega arith) (or-right (faultIn (fieldOf rule.Quantiser f)) (firstFault (replicate n rule.Quantiser) fs) e) in
-    rw (g .1) ((g .2, r .0), ap suc (r .1))
-
-pub all-levels : (n : ℕ) (fs : List (List ℕ)) → length fs ≡ n → firstFault (replicate n rule.Level) fs ≡ none
-    → LegalLevels (lineLevels (replicate n rule.Level) fs) × (length (lineLevels (replicate n rule.Level) fs) ≡ n)
-all-levels zero [] h e = (tt, refl)
-all-levels zero (f ∷ fs) h e = let y : ⊥ = omega arith in absurd y
-all-levels (suc n) [] h e = let y : ⊥ = omega arith in absurd y
-all-levels (suc n) (f ∷ fs) h e =
-    let g = level-good f (or-left (faultIn (fieldOf rule.Level f)) (firstFault (replicate n rule.Level) fs) e) in
-    let r = all-levels n fs (omega arith) (or-right (faultIn (fieldOf rule.Level f)) (firstFault (replicate n rule.Level) fs) e) in
     rw (g .1) ((g .2, r .0), ap suc (r .1))
 
 -- A line by its fields

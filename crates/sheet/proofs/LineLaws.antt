@@ -1,18 +1,33 @@
 -- The lines by the tests that the code makes.
-use Prim.Native.Nat.{ℕ, zero, suc, _+_, _-_, _<_, _≤_}
+use Prim.Native.Nat.{ℕ, zero, suc, _+_, _-_, _*_, _/_, _%_, _<_, _≤_}
 use mathlib.Core.Path.{_≡_, refl, sym, ap, _∙_}
 use mathlib.Core.List.{List, [], _∷_, _++_}
-use mathlib.Core.Bool.{Bool, true, false}
+use mathlib.Core.Bool.{Bool, true, false, cond}
+use mathlib.Core.Logic.{⊎-elim}
 use native.Mathlib.Omega.{arith}
-use lib.ListN.{length, getD, take, replicate, getD-replicate}
-use lib.Seq.{getD-append-add}
-use borrow.Author.Tests.{eq-eqb, ne-eqb}
+use lib.ListN.{length, getD, take, drop, replicate, getD-replicate}
+use lib.Seq.{getD-append-add, getD-drop}
+use lib.Dec.{eqb}
+use lib.IntN.{ℤ, pos}
+use lib.Signed.{mag}
+use mir.Syntax.{w16}
+use mir.Val.{toZ, ofZ}
+use mir.Facts.{toZ-ofZ}
+use borrow.Author.Tests.{eq-eqb, ne-eqb, eqb-true, eqb-false}
+use denote.Enum.Declared.{tagOf}
+use types.Run.{OneOf}
+use Rattle.text.proofs.field.Field.{the-type}
 use Rattle.contents.specs.declared.Weight.{Weight}
 use Rattle.text.specs.declared.field.Rule.{Rule}
 use Rattle.text.specs.declared.field.Rule.the-variants as rule
+use Rattle.text.specs.declared.field.Field.{Field}
+use Rattle.text.specs.declared.field.Field.the-variants as field
+use Rattle.text.specs.declared.level.LevelField.{LevelField}
+use Rattle.text.specs.declared.level.LevelField.the-variants as level-field
 use Rattle.text.specs.Numbers.{numberAt}
 use Rattle.text.specs.Weights.{weightAt}
-use Rattle.text.specs.Fields.{letter}
+use Rattle.text.specs.Levels.{levelOf, levelValue}
+use Rattle.text.specs.Fields.{letter, lowField, fieldOf}
 use Rattle.contents.specs.declared.Limits.{Limits}
 use Rattle.contents.specs.declared.Choice.{Choice}
 use Rattle.contents.specs.declared.Choice.the-variants as choice
@@ -20,7 +35,8 @@ use Rattle.contents.specs.declared.Header.{Header}
 use Rattle.contents.specs.declared.Channel.{Channel}
 use Rattle.sheet.specs.declared.line.Setting.the-variants as setting
 use Rattle.sheet.specs.declared.line.Record.the-variants as line
-use Rattle.sheet.specs.Lines.{count, mode, factor, ownSide, headerRules, choiceRules, roundingRules, startRules, choiceOf, channelRules, blockRules, rulesOf, fieldCount, headerOf, channelOf, recordOf}
+use Rattle.sheet.specs.Lines.{count, mode, factor, ownSide, headerRules, choiceRules, roundingRules, startRules, choiceOf, channelRules, blockRules, pairRules, rangeRules, rulesOf, fieldCount, headerOf, channelOf, recordOf}
+use Rattle.sheet.specs.Walk.{saidBefore, lowSaid, rangeRule}
 
 -- What a header line holds
 
@@ -72,9 +88,13 @@ module _ (t : ℕ) where
   unfolding fieldCount
   count-A e = rw e
 
-  pub count-E : (t ≡ 83 → ⊥) → (t ≡ 67 → ⊥) → (t ≡ 66 → ⊥) → (t ≡ 70 → ⊥) → (t ≡ 65 → ⊥) → 1 ≡ fieldCount t
+  pub count-G : t ≡ 71 → 129 ≡ fieldCount t
   unfolding fieldCount
-  count-E s c b f a = rw (ne-eqb t 66 b, ne-eqb t 67 c, ne-eqb t 83 s, ne-eqb t 70 f, ne-eqb t 65 a)
+  count-G e = rw e
+
+  pub count-E : (t ≡ 83 → ⊥) → (t ≡ 67 → ⊥) → (t ≡ 66 → ⊥) → (t ≡ 71 → ⊥) → (t ≡ 70 → ⊥) → (t ≡ 65 → ⊥) → 1 ≡ fieldCount t
+  unfolding fieldCount
+  count-E s c b g f a = rw (ne-eqb t 66 b, ne-eqb t 71 g, ne-eqb t 67 c, ne-eqb t 83 s, ne-eqb t 70 f, ne-eqb t 65 a)
 
   pub record-S : (fs : List (List ℕ)) (h : Header) → t ≡ 83 → h ≡ headerOf fs → line.Header h ≡ recordOf t fs
   unfolding recordOf
@@ -104,7 +124,7 @@ module _ (a : ℕ) (f : List ℕ) (b : Bool) (e : b ≡ letter a f) where
   pub choice-second : b ≡ false → choice.Second ≡ choiceOf a f
   choice-second p = rw (sym e ∙ p)
 
-pub ruleset tags = (count-S, count-C, count-B, count-F, count-A, count-E, record-S, record-C, record-F, record-A, record-B, choice-first, choice-second)
+pub ruleset tags = (count-S, count-C, count-B, count-G, count-F, count-A, count-E, record-S, record-C, record-F, record-A, record-B, choice-first, choice-second)
 
 -- Rules by place
 
@@ -193,6 +213,80 @@ module _ (i : ℕ) where
       sym (past (take 1 blockRules) (replicate 64 rule.Level) i (rule.Tag 0) (omega arith)
       ∙ getD-replicate 64 (i - 1) rule.Level (rule.Tag 0) (omega arith))
 
+-- by turns a low and a high, which knows the low before it
+module _ (d : Rule) where
+  pair-low : (n : ℕ) (fs : List (List ℕ)) (j : ℕ) → j < n → getD (pairRules n fs) (2 * j) d ≡ rule.Low
+  pair-low zero fs j h = let z : ⊥ = omega arith in absurd z
+  pair-low (suc n) fs zero h = refl
+  pair-low (suc n) fs (suc j) h = let e : 2 * suc j ≡ suc (suc (2 * j)) = omega arith in rw e (pair-low n (drop 2 fs) j (omega arith))
+
+  pair-high : (n : ℕ) (fs : List (List ℕ)) (j : ℕ) → j < n → getD (pairRules n fs) (suc (2 * j)) d ≡ rule.High (levelValue (levelOf (getD fs (2 * j) [])))
+  pair-high zero fs j h = let z : ⊥ = omega arith in absurd z
+  pair-high (suc n) fs zero h = refl
+  pair-high (suc n) fs (suc j) h =
+      let e : 2 * suc j ≡ suc (suc (2 * j)) = omega arith in
+      let q : 2 + 2 * j ≡ suc (suc (2 * j)) = omega arith in
+      rw e (pair-high n (drop 2 fs) j (omega arith) ∙ ap (λ (f : List ℕ). rule.High (levelValue (levelOf f))) (getD-drop 2 fs (2 * j) [] ∙ ap (λ (k : ℕ). getD fs k []) q))
+
+low-value : (r : LevelField) → lowSaid (lowField r) ≡ levelValue r
+low-value (level-field.Is z) = refl
+low-value (level-field.Bad k) = refl
+
+low-said : (f : List ℕ) → lowSaid (fieldOf rule.Low f) ≡ levelValue (levelOf f)
+unfolding fieldOf
+low-said f = low-value (levelOf f)
+
+-- the rule of field i of a line G is the one by the field before
+range-at : (fs : List (List ℕ)) (i : ℕ) (last : Field) → i < 129 → last ≡ saidBefore (rangeRules fs) fs i → rangeRule i last ≡ getD (rangeRules fs) i (rule.Tag 0)
+range-at fs zero last h e = refl
+range-at fs (suc k) last h e = rw (ne-eqb (suc k) 0 (λ q. omega arith)) (turn (eqb (suc k % 2) 1) refl)
+  where
+    -- a low
+    even : (j : ℕ) → k ≡ 2 * j → rule.Low ≡ getD (rangeRules fs) (suc k) (rule.Tag 0)
+    even j q = sym (ap (λ (n : ℕ). getD (rangeRules fs) (suc n) (rule.Tag 0)) q ∙ pair-low (rule.Tag 0) 64 (drop 1 fs) j (omega arith))
+
+    -- a high: the field before is its low
+    odd : (j : ℕ) → k ≡ suc (2 * j) → rule.High (lowSaid last) ≡ getD (rangeRules fs) (suc k) (rule.Tag 0)
+    odd j q =
+        let n : j < 64 = omega arith in
+        let f = getD fs (suc (2 * j)) [] in
+        let low : getD (rangeRules fs) (suc (2 * j)) (rule.Tag 0) ≡ rule.Low = pair-low (rule.Tag 0) 64 (drop 1 fs) j n in
+        let said : last ≡ fieldOf rule.Low f = e ∙ ap (λ (n : ℕ). fieldOf (getD (rangeRules fs) n (rule.Tag 0)) (getD fs n [])) q ∙ ap (λ (r : Rule). fieldOf r f) low in
+        let one : 1 + 2 * j ≡ suc (2 * j) = omega arith in
+        let same : getD (drop 1 fs) (2 * j) [] ≡ f = getD-drop 1 fs (2 * j) [] ∙ ap (λ (n : ℕ). getD fs n []) one in
+        ap (λ (x : Field). rule.High (lowSaid x)) said ∙ ap rule.High (low-said f)
+        ∙ sym (ap (λ (n : ℕ). getD (rangeRules fs) (suc n) (rule.Tag 0)) q ∙ pair-high (rule.Tag 0) 64 (drop 1 fs) j n ∙ ap (λ (f : List ℕ). rule.High (levelValue (levelOf f))) same)
+
+    turn : (b : Bool) → eqb (suc k % 2) 1 ≡ b → cond b rule.Low (rule.High (lowSaid last)) ≡ getD (rangeRules fs) (suc k) (rule.Tag 0)
+    turn true q = even (k / 2) (omega (arith, eqb-true (suc k % 2) 1 q))
+    turn false q = odd (k / 2) (omega (arith, eqb-false (suc k % 2) 1 q))
+
+-- by the tests that the code makes
+module _ (i : ℕ) (last : Field) where
+  pub range-tag : i ≡ 0 → rule.Tag 71 ≡ rangeRule i last
+  range-tag e = rw e
+
+  module _ (h : i ≡ 0 → ⊥) where
+    pub range-low : i % 2 ≡ 1 → rule.Low ≡ rangeRule i last
+    range-low e = rw (ne-eqb i 0 h, eq-eqb (i % 2) 1 e)
+
+    module _ (k : i % 2 ≡ 1 → ⊥) where
+      -- an i16 is handed on by its bits
+      pub range-high : (z : ℤ) → last ≡ field.Low z → mag z < 32768 → rule.High (toZ w16 (ofZ w16 z)) ≡ rangeRule i last
+      range-high z e m = rw (ne-eqb i 0 h, ne-eqb (i % 2) 1 k, e, toZ-ofZ {w = w16} {z = z} (record { sfits = m }))
+
+      pub range-none : OneOf (0 ∷ 1 ∷ 2 ∷ 4 ∷ 5 ∷ []) (tagOf the-type last) → rule.High (pos 0) ≡ rangeRule i last
+      range-none o = rw (ne-eqb i 0 h, ne-eqb (i % 2) 1 k, other last o)
+        where
+          other : (x : Field) → OneOf (0 ∷ 1 ∷ 2 ∷ 4 ∷ 5 ∷ []) (tagOf the-type x) → lowSaid x ≡ pos 0
+          other (field.Bad k) o = refl
+          other (field.Quantiser q) o = refl
+          other (field.Level z) o = refl
+          other (field.Low z) o =
+              let y : ⊥ = ⊎-elim (λ e. omega arith) (⊎-elim (λ e. omega arith) (⊎-elim (λ e. omega arith) (⊎-elim (λ e. omega arith) (λ e. omega arith)))) o in absurd y
+          other (field.High z) o = refl
+          other field.Good o = refl
+
 module _ (i t a b : ℕ) where
   pub choice-tag : i ≡ 0 → rule.Tag t ≡ getD (choiceRules t a b) i (rule.Tag 0)
   choice-tag e = rw e
@@ -200,7 +294,7 @@ module _ (i t a b : ℕ) where
   pub choice-letter : (i ≡ 0 → ⊥) → i < 2 → rule.Letters a b ≡ getD (choiceRules t a b) i (rule.Tag 0)
   choice-letter h k = let e : i ≡ 1 = omega arith in rw e
 
-pub ruleset rules = (choice-tag, choice-letter, header-tag, header-side, header-wide, header-high, header-channels, header-mode, header-count, header-weight, channel-tag, channel-side, channel-factor, channel-quantiser, block-tag, block-level)
+pub ruleset rules = (choice-tag, choice-letter, range-tag, range-low, range-high, range-none, header-tag, header-side, header-wide, header-high, header-channels, header-mode, header-count, header-weight, channel-tag, channel-side, channel-factor, channel-quantiser, block-tag, block-level)
 
 -- The rule of a tag's field
 
@@ -209,27 +303,31 @@ module _ (t : ℕ) (limits : Limits) (top : Header) (i : ℕ) (fs : List (List �
   unfolding rulesOf
   rule-B e q = rw (eq-eqb t 66 e) q
 
+  pub rule-G : (t ≡ 66 → ⊥) → t ≡ 71 → i < fieldCount t → (last : Field) → last ≡ saidBefore (rulesOf t limits top fs) fs i → r ≡ rangeRule i last → r ≡ getD (rulesOf t limits top fs) i (rule.Tag 0)
+  unfolding rulesOf
+  rule-G b e h last l q = rw e (q ∙ range-at fs i last (omega (arith, count-G t e)) (rw e at l))
+
   pub rule-C : (t ≡ 66 → ⊥) → t ≡ 67 → r ≡ getD channelRules i (rule.Tag 0) → r ≡ getD (rulesOf t limits top fs) i (rule.Tag 0)
   unfolding rulesOf
-  rule-C b e q = rw (ne-eqb t 66 b, eq-eqb t 67 e) q
+  rule-C b e q = rw e q
 
   pub rule-S : (t ≡ 66 → ⊥) → (t ≡ 67 → ⊥) → t ≡ 83 → r ≡ getD (headerRules limits fs) i (rule.Tag 0) → r ≡ getD (rulesOf t limits top fs) i (rule.Tag 0)
   unfolding rulesOf
-  rule-S b c e q = rw (ne-eqb t 66 b, ne-eqb t 67 c, eq-eqb t 83 e) q
+  rule-S b c e q = rw e q
 
   pub rule-F : (t ≡ 66 → ⊥) → (t ≡ 67 → ⊥) → (t ≡ 83 → ⊥) → t ≡ 70 → r ≡ getD roundingRules i (rule.Tag 0) → r ≡ getD (rulesOf t limits top fs) i (rule.Tag 0)
   unfolding rulesOf
-  rule-F b c s e q = rw (ne-eqb t 66 b, ne-eqb t 67 c, ne-eqb t 83 s, eq-eqb t 70 e) q
+  rule-F b c s e q = rw e q
 
   pub rule-A : (t ≡ 66 → ⊥) → (t ≡ 67 → ⊥) → (t ≡ 83 → ⊥) → (t ≡ 70 → ⊥) → t ≡ 65 → r ≡ getD startRules i (rule.Tag 0) → r ≡ getD (rulesOf t limits top fs) i (rule.Tag 0)
   unfolding rulesOf
-  rule-A b c s f e q = rw (ne-eqb t 66 b, ne-eqb t 67 c, ne-eqb t 83 s, ne-eqb t 70 f, eq-eqb t 65 e) q
+  rule-A b c s f e q = rw e q
 
-pub rule-E : (t : ℕ) (limits : Limits) (top : Header) (i : ℕ) (fs : List (List ℕ)) → (t ≡ 66 → ⊥) → (t ≡ 67 → ⊥) → (t ≡ 83 → ⊥) → (t ≡ 70 → ⊥) → (t ≡ 65 → ⊥) → i < fieldCount t → rule.Tag 69 ≡ getD (rulesOf t limits top fs) i (rule.Tag 0)
+pub rule-E : (t : ℕ) (limits : Limits) (top : Header) (i : ℕ) (fs : List (List ℕ)) → (t ≡ 66 → ⊥) → (t ≡ 71 → ⊥) → (t ≡ 67 → ⊥) → (t ≡ 83 → ⊥) → (t ≡ 70 → ⊥) → (t ≡ 65 → ⊥) → i < fieldCount t → rule.Tag 69 ≡ getD (rulesOf t limits top fs) i (rule.Tag 0)
 unfolding rulesOf fieldCount
-rule-E t limits top i fs b c s f a h =
-    let z : i ≡ 0 = omega (arith, simp (ne-eqb t 83 s, ne-eqb t 67 c, ne-eqb t 66 b, ne-eqb t 70 f, ne-eqb t 65 a) at h) in
-    rw (ne-eqb t 66 b, ne-eqb t 67 c, ne-eqb t 83 s, ne-eqb t 70 f, ne-eqb t 65 a, z)
+rule-E t limits top i fs b g c s f a h =
+    let z : i ≡ 0 = omega (arith, simp (ne-eqb t 83 s, ne-eqb t 67 c, ne-eqb t 66 b, ne-eqb t 71 g, ne-eqb t 70 f, ne-eqb t 65 a) at h) in
+    rw (ne-eqb t 66 b, ne-eqb t 71 g, ne-eqb t 67 c, ne-eqb t 83 s, ne-eqb t 70 f, ne-eqb t 65 a, z)
 
 module _ (t i : ℕ) (h : i < fieldCount t) where
   pub below-S : t ≡ 83 → i < 16
@@ -247,4 +345,4 @@ module _ (t i : ℕ) (h : i < fieldCount t) where
   pub below-A : t ≡ 65 → i < 2
   below-A e = omega (arith, count-A t e)
 
-pub ruleset places = (rule-S, rule-C, rule-B, rule-F, rule-A, rule-E, below-S, below-C, below-B, below-F, below-A)
+pub ruleset places = (rule-S, rule-C, rule-B, rule-G, rule-F, rule-A, rule-E, below-S, below-C, below-B, below-F, below-A)

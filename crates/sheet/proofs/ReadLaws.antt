@@ -5,119 +5,122 @@ use mathlib.Core.List.{List, append-nil}
 use native.Mathlib.Omega.{arith}
 use lib.ListN.{length, drop-of-length-le}
 use lib.Seq.{sets, sets-eq}
-use lib.Dec.{eqb}
 use lib.IntN.{ℤ}
 use borrow.Author.Tests.{eq-eqb, ne-eqb}
-use mathlib.Core.Bool.{true, false}
 use Rattle.contents.specs.declared.Limits.{Limits}
 use Rattle.contents.specs.declared.Sheet.{Sheet}
-use Rattle.sheet.specs.declared.Measured.{Measured}
 use Rattle.sheet.specs.declared.Measured.the-variants as measured
 use Rattle.sheet.specs.declared.Answer.{Answer}
 use Rattle.sheet.specs.declared.Answer.the-variants as answer
 use Rattle.sheet.specs.declared.walk.Walked.{Walked}
 use Rattle.sheet.specs.declared.walk.Walked.the-variants as walked
-use Rattle.contents.specs.Sheets.{Held, held}
+use Rattle.contents.specs.Sheets.{Lent, lent}
 use Rattle.sheet.specs.Reading.{Outcome, Contents, readText}
 use Rattle.sheet.specs.Reading.Outcome.{Gives, Refused}
-use Rattle.sheet.specs.Calls.{Lengths, measuredSays, answerSays, lengthsOf, measuring, fitted, reading, sheetIn, heldAfter, Reads}
+use Rattle.sheet.specs.Calls.{measuredSays, answerSays, lengthsOf, fitted, reading, sheetIn, lentAfter, Reads}
 use Rattle.sheet.specs.Walk.{walkedOf, Stores, Walks}
 
-pub measured-sheet : (T : Outcome Contents) (w : Walked) (s : Sheet) (n m : ℕ) → w ≡ walkedOf T → w ≡ walked.Sheet s n m → measuredSays (measured.Lengths n m) ≡ lengthsOf T
-measured-sheet (Gives c) w s n m e p = cc
-measured-sheet (Refused k at) w s n m e p = cc
+pub measured-sheet : (T : Outcome Contents) (w : Walked) (s : Sheet) (n h m : ℕ) → w ≡ walkedOf T → w ≡ walked.Sheet s n h m → measuredSays (measured.Lengths n m) ≡ lengthsOf T
+measured-sheet (Gives c) w s n h m e p = cc
+measured-sheet (Refused k at) w s n h m e p = cc
 
 pub measured-refused : (T : Outcome Contents) (w : Walked) (k at : ℕ) → w ≡ walkedOf T → w ≡ walked.Refused k at → measuredSays (measured.Refused k at) ≡ lengthsOf T
 measured-refused (Gives c) w k at e p = cc
 measured-refused (Refused j b) w k at e p = cc
 
-pub ruleset measures = (measured-sheet, measured-refused)
+pub counted : (limits : Limits) (text : List ℕ) (into after : Lent) (r : Walked) → Walks limits text into after r → r ≡ walkedOf (readText limits text)
+counted limits text into after r w = w .answer
 
-given : (a b : Lengths) → Gives a ≡ Gives b → a ≡ b
-given a b e = cc
+pub ruleset measures = (measured-sheet, measured-refused, counted)
 
 all-set : {A : Type 0} (l vs : List A) → length vs ≡ length l → sets l 0 vs ≡ vs
 all-set l vs e = sets-eq vs l 0 (omega arith) ∙ rw (drop-of-length-le l {i = 0 + length vs} (omega arith)) (append-nil vs)
 
 -- Reading by the outcome O of the definition
-abbrev Read : Outcome Contents → Held → Held → Answer → Type 0
-Read O lent after r = (answerSays r ≡ sheetIn O) × (after ≡ heldAfter O lent)
+abbrev Read : Outcome Contents → Lent → Lent → Answer → Type 0
+Read O into after r = (answerSays r ≡ sheetIn O) × (after ≡ lentAfter O into)
 
-module _ (T : Outcome Contents) (lent : Held) (d : Measured) (e : measuredSays d ≡ lengthsOf T) where
-  by-refused : (k at : ℕ) → d ≡ measured.Refused k at → Read (fitted lent T) lent lent (answer.Refused k at)
-  by-refused k at p = by T (sym (ap measuredSays p) ∙ e)
-    where
-      by : (T : Outcome Contents) → measuredSays (measured.Refused k at) ≡ lengthsOf T → Read (fitted lent T) lent lent (answer.Refused k at)
-      by (Gives c) q = let z : _≡_ {A = ℕ} 0 1 = cc in let y : ⊥ = omega arith in absurd y
-      by (Refused j b) q = (cc, refl)
+-- a text with these counts, or a refusal
+module _ (into : Lent) where
+  by-refused : (T : Outcome Contents) (k at : ℕ) → walkedOf T ≡ walked.Refused k at → Read (fitted into T) into into (answer.Refused k at)
+  by-refused (Gives c) k at q = let z : _≡_ {A = ℕ} 0 1 = cc in let y : ⊥ = omega arith in absurd y
+  by-refused (Refused j b) k at q = (cc, refl)
 
-  module _ (n m : ℕ) (p : d ≡ measured.Lengths n m) where
-    by-levels : (n ≡ length (lent .levels) → ⊥) → Read (fitted lent T) lent lent (answer.Refused 8 0)
-    by-levels h = by T (sym (ap measuredSays p) ∙ e)
-      where
-        by : (T : Outcome Contents) → measuredSays (measured.Lengths n m) ≡ lengthsOf T → Read (fitted lent T) lent lent (answer.Refused 8 0)
-        by (Refused j b) q = let z : _≡_ {A = ℕ} 0 1 = cc in let y : ⊥ = omega arith in absurd y
-        by (Gives c) q =
-            let f : length (c .held .levels) ≡ n = sym (ap (λ (x : Lengths). x .levels) (given _ _ q)) in
-            let x : eqb (length (c .held .levels)) (length (lent .levels)) ≡ false = ne-eqb (length (c .held .levels)) (length (lent .levels)) (λ o. h (sym f ∙ o)) in
-            rw x (refl, refl)
+  module _ (s : Sheet) (n h m : ℕ) where
+    record Counts (c : Contents) : Type 0 where
+      sheet : c .sheet ≡ s
+      lows : length (c .held .lent .lows) ≡ n
+      highs : length (c .held .lent .highs) ≡ h
+      tables : length (c .held .lent .tables) ≡ m
 
-    by-tables : n ≡ length (lent .levels) → (m ≡ length (lent .tables) → ⊥) → Read (fitted lent T) lent lent (answer.Refused 8 0)
-    by-tables g h = by T (sym (ap measuredSays p) ∙ e)
-      where
-        by : (T : Outcome Contents) → measuredSays (measured.Lengths n m) ≡ lengthsOf T → Read (fitted lent T) lent lent (answer.Refused 8 0)
-        by (Refused j b) q = let z : _≡_ {A = ℕ} 0 1 = cc in let y : ⊥ = omega arith in absurd y
-        by (Gives c) q =
-            let f : length (c .held .levels) ≡ n = sym (ap (λ (x : Lengths). x .levels) (given _ _ q)) in
-            let k : length (c .held .tables) ≡ m = sym (ap (λ (x : Lengths). x .tables) (given _ _ q)) in
-            let w : eqb (length (c .held .levels)) (length (lent .levels)) ≡ true = eq-eqb (length (c .held .levels)) (length (lent .levels)) (f ∙ g) in
-            let x : eqb (length (c .held .tables)) (length (lent .tables)) ≡ false = ne-eqb (length (c .held .tables)) (length (lent .tables)) (λ o. h (sym k ∙ o)) in
-            rw (w, x) (refl, refl)
+    counts : (c : Contents) → walkedOf (Gives c) ≡ walked.Sheet s n h m → Counts c
+    counts c q = record { sheet = cc; lows = cc; highs = cc; tables = cc }
 
-    module _ (g : n ≡ length (lent .levels)) (h : m ≡ length (lent .tables)) (after : Held) (v : Walked) (o : v ≡ walkedOf T) (x : Stores T lent after) where
-      by-sheet : (s : Sheet) (i j : ℕ) → v ≡ walked.Sheet s i j → Read (fitted lent T) lent after (answer.Sheet s)
-      by-sheet s i j y = by T (sym (ap measuredSays p) ∙ e) (sym o ∙ y) x
-        where
-          by : (T : Outcome Contents) → measuredSays (measured.Lengths n m) ≡ lengthsOf T → walkedOf T ≡ walked.Sheet s i j → Stores T lent after
-              → Read (fitted lent T) lent after (answer.Sheet s)
-          by (Refused a b) q r z = let z : _≡_ {A = ℕ} 0 1 = cc in let y : ⊥ = omega arith in absurd y
-          by (Gives c) q r z =
-              let f : length (c .held .levels) ≡ n = sym (ap (λ (x : Lengths). x .levels) (given _ _ q)) in
-              let k : length (c .held .tables) ≡ m = sym (ap (λ (x : Lengths). x .tables) (given _ _ q)) in
-              let u : s ≡ c .sheet = cc in
-              let w : eqb (length (c .held .levels)) (length (lent .levels)) ≡ true = eq-eqb (length (c .held .levels)) (length (lent .levels)) (f ∙ g) in
-              let b : eqb (length (c .held .tables)) (length (lent .tables)) ≡ true = eq-eqb (length (c .held .tables)) (length (lent .tables)) (k ∙ h) in
-              let l : after .levels ≡ c .held .levels = z .0 ∙ all-set (lent .levels) (c .held .levels) (f ∙ g) in
-              let t : after .tables ≡ c .held .tables = z .1 ∙ all-set (lent .tables) (c .held .tables) (k ∙ h) in
-              rw (w, b) (ap Gives u, λ i. held (l i) (t i))
+    by-lows : (n ≡ length (into .lows) → ⊥) → (T : Outcome Contents) → walkedOf T ≡ walked.Sheet s n h m → Read (fitted into T) into into (answer.Refused 8 0)
+    by-lows x (Refused j b) q = let z : _≡_ {A = ℕ} 0 1 = cc in let y : ⊥ = omega arith in absurd y
+    by-lows x (Gives c) q = rw (ne-eqb (length (c .held .lent .lows)) (length (into .lows)) (λ o. x (sym (counts c q .lows) ∙ o))) (refl, refl)
 
-      by-never : (k at : ℕ) → v ≡ walked.Refused k at → Read (fitted lent T) lent after (answer.Refused k at)
-      by-never k at y = by T (sym (ap measuredSays p) ∙ e) (sym o ∙ y)
-        where
-          by : (T : Outcome Contents) → measuredSays (measured.Lengths n m) ≡ lengthsOf T → walkedOf T ≡ walked.Refused k at
-              → Read (fitted lent T) lent after (answer.Refused k at)
-          by (Refused a b) q r = let z : _≡_ {A = ℕ} 0 1 = cc in let y : ⊥ = omega arith in absurd y
-          by (Gives c) q r = let z : _≡_ {A = ℕ} 0 1 = cc in let y : ⊥ = omega arith in absurd y
+    by-highs : n ≡ length (into .lows) → (h ≡ length (into .highs) → ⊥) → (T : Outcome Contents) → walkedOf T ≡ walked.Sheet s n h m → Read (fitted into T) into into (answer.Refused 8 0)
+    by-highs g x (Refused j b) q = let z : _≡_ {A = ℕ} 0 1 = cc in let y : ⊥ = omega arith in absurd y
+    by-highs g x (Gives c) q =
+        let f = counts c q in
+        rw (eq-eqb (length (c .held .lent .lows)) (length (into .lows)) (f .lows ∙ g), ne-eqb (length (c .held .lent .highs)) (length (into .highs)) (λ o. x (sym (f .highs) ∙ o))) (refl, refl)
 
-reads : (limits : Limits) (text : List ℕ) (lent after : Held) (r : Answer) → Read (reading limits text lent) lent after r → Reads limits text lent after r
-reads limits text lent after r w = record { answer = w .0; held = w .1 }
+    by-tables : n ≡ length (into .lows) → h ≡ length (into .highs) → (m ≡ length (into .tables) → ⊥) → (T : Outcome Contents) → walkedOf T ≡ walked.Sheet s n h m
+        → Read (fitted into T) into into (answer.Refused 8 0)
+    by-tables g w x (Refused j b) q = let z : _≡_ {A = ℕ} 0 1 = cc in let y : ⊥ = omega arith in absurd y
+    by-tables g w x (Gives c) q =
+        let f = counts c q in
+        rw (
+          eq-eqb (length (c .held .lent .lows)) (length (into .lows)) (f .lows ∙ g),
+          eq-eqb (length (c .held .lent .highs)) (length (into .highs)) (f .highs ∙ w),
+          ne-eqb (length (c .held .lent .tables)) (length (into .tables)) (λ o. x (sym (f .tables) ∙ o)),
+        )
+        (refl, refl)
 
-module _ (limits : Limits) (text : List ℕ) (l₀ : List ℤ) (t₀ : List ℕ) (d : Measured) (e : measuredSays d ≡ measuring limits text) where
-  pub read-refused : (k at : ℕ) → d ≡ measured.Refused k at → Reads limits text (held l₀ t₀) (held l₀ t₀) (answer.Refused k at)
-  read-refused k at p = reads _ _ _ _ _ (by-refused (readText limits text) (held l₀ t₀) d e k at p)
+    module _ (g : n ≡ length (into .lows)) (w : h ≡ length (into .highs)) (x : m ≡ length (into .tables)) (after : Lent) where
+      by-sheet : (t : Sheet) (i j k : ℕ) (T : Outcome Contents) → walkedOf T ≡ walked.Sheet s n h m → walkedOf T ≡ walked.Sheet t i j k → Stores T into after
+          → Read (fitted into T) into after (answer.Sheet t)
+      by-sheet t i j k (Refused a b) q r z = let z : _≡_ {A = ℕ} 0 1 = cc in let y : ⊥ = omega arith in absurd y
+      by-sheet t i j k (Gives c) q r z =
+          let b = c .held .lent in
+          let f = counts c q in
+          let lows : length (b .lows) ≡ length (into .lows) = f .lows ∙ g in
+          let highs : length (b .highs) ≡ length (into .highs) = f .highs ∙ w in
+          let tables : length (b .tables) ≡ length (into .tables) = f .tables ∙ x in
+          let u : t ≡ c .sheet = cc in
+          let l : after .lows ≡ b .lows = z .0 ∙ all-set (into .lows) (b .lows) lows in
+          let k : after .highs ≡ b .highs = z .1 ∙ all-set (into .highs) (b .highs) highs in
+          let v : after .tables ≡ b .tables = z .2 ∙ all-set (into .tables) (b .tables) tables in
+          rw (eq-eqb (length (b .lows)) (length (into .lows)) lows, eq-eqb (length (b .highs)) (length (into .highs)) highs, eq-eqb (length (b .tables)) (length (into .tables)) tables)
+          (ap Gives u, λ i. lent (l i) (k i) (v i))
 
-  module _ (n m : ℕ) (p : d ≡ measured.Lengths n m) where
-    pub read-levels : (n ≡ length l₀ → ⊥) → Reads limits text (held l₀ t₀) (held l₀ t₀) (answer.Refused 8 0)
-    read-levels h = reads _ _ _ _ _ (by-levels (readText limits text) (held l₀ t₀) d e n m p h)
+      by-never : (k at : ℕ) (T : Outcome Contents) → walkedOf T ≡ walked.Sheet s n h m → walkedOf T ≡ walked.Refused k at → Read (fitted into T) into after (answer.Refused k at)
+      by-never k at (Refused a b) q r = let z : _≡_ {A = ℕ} 0 1 = cc in let y : ⊥ = omega arith in absurd y
+      by-never k at (Gives c) q r = let z : _≡_ {A = ℕ} 0 1 = cc in let y : ⊥ = omega arith in absurd y
 
-    pub read-tables : n ≡ length l₀ → (m ≡ length t₀ → ⊥) → Reads limits text (held l₀ t₀) (held l₀ t₀) (answer.Refused 8 0)
-    read-tables g h = reads _ _ _ _ _ (by-tables (readText limits text) (held l₀ t₀) d e n m p g h)
+reads : (limits : Limits) (text : List ℕ) (into after : Lent) (r : Answer) → Read (reading limits text into) into after r → Reads limits text into after r
+reads limits text into after r w = record { answer = w .0; lent = w .1 }
 
-    module _ (g : n ≡ length l₀) (h : m ≡ length t₀) (l : List ℤ) (t : List ℕ) (v : Walked) (w : Walks limits text (held l₀ t₀) (held l t) v) where
-      pub read-sheet : (s : Sheet) (i j : ℕ) → v ≡ walked.Sheet s i j → Reads limits text (held l₀ t₀) (held l t) (answer.Sheet s)
-      read-sheet s i j y = reads _ _ _ _ _ (by-sheet (readText limits text) (held l₀ t₀) d e n m p g h (held l t) v (w .answer) (w .stored) s i j y)
+module _ (limits : Limits) (text : List ℕ) (l₀ h₀ : List ℤ) (t₀ : List ℕ) (d : Walked) (e : d ≡ walkedOf (readText limits text)) where
+  pub read-refused : (k at : ℕ) → d ≡ walked.Refused k at → Reads limits text (lent l₀ h₀ t₀) (lent l₀ h₀ t₀) (answer.Refused k at)
+  read-refused k at p = reads _ _ _ _ _ (by-refused (lent l₀ h₀ t₀) (readText limits text) k at (sym e ∙ p))
 
-      pub read-never : (k at : ℕ) → v ≡ walked.Refused k at → Reads limits text (held l₀ t₀) (held l t) (answer.Refused k at)
-      read-never k at y = reads _ _ _ _ _ (by-never (readText limits text) (held l₀ t₀) d e n m p g h (held l t) v (w .answer) (w .stored) k at y)
+  module _ (s : Sheet) (n h m : ℕ) (p : d ≡ walked.Sheet s n h m) where
+    pub read-lows : (n ≡ length l₀ → ⊥) → Reads limits text (lent l₀ h₀ t₀) (lent l₀ h₀ t₀) (answer.Refused 8 0)
+    read-lows x = reads _ _ _ _ _ (by-lows (lent l₀ h₀ t₀) s n h m x (readText limits text) (sym e ∙ p))
 
-pub ruleset answers = (read-refused, read-levels, read-tables, read-sheet, read-never)
+    pub read-highs : n ≡ length l₀ → (h ≡ length h₀ → ⊥) → Reads limits text (lent l₀ h₀ t₀) (lent l₀ h₀ t₀) (answer.Refused 8 0)
+    read-highs g x = reads _ _ _ _ _ (by-highs (lent l₀ h₀ t₀) s n h m g x (readText limits text) (sym e ∙ p))
+
+    pub read-tables : n ≡ length l₀ → h ≡ length h₀ → (m ≡ length t₀ → ⊥) → Reads limits text (lent l₀ h₀ t₀) (lent l₀ h₀ t₀) (answer.Refused 8 0)
+    read-tables g w x = reads _ _ _ _ _ (by-tables (lent l₀ h₀ t₀) s n h m g w x (readText limits text) (sym e ∙ p))
+
+    module _ (g : n ≡ length l₀) (w : h ≡ length h₀) (x : m ≡ length t₀) (l y : List ℤ) (t : List ℕ) (v : Walked) (z : Walks limits text (lent l₀ h₀ t₀) (lent l y t) v) where
+      pub read-sheet : (u : Sheet) (i j k : ℕ) → v ≡ walked.Sheet u i j k → Reads limits text (lent l₀ h₀ t₀) (lent l y t) (answer.Sheet u)
+      read-sheet u i j k q = reads _ _ _ _ _ (by-sheet (lent l₀ h₀ t₀) s n h m g w x (lent l y t) u i j k (readText limits text) (sym e ∙ p) (sym (z .answer) ∙ q) (z .stored))
+
+      pub read-never : (k at : ℕ) → v ≡ walked.Refused k at → Reads limits text (lent l₀ h₀ t₀) (lent l y t) (answer.Refused k at)
+      read-never k at q = reads _ _ _ _ _ (by-never (lent l₀ h₀ t₀) s n h m g w x (lent l y t) k at (readText limits text) (sym e ∙ p) (sym (z .answer) ∙ q))
+
+pub ruleset answers = (read-refused, read-lows, read-highs, read-tables, read-sheet, read-never)

@@ -11,7 +11,7 @@ use mir.Val.{Fits}
 use lib.Dec.{eqb, ltb, lit<}
 use borrow.Author.Tests.{eq-eqb, ne-eqb, le-leb, lt-leb, lt-ltb, le-ltb, ltb-true, ltb-false}
 use Rattle.text.specs.Fields.{letter}
-use Rattle.digits.proofs.Both.{both-right}
+use Rattle.digits.proofs.Both.{both-left, both-right}
 use Rattle.contents.specs.declared.Choice.{Choice}
 use Rattle.contents.specs.declared.Choice.the-variants as choice
 use Rattle.contents.specs.declared.Header.{Header}
@@ -28,7 +28,7 @@ use Rattle.sheet.specs.declared.state.Taken.the-variants as taken
 use Rattle.sheet.specs.Lines.{choiceOf, headerOf, channelOf, recordOf}
 use Rattle.contents.specs.Sheets.{noHeader, noSettings, noChannel}
 use Rattle.sheet.specs.Walk.{Due}
-use Rattle.sheet.specs.Reading.{headed, blank, dueTag, unsaid, lastSaid, mayStand, isSetting, lineTag, withSetting, settled, placed, takenOf}
+use Rattle.sheet.specs.Reading.{headed, blank, dueTag, unsaid, lastSaid, mayStand, isSetting, isRange, lineTag, withSetting, settled, placed, takenOf}
 
 -- Nothing, and a header
 
@@ -83,19 +83,32 @@ module _ (s : State) where
       unfolding lineTag
       tag-A o = rw (sym e ∙ p, sym q ∙ o)
 
-      pub tag-due : a ≡ false → (t : ℕ) → t ≡ dueTag s → t ≡ lineTag s fs
-      unfolding lineTag
-      tag-due o t d = rw (sym e ∙ p, sym q ∙ o) d
+      module _ (o : a ≡ false) (g : Bool) (r : g ≡ isRange s fs) where
+        pub tag-G : g ≡ true → 71 ≡ lineTag s fs
+        unfolding lineTag
+        tag-G w = rw (sym e ∙ p, sym q ∙ o, sym r ∙ w)
+
+        pub tag-due : g ≡ false → (t : ℕ) → t ≡ dueTag s → t ≡ lineTag s fs
+        unfolding lineTag
+        tag-due w t d = rw (sym e ∙ p, sym q ∙ o, sym r ∙ w) d
+
+  module _ (fs : List (List ℕ)) (l : Bool) (e : l ≡ letter 71 (getD fs 0 [])) where
+    pub range-other : l ≡ false → false ≡ isRange s fs
+    range-other p = rw (sym e ∙ p)
+
+    pub range-unbegun : l ≡ true → s .begun ≡ false → false ≡ isRange s fs
+    range-unbegun p b = rw (sym e ∙ p, b)
+
+    pub range-if : l ≡ true → s .begun ≡ true → ltb 0 (s .left) ≡ isRange s fs
+    range-if p b = rw (sym e ∙ p, b)
 
 pub first-tag : (fs : List (List ℕ)) → lineTag blank fs ≡ 83
 unfolding blank lineTag
-first-tag fs = two (letter 70 (getD fs 0 [])) (letter 65 (getD fs 0 []))
+first-tag fs = rw (never (letter 70 (getD fs 0 [])), never (letter 65 (getD fs 0 [])), never (letter 71 (getD fs 0 [])))
   where
-    two : (x y : Bool) → _≡_ {A = ℕ} (cond (x && false) 70 (cond (y && false) 65 83)) 83
-    two true true = refl
-    two true false = refl
-    two false true = refl
-    two false false = refl
+    never : (x : Bool) → (x && false) ≡ false
+    never true = refl
+    never false = refl
 
 -- the last setting that was said
 module _ (x : Settings) (a : Bool) (e : a ≡ unsaid (x .start)) where
@@ -118,18 +131,23 @@ unsaid-first c e = rw e
 pub unsaid-second : (c : Choice) → c ≡ choice.Second → false ≡ unsaid c
 unsaid-second c e = rw e
 
-pub ruleset nexts = (headed-is, blank-is, due-S, due-B, due-C, due-E, stand-unbegun, stand-late, stand-if, setting-other, setting-if, tag-F, tag-A, tag-due, last-start, last-rounding, last-none, unsaid-none, unsaid-first, unsaid-second)
+pub ruleset nexts = (headed-is, blank-is, due-S, due-B, due-C, due-E, stand-unbegun, stand-late, stand-if, setting-other, setting-if, tag-F, tag-A, tag-G, tag-due, range-other, range-unbegun, range-if, last-start, last-rounding, last-none, unsaid-none, unsaid-first, unsaid-second)
 
 -- Setting i, by its tag
 pub data SettingTag (i tag : ℕ) : Type 0 where
   F-tag : i ≡ 1 → tag ≡ 70 → SettingTag i tag
   A-tag : i ≡ 2 → tag ≡ 65 → SettingTag i tag
 
+-- A block's line, ranged or not, by its tag
+pub data BlockTag (r : Bool) (tag : ℕ) : Type 0 where
+  B-tag : r ≡ false → tag ≡ 66 → BlockTag r tag
+  G-tag : r ≡ true → tag ≡ 71 → BlockTag r tag
+
 -- Which line may stand after what was read
 pub data Stands (s : State) (tag : ℕ) : Type 0 where
   Header-line : s .begun ≡ false → tag ≡ 83 → Stands s tag
   Setting-line : (i : ℕ) → mayStand i s ≡ true → SettingTag i tag → Stands s tag
-  Block-line : s .begun ≡ true → 0 < s .left → tag ≡ 66 → Stands s tag
+  Block-line : (r : Bool) → s .begun ≡ true → 0 < s .left → BlockTag r tag → Stands s tag
   Channel-line : s .begun ≡ true → s .left ≤ 0 → s .read < s .sheet .header .channels → tag ≡ 67 → Stands s tag
   End-line : s .begun ≡ true → s .left ≤ 0 → s .sheet .header .channels ≤ s .read → tag ≡ 69 → Stands s tag
 
@@ -138,18 +156,21 @@ unbegun s p q = let z : _≡_ {A = ℕ} 0 1 = cc in let y : ⊥ = omega arith in
 
 pub stands : (s : State) (fs : List (List ℕ)) (tag : ℕ) → tag ≡ lineTag s fs → Stands s tag
 unfolding lineTag
-stands s fs tag e = own (isSetting s fs 1 70) (isSetting s fs 2 65) refl refl e
+stands s fs tag e = own (isSetting s fs 1 70) (isSetting s fs 2 65) (isRange s fs) refl refl refl e
   where
     three : (a b c : Bool) → s .begun ≡ a → ltb 0 (s .left) ≡ b → ltb (s .read) (s .sheet .header .channels) ≡ c → tag ≡ cond a (cond b 66 (cond c 67 69)) 83 → Stands s tag
     three false b c p q r o = Header-line p o
-    three true true c p q r o = Block-line p (ltb-true 0 (s .left) q) o
+    three true true c p q r o = Block-line false p (ltb-true 0 (s .left) q) (B-tag refl o)
     three true false true p q r o = Channel-line p (ltb-false 0 (s .left) q) (ltb-true (s .read) (s .sheet .header .channels) r) o
     three true false false p q r o = End-line p (ltb-false 0 (s .left) q) (ltb-false (s .read) (s .sheet .header .channels) r) o
 
-    own : (x y : Bool) → isSetting s fs 1 70 ≡ x → isSetting s fs 2 65 ≡ y → tag ≡ cond x 70 (cond y 65 (dueTag s)) → Stands s tag
-    own true y p q o = Setting-line 1 (both-right (letter 70 (getD fs 0 [])) (mayStand 1 s) p) (F-tag refl o)
-    own false true p q o = Setting-line 2 (both-right (letter 65 (getD fs 0 [])) (mayStand 2 s) q) (A-tag refl o)
-    own false false p q o = three (s .begun) (ltb 0 (s .left)) (ltb (s .read) (s .sheet .header .channels)) refl refl refl o
+    own : (x y z : Bool) → isSetting s fs 1 70 ≡ x → isSetting s fs 2 65 ≡ y → isRange s fs ≡ z → tag ≡ cond x 70 (cond y 65 (cond z 71 (dueTag s))) → Stands s tag
+    own true y z p q r o = Setting-line 1 (both-right (letter 70 (getD fs 0 [])) (mayStand 1 s) p) (F-tag refl o)
+    own false true z p q r o = Setting-line 2 (both-right (letter 65 (getD fs 0 [])) (mayStand 2 s) q) (A-tag refl o)
+    own false false true p q r o =
+        let b = both-right (letter 71 (getD fs 0 [])) (s .begun && ltb 0 (s .left)) r in
+        Block-line true (both-left (s .begun) (ltb 0 (s .left)) b) (ltb-true 0 (s .left) (both-right (s .begun) (ltb 0 (s .left)) b)) (G-tag refl o)
+    own false false false p q r o = three (s .begun) (ltb 0 (s .left)) (ltb (s .read) (s .sheet .header .channels)) refl refl refl o
 
 -- What a line adds
 
@@ -220,7 +241,8 @@ due s fs tag e h rec q = subst⁻¹ (Due s) q (by (stands s fs tag e))
     by (Header-line p o) = rw o tt
     by (Setting-line i p (F-tag n o)) = rw o tt
     by (Setting-line i p (A-tag n o)) = rw o tt
-    by (Block-line p l o) = rw o l
+    by (Block-line r p l (B-tag n o)) = rw o l
+    by (Block-line r p l (G-tag n o)) = rw o l
     by (Channel-line p l r o) = rw o r
     by (End-line p l r o) = absurd (h o)
 

@@ -23,7 +23,7 @@ use Rattle.text.specs.declared.field.Field.the-variants as field
 use Rattle.text.specs.declared.pieces.Line.{Line}
 use Rattle.text.specs.Pieces.{split, before, onto}
 use Rattle.text.specs.Cursor.{AtField, IsLine}
-use Rattle.text.specs.Fields.{letter, fieldOf, faultIn, levelsIn, tablesIn}
+use Rattle.text.specs.Fields.{fieldOf, faultIn, lowsIn, highsIn, tablesIn}
 use Rattle.text.proofs.PieceLaws.{at-start, at-here, at-next, at-end, before-le, before-take, split-cut, split-whole, split-first, split-some, split-length}
 use Rattle.contents.specs.declared.Limits.{Limits}
 use Rattle.contents.specs.declared.Header.{Header}
@@ -32,12 +32,12 @@ use Rattle.sheet.specs.declared.state.State.{State}
 use Rattle.sheet.specs.declared.state.Taken.{Taken}
 use Rattle.sheet.specs.declared.state.Taken.the-variants as taken
 use Rattle.sheet.specs.declared.walk.Walked.the-variants as walked
-use Rattle.sheet.specs.Lines.{headerRules, roundingRules, startRules, channelRules, blockRules, endRules, rulesOf, fieldCount, firstFault, fieldsFault, lineLevels, lineTables, holding, recordOf}
-use Rattle.contents.specs.Sheets.{Held, held}
+use Rattle.sheet.specs.Lines.{headerRules, roundingRules, startRules, channelRules, blockRules, rangeRules, endRules, rulesOf, fieldCount, firstFault, fieldsFault, lineAdds, holding, recordOf}
+use Rattle.contents.specs.Sheets.{Lent, lent, Held, nothing}
 use Rattle.sheet.specs.Reading.{Outcome, Contents, contents, blank, lineTag, takenOf, isLast, nothingLeft, onTaken, lineFault, readFrom, allowed, readText}
 use Rattle.sheet.specs.Reading.Outcome.{Refused}
-use Rattle.sheet.specs.Calls.{Lengths}
 use Rattle.sheet.specs.Walk.{saidBefore, Stored, Walks}
+use Rattle.sheet.proofs.GoodLines.{lows-without, highs-without, tables-without}
 
 -- Stores one after the other
 
@@ -80,88 +80,112 @@ stored-end d e = record { next = omega (arith, d .next, e .next); last = e .last
 
 pub rules-length : (t : ℕ) (limits : Limits) (top : Header) (fs : List (List ℕ)) → length (rulesOf t limits top fs) ≡ fieldCount t
 unfolding rulesOf fieldCount
-rules-length t limits top fs = five (eqb t 66) (eqb t 67) (eqb t 83) (eqb t 70) (eqb t 65)
+rules-length t limits top fs = six (eqb t 66) (eqb t 71) (eqb t 67) (eqb t 83) (eqb t 70) (eqb t 65)
   where
-    five : (a b c d e : Bool) → length (cond a blockRules (cond b channelRules (cond c (headerRules limits fs) (cond d roundingRules (cond e startRules endRules)))))
-        ≡ cond a 65 (cond b 69 (cond c 16 (cond d 2 (cond e 2 1))))
-    five true b c d e = refl
-    five false true c d e = refl
-    five false false true d e = refl
-    five false false false true e = refl
-    five false false false false true = refl
-    five false false false false false = refl
+    six : (a b c d e f : Bool)
+        → length (cond a blockRules (cond b (rangeRules fs) (cond c channelRules (cond d (headerRules limits fs) (cond e roundingRules (cond f startRules endRules))))))
+        ≡ cond a 65 (cond b 129 (cond c 69 (cond d 16 (cond e 2 (cond f 2 1)))))
+    six true b c d e f = refl
+    six false true c d e f = refl
+    six false false true d e f = refl
+    six false false false true e f = refl
+    six false false false false true f = refl
+    six false false false false false true = refl
+    six false false false false false false = refl
 
 -- E adds nothing
-end-levels : (t : ℕ) (limits : Limits) (top : Header) (fs : List (List ℕ)) → t ≡ 69 → lineLevels (rulesOf t limits top fs) fs ≡ []
-unfolding rulesOf fieldOf
-end-levels t limits top [] e = rw e
-end-levels t limits top (f ∷ fs) e = rw e (two (letter 69 f))
-  where
-    two : (b : Bool) → levelsIn (cond b field.Good (field.Bad 1)) ++ [] ≡ []
-    two true = refl
-    two false = refl
+module _ (t : ℕ) (limits : Limits) (top : Header) (fs : List (List ℕ)) (e : t ≡ 69) where
+  end-lows : lineAdds lowsIn (rulesOf t limits top fs) fs ≡ []
+  unfolding rulesOf
+  end-lows = rw e (lows-without endRules fs refl)
 
-end-tables : (t : ℕ) (limits : Limits) (top : Header) (fs : List (List ℕ)) → t ≡ 69 → lineTables (rulesOf t limits top fs) fs ≡ []
-unfolding rulesOf fieldOf
-end-tables t limits top [] e = rw e
-end-tables t limits top (f ∷ fs) e = rw e (two (letter 69 f))
-  where
-    two : (b : Bool) → tablesIn (cond b field.Good (field.Bad 1)) ++ [] ≡ []
-    two true = refl
-    two false = refl
+  end-highs : lineAdds highsIn (rulesOf t limits top fs) fs ≡ []
+  unfolding rulesOf
+  end-highs = rw e (highs-without endRules fs refl)
 
-pub good-field : (f : Field) → OneOf (1 ∷ 2 ∷ 3 ∷ []) (tagOf the-type f) → faultIn f ≡ none
-good-field (field.Bad k) h = let y : ⊥ = ⊎-elim (λ e. omega arith) (⊎-elim (λ e. omega arith) (λ e. omega arith)) h in absurd y
+  end-tables : lineAdds tablesIn (rulesOf t limits top fs) fs ≡ []
+  unfolding rulesOf
+  end-tables = rw e (tables-without endRules fs refl)
+
+pub good-field : (f : Field) → OneOf (1 ∷ 2 ∷ 3 ∷ 4 ∷ 5 ∷ []) (tagOf the-type f) → faultIn f ≡ none
+good-field (field.Bad k) h =
+    let y : ⊥ = ⊎-elim (λ e. omega arith) (⊎-elim (λ e. omega arith) (⊎-elim (λ e. omega arith) (⊎-elim (λ e. omega arith) (λ e. omega arith)))) h in absurd y
 good-field (field.Quantiser q) h = refl
 good-field (field.Level z) h = refl
+good-field (field.Low z) h = refl
+good-field (field.High z) h = refl
 good-field field.Good h = refl
 
 -- the next places of the lent buffers
-abbrev pub places : ℕ → ℕ → Lengths
-places n m = record { levels = n; tables = m }
+pub record Places : Type 0 where
+  pub lows : ℕ
+  pub highs : ℕ
+  pub tables : ℕ
+
+abbrev pub places : ℕ → ℕ → ℕ → Places
+places n h m = record { lows = n; highs = h; tables = m }
 
 -- the fields of a row by the rules rs, from field i on, after those before it
-pub record Checking (rs : List Rule) (row : List ℕ) (count : ℕ) (lent : Held) (from : Lengths) (after : Held) (next : Lengths) (i a : ℕ) (last : Field) : Type 0 where
+pub record Checking (rs : List Rule) (row : List ℕ) (count : ℕ) (into : Lent) (from : Places) (after : Lent) (next : Places) (i a : ℕ) (last : Field) : Type 0 where
   upto : i ≤ count
   field : i < count → AtField row i a
   pub said : last ≡ saidBefore rs (split 9 row) i
   fault : firstFault (drop i rs) (drop i (split 9 row)) ≡ firstFault rs (split 9 row)
-  levels : Storing (lent .levels) (from .levels) (after .levels) (next .levels) (lineLevels (drop i rs) (drop i (split 9 row))) (lineLevels rs (split 9 row))
-  tables : Storing (lent .tables) (from .tables) (after .tables) (next .tables) (lineTables (drop i rs) (drop i (split 9 row))) (lineTables rs (split 9 row))
-  pub held-most : next .levels ≤ from .levels + i
+  lows : Storing (into .lows) (from .lows) (after .lows) (next .lows) (lineAdds lowsIn (drop i rs) (drop i (split 9 row))) (lineAdds lowsIn rs (split 9 row))
+  highs : Storing (into .highs) (from .highs) (after .highs) (next .highs) (lineAdds highsIn (drop i rs) (drop i (split 9 row))) (lineAdds highsIn rs (split 9 row))
+  tables : Storing (into .tables) (from .tables) (after .tables) (next .tables) (lineAdds tablesIn (drop i rs) (drop i (split 9 row))) (lineAdds tablesIn rs (split 9 row))
+  pub low-most : next .lows ≤ from .lows + i
+  pub high-most : next .highs ≤ from .highs + i
   pub listed-most : next .tables ≤ from .tables + i
 
-pub check-begin : (rs : List Rule) (row : List ℕ) (count : ℕ) (lent : Held) (from : Lengths) → Checking rs row count lent from lent from 0 0 field.Good
-check-begin rs row count lent from =
+pub check-begin : (rs : List Rule) (row : List ℕ) (count : ℕ) (into : Lent) (from : Places) → Checking rs row count into from into from 0 0 field.Good
+check-begin rs row count into from =
     record {
       upto = omega arith;
       field = λ _. at-start row;
       said = refl;
       fault = refl;
-      levels = record { place = refl; value = refl };
+      lows = record { place = refl; value = refl };
+      highs = record { place = refl; value = refl };
       tables = record { place = refl; value = refl };
-      held-most = omega arith;
+      low-most = omega arith;
+      high-most = omega arith;
       listed-most = omega arith;
     }
 
-few-levels : (f : Field) → length (levelsIn f) ≤ 1
-few-levels (field.Bad k) = omega arith
-few-levels (field.Quantiser q) = omega arith
-few-levels (field.Level z) = omega arith
-few-levels field.Good = omega arith
+few-lows : (f : Field) → length (lowsIn f) ≤ 1
+few-lows (field.Bad k) = omega arith
+few-lows (field.Quantiser q) = omega arith
+few-lows (field.Level z) = omega arith
+few-lows (field.Low z) = omega arith
+few-lows (field.High z) = omega arith
+few-lows field.Good = omega arith
+
+few-highs : (f : Field) → length (highsIn f) ≤ 1
+few-highs (field.Bad k) = omega arith
+few-highs (field.Quantiser q) = omega arith
+few-highs (field.Level z) = omega arith
+few-highs (field.Low z) = omega arith
+few-highs (field.High z) = omega arith
+few-highs field.Good = omega arith
 
 few-tables : (f : Field) → length (tablesIn f) ≤ 1
 few-tables (field.Bad k) = omega arith
 few-tables (field.Quantiser q) = omega arith
 few-tables (field.Level z) = omega arith
+few-tables (field.Low z) = omega arith
+few-tables (field.High z) = omega arith
 few-tables field.Good = omega arith
 
-module _ {rs : List Rule} {row : List ℕ} {count : ℕ} {lent : Held} {from : Lengths} {after : Held} {next : Lengths} {i a : ℕ} {last : Field}
-    (s : Checking rs row count lent from after next i a last) where
-  pub check-levels : length (after .levels) ≡ length (lent .levels)
-  check-levels = storing-length (s .levels)
+module _ {rs : List Rule} {row : List ℕ} {count : ℕ} {into : Lent} {from : Places} {after : Lent} {next : Places} {i a : ℕ} {last : Field}
+    (s : Checking rs row count into from after next i a last) where
+  pub check-lows : length (after .lows) ≡ length (into .lows)
+  check-lows = storing-length (s .lows)
 
-  pub check-tables : length (after .tables) ≡ length (lent .tables)
+  pub check-highs : length (after .highs) ≡ length (into .highs)
+  check-highs = storing-length (s .highs)
+
+  pub check-tables : length (after .tables) ≡ length (into .tables)
   check-tables = storing-length (s .tables)
 
   module _ (h : i < count) where
@@ -189,17 +213,19 @@ module _ {rs : List Rule} {row : List ℕ} {count : ℕ} {lent : Held} {from : L
         pub check-bad : (k : ℕ) → f ≡ field.Bad k → firstFault rs (split 9 row) ≡ some k
         check-bad k z = sym (s .fault) ∙ rw (rs-next, fs-next, sym here, z)
 
-        pub check-step : faultIn f ≡ none → {l' : List ℤ} {n' : ℕ} → Stored (after .levels) l' (next .levels) n' (levelsIn f) → {t' : List ℕ} {m' : ℕ} → Stored (after .tables) t' (next .tables) m' (tablesIn f)
-            → Checking rs row count lent from (held l' t') (places n' m') (i + 1) (e + 1) f
-        check-step z u v =
+        pub check-step : faultIn f ≡ none → {l' : List ℤ} {n' : ℕ} → Stored (after .lows) l' (next .lows) n' (lowsIn f) → {h' : List ℤ} {k' : ℕ} → Stored (after .highs) h' (next .highs) k' (highsIn f)
+            → {t' : List ℕ} {m' : ℕ} → Stored (after .tables) t' (next .tables) m' (tablesIn f) → Checking rs row count into from (lent l' h' t') (places n' k' m') (i + 1) (e + 1) f
+        check-step z u w v =
             record {
               upto = omega arith;
               field = λ g. rw p (at-next (s .field h) (omega arith));
               said = rw (add-one i) here;
               fault = sym (rw (rs-next, fs-next, sym here, z)) ∙ s .fault;
-              levels = storing-more (levelsIn f) (lineLevels (drop (i + 1) rs) (drop (i + 1) (split 9 row))) (rw (rs-next, fs-next, sym here) at (s .levels)) u;
-              tables = storing-more (tablesIn f) (lineTables (drop (i + 1) rs) (drop (i + 1) (split 9 row))) (rw (rs-next, fs-next, sym here) at (s .tables)) v;
-              held-most = omega (arith, s .held-most, u .next, few-levels f);
+              lows = storing-more (lowsIn f) (lineAdds lowsIn (drop (i + 1) rs) (drop (i + 1) (split 9 row))) (rw (rs-next, fs-next, sym here) at (s .lows)) u;
+              highs = storing-more (highsIn f) (lineAdds highsIn (drop (i + 1) rs) (drop (i + 1) (split 9 row))) (rw (rs-next, fs-next, sym here) at (s .highs)) w;
+              tables = storing-more (tablesIn f) (lineAdds tablesIn (drop (i + 1) rs) (drop (i + 1) (split 9 row))) (rw (rs-next, fs-next, sym here) at (s .tables)) v;
+              low-most = omega (arith, s .low-most, u .next, few-lows f);
+              high-most = omega (arith, s .high-most, w .next, few-highs f);
               listed-most = omega (arith, s .listed-most, v .next, few-tables f);
             }
 
@@ -210,10 +236,13 @@ module _ {rs : List Rule} {row : List ℕ} {count : ℕ} {lent : Held} {from : L
     pub check-good : firstFault rs (split 9 row) ≡ none
     check-good = sym (rw none-left at (s .fault))
 
-    pub check-held : Stored (lent .levels) (after .levels) (from .levels) (next .levels) (lineLevels rs (split 9 row))
-    check-held = storing-end (rw none-left at (s .levels))
+    check-low : Stored (into .lows) (after .lows) (from .lows) (next .lows) (lineAdds lowsIn rs (split 9 row))
+    check-low = storing-end (rw none-left at (s .lows))
 
-    pub check-listed : Stored (lent .tables) (after .tables) (from .tables) (next .tables) (lineTables rs (split 9 row))
+    check-high : Stored (into .highs) (after .highs) (from .highs) (next .highs) (lineAdds highsIn rs (split 9 row))
+    check-high = storing-end (rw none-left at (s .highs))
+
+    check-listed : Stored (into .tables) (after .tables) (from .tables) (next .tables) (lineAdds tablesIn rs (split 9 row))
     check-listed = storing-end (rw none-left at (s .tables))
 
 -- One line of a text with the meaning T, whose pieces from this line on are p and rest
@@ -245,7 +274,7 @@ module _ (limits : Limits) (s : State) (H : Held) (k : ℕ) (p : List ℕ) (rest
       module _ (f : firstFault (rulesOf tag limits (s .sheet .header) (split 9 p)) (split 9 p) ≡ none) where
         good : cond (eqb tag 69) (cond (nothingLeft rest) (contents (s .sheet) H) (Refused 7 (k + 1)))
             (onTaken (takenOf s (recordOf tag (split 9 p))) k
-            (λ t. readFrom limits t (holding H (rulesOf tag limits (s .sheet .header) (split 9 p)) (split 9 p)) (k + 1) rest)) ≡ T
+            (λ t. readFrom limits t (holding H tag (rulesOf tag limits (s .sheet .header) (split 9 p)) (split 9 p)) (k + 1) rest)) ≡ T
         unfolding lineFault fieldsFault
         good = rw (sym g, le-ltb 1024 (length p) h, e, eq-eqb (length (split 9 p)) (length (rulesOf tag limits (s .sheet .header) (split 9 p))) same, f) at R
 
@@ -260,7 +289,7 @@ module _ (limits : Limits) (s : State) (H : Held) (k : ℕ) (p : List ℕ) (rest
           line-bad m o = sym good ∙ rw (ne-eqb tag 69 t, o)
 
           pub line-next : (u : State) → takenOf s (recordOf tag (split 9 p)) ≡ taken.Good u
-              → readFrom limits u (holding H (rulesOf tag limits (s .sheet .header) (split 9 p)) (split 9 p)) (k + 1) rest ≡ T
+              → readFrom limits u (holding H tag (rulesOf tag limits (s .sheet .header) (split 9 p)) (split 9 p)) (k + 1) rest ≡ T
           line-next u o = sym (rw (ne-eqb tag 69 t, o)) ∙ good
 
 -- What the pieces of a text say
@@ -295,36 +324,40 @@ some-after b (x ∷ l) h = two (eqb x b) (split b l) (split-some b l)
 
 -- The text up to a line
 
-pub record Reading (limits : Limits) (text : List ℕ) (lent after : Held) (s : State) (at k : ℕ) (next : Lengths) : Type 0 where
+pub record Reading (limits : Limits) (text : List ℕ) (into after : Lent) (s : State) (at k : ℕ) (next : Places) : Type 0 where
   so-far : Held
   pub inside : at ≤ length text
   pub lines : k ≤ at + 1
-  pub room : next .levels ≤ at
+  pub low-room : next .lows ≤ at
+  pub high-room : next .highs ≤ at
   pub space : next .tables ≤ at
-  levels : Stored (lent .levels) (after .levels) 0 (next .levels) (so-far .levels)
-  tables : Stored (lent .tables) (after .tables) 0 (next .tables) (so-far .tables)
+  lows : Stored (into .lows) (after .lows) 0 (next .lows) (so-far .lent .lows)
+  highs : Stored (into .highs) (after .highs) 0 (next .highs) (so-far .lent .highs)
+  tables : Stored (into .tables) (after .tables) 0 (next .tables) (so-far .lent .tables)
   rest : readFrom limits s so-far k (split 10 (drop at text)) ≡ readText limits text
 
-pub read-begin : (limits : Limits) (text : List ℕ) (lent : Held) (s : State) → allowed limits ≡ true → s ≡ blank → Reading limits text lent lent s 0 1 (places 0 0)
+pub read-begin : (limits : Limits) (text : List ℕ) (into : Lent) (s : State) → allowed limits ≡ true → s ≡ blank → Reading limits text into into s 0 1 (places 0 0 0)
 unfolding readText
-read-begin limits text lent s h e =
+read-begin limits text into s h e =
     record {
-      so-far = held [] [];
+      so-far = nothing;
       inside = omega arith;
       lines = omega arith;
-      room = omega arith;
+      low-room = omega arith;
+      high-room = omega arith;
       space = omega arith;
-      levels = record { next = refl; last = refl };
+      lows = record { next = refl; last = refl };
+      highs = record { next = refl; last = refl };
       tables = record { next = refl; last = refl };
       rest = rw (e, h);
     }
 
-refused : (limits : Limits) (text : List ℕ) (lent after : Held) (m k : ℕ) → readText limits text ≡ Refused m k → Walks limits text lent after (walked.Refused m k)
-refused limits text lent after m k e = record { answer = rw e; stored = rw e tt }
+refused : (limits : Limits) (text : List ℕ) (into after : Lent) (m k : ℕ) → readText limits text ≡ Refused m k → Walks limits text into after (walked.Refused m k)
+refused limits text into after m k e = record { answer = rw e; stored = rw e tt }
 
-pub walk-limit : (limits : Limits) (text : List ℕ) (lent : Held) → allowed limits ≡ false → Walks limits text lent lent (walked.Refused 2 0)
+pub walk-limit : (limits : Limits) (text : List ℕ) (into : Lent) → allowed limits ≡ false → Walks limits text into into (walked.Refused 2 0)
 unfolding readText
-walk-limit limits text lent h = refused limits text lent lent 2 0 (rw h)
+walk-limit limits text into h = refused limits text into into 2 0 (rw h)
 
 -- an ended line of at most 1,024 bytes from at to e, where a tag is due
 pub record OnLine (text : List ℕ) (s : State) (at e tag count : ℕ) : Type 0 where
@@ -337,12 +370,15 @@ pub record OnLine (text : List ℕ) (s : State) (at e tag count : ℕ) : Type 0 
   due : tag ≡ lineTag s (split 9 (take (e - at) (drop at text)))
   counted : count ≡ fieldCount tag
 
-module _ {limits : Limits} {text : List ℕ} {lent after : Held} {s : State} {at k : ℕ} {next : Lengths} (r : Reading limits text lent after s at k next) where
-  pub same-levels : length (after .levels) ≡ length (lent .levels)
-  same-levels = ap length (r .levels .last) ∙ length-sets (lent .levels) 0 (r .so-far .levels)
+module _ {limits : Limits} {text : List ℕ} {into after : Lent} {s : State} {at k : ℕ} {next : Places} (r : Reading limits text into after s at k next) where
+  pub same-lows : length (after .lows) ≡ length (into .lows)
+  same-lows = ap length (r .lows .last) ∙ length-sets (into .lows) 0 (r .so-far .lent .lows)
 
-  pub same-tables : length (after .tables) ≡ length (lent .tables)
-  same-tables = ap length (r .tables .last) ∙ length-sets (lent .tables) 0 (r .so-far .tables)
+  pub same-highs : length (after .highs) ≡ length (into .highs)
+  same-highs = ap length (r .highs .last) ∙ length-sets (into .highs) 0 (r .so-far .lent .highs)
+
+  pub same-tables : length (after .tables) ≡ length (into .tables)
+  same-tables = ap length (r .tables .last) ∙ length-sets (into .tables) 0 (r .so-far .lent .tables)
 
   module _ {g : Line} (q : IsLine text at g) where
     pub end-inside : g .end ≤ length text
@@ -354,15 +390,15 @@ module _ {limits : Limits} {text : List ℕ} {lent after : Held} {s : State} {at
         let w : (at + b) - at ≡ b = omega arith in
         sym (rw (q .end, w) (before-take 10 (drop at text)))
 
-    pub walk-long : 1024 < g .end - at → Walks limits text lent after (walked.Refused 1 k)
+    pub walk-long : 1024 < g .end - at → Walks limits text into after (walked.Refused 1 k)
     walk-long h =
-        refused limits text lent after 1 k
+        refused limits text into after 1 k
         (line-long limits s (r .so-far) k (before 10 (drop at text)) (drop 1 (split 10 (drop at text))) (readText limits text)
         (rw (split-head 10 (drop at text)) at (r .rest)) (omega (arith, q .end)))
 
-    pub walk-cut : g .end - at ≤ 1024 → g .end ≡ length text → Walks limits text lent after (walked.Refused 7 k)
+    pub walk-cut : g .end - at ≤ 1024 → g .end ≡ length text → Walks limits text into after (walked.Refused 7 k)
     walk-cut h z =
-        refused limits text lent after 7 k
+        refused limits text into after 7 k
         (line-last limits s (r .so-far) k (drop at text) [] (readText limits text)
         (rw (split-whole 10 (drop at text) (omega (arith, q .end, length-drop at text))) at (r .rest)) (omega (arith, length-drop at text)) refl)
 
@@ -388,9 +424,9 @@ module _ {limits : Limits} {text : List ℕ} {lent after : Held} {s : State} {at
     this-line : readFrom limits s (r .so-far) k (take (e - at) (drop at text) ∷ split 10 (drop (e + 1) text)) ≡ readText limits text
     this-line = rw (o .cut) at (r .rest)
 
-    pub walk-count : {g : Line} → IsLine text at g → (g .fields ≡ count → ⊥) → Walks limits text lent after (walked.Refused 1 k)
+    pub walk-count : {g : Line} → IsLine text at g → (g .fields ≡ count → ⊥) → Walks limits text into after (walked.Refused 1 k)
     walk-count q z =
-        refused limits text lent after 1 k
+        refused limits text into after 1 k
         (line-count limits s (r .so-far) k (take (e - at) (drop at text)) (split 10 (drop (e + 1) text)) (readText limits text) this-line
         tag (o .due) (o .short) (not-last 10 (drop (e + 1) text)) (λ c. z (q .fields ∙ ap (λ (x : List ℕ). length (split 9 x)) (o .first) ∙ c ∙ sym (o .counted))))
 
@@ -401,57 +437,63 @@ module _ {limits : Limits} {text : List ℕ} {lent after : Held} {s : State} {at
     rules-count = rules-length tag limits (s .sheet .header) (split 9 (take (e - at) (drop at text))) ∙ sym (o .counted)
 
     module _ (y : length (split 9 (take (e - at) (drop at text))) ≡ count) where
-      -- the next place of either buffer is a number of 64 bits
-      pub level-room : length text < 2 ^ 64 → {i n' : ℕ} → i < count → n' ≤ next .levels + i → n' + 1 < 2 ^ 64
-      level-room z h q = omega (arith, r .room, split-length 9 (take (e - at) (drop at text)), o .size, o .ordered, o .ended)
+      -- the next place of each buffer is a number of 64 bits
+      pub low-place : length text < 2 ^ 64 → {i n' : ℕ} → i < count → n' ≤ next .lows + i → n' + 1 < 2 ^ 64
+      low-place z h q = omega (arith, r .low-room, split-length 9 (take (e - at) (drop at text)), o .size, o .ordered, o .ended)
+
+      pub high-place : length text < 2 ^ 64 → {i n' : ℕ} → i < count → n' ≤ next .highs + i → n' + 1 < 2 ^ 64
+      high-place z h q = omega (arith, r .high-room, split-length 9 (take (e - at) (drop at text)), o .size, o .ordered, o .ended)
 
       pub table-room : length text < 2 ^ 64 → {i m' : ℕ} → i < count → m' ≤ next .tables + i → m' + 1 < 2 ^ 64
       table-room z h q = omega (arith, r .space, split-length 9 (take (e - at) (drop at text)), o .size, o .ordered, o .ended)
 
-      pub walk-fault : {v : ℕ} {stored : Held} → firstFault (rulesOf tag limits (s .sheet .header) (split 9 (take (e - at) (drop at text)))) (split 9 (take (e - at) (drop at text))) ≡ some v
-          → Walks limits text lent stored (walked.Refused v k)
+      pub walk-fault : {v : ℕ} {stored : Lent} → firstFault (rulesOf tag limits (s .sheet .header) (split 9 (take (e - at) (drop at text)))) (split 9 (take (e - at) (drop at text))) ≡ some v
+          → Walks limits text into stored (walked.Refused v k)
       walk-fault {v} {stored} f =
-          refused limits text lent stored v k
+          refused limits text into stored v k
           (line-fault limits s (r .so-far) k (take (e - at) (drop at text)) (split 10 (drop (e + 1) text)) (readText limits text) this-line
           tag (o .due) (o .short) (not-last 10 (drop (e + 1) text)) (y ∙ o .counted) v f)
 
-      module _ {stored : Held} {filled : Lengths} {i a : ℕ} {last : Field}
+      module _ {stored : Lent} {filled : Places} {i a : ℕ} {last : Field}
           (c : Checking (rulesOf tag limits (s .sheet .header) (split 9 (take (e - at) (drop at text)))) (take (e - at) (drop at text)) count after next stored filled i a last) (h : count ≤ i) where
-        pub walk-end : tag ≡ 69 → e + 1 ≡ length text → Walks limits text lent stored (walked.Sheet (s .sheet) (filled .levels) (filled .tables))
+        pub walk-end : tag ≡ 69 → e + 1 ≡ length text → Walks limits text into stored (walked.Sheet (s .sheet) (filled .lows) (filled .highs) (filled .tables))
         walk-end x z =
             let w : readText limits text ≡ contents (s .sheet) (r .so-far) =
             line-end limits s (r .so-far) k (take (e - at) (drop at text)) (split 10 (drop (e + 1) text)) (readText limits text) this-line
             tag (o .due) (o .short) (not-last 10 (drop (e + 1) text)) (y ∙ o .counted) (check-good c rules-count h) x
             (nothing-after 10 (drop (e + 1) text) (omega (arith, length-drop (e + 1) text))) in
-            let u = stored-end (r .levels) (rw (end-levels tag limits (s .sheet .header) (split 9 (take (e - at) (drop at text))) x) at (check-held c rules-count h)) in
+            let u = stored-end (r .lows) (rw (end-lows tag limits (s .sheet .header) (split 9 (take (e - at) (drop at text))) x) at (check-low c rules-count h)) in
+            let q = stored-end (r .highs) (rw (end-highs tag limits (s .sheet .header) (split 9 (take (e - at) (drop at text))) x) at (check-high c rules-count h)) in
             let v = stored-end (r .tables) (rw (end-tables tag limits (s .sheet .header) (split 9 (take (e - at) (drop at text))) x) at (check-listed c rules-count h)) in
-            record { answer = rw (w, ← zero-add (length (r .so-far .levels)), ← u .next, ← zero-add (length (r .so-far .tables)), ← v .next); stored = rw w (u .last, v .last) }
+            record { answer = rw (w, ← zero-add (length (r .so-far .lent .lows)), ← u .next, ← zero-add (length (r .so-far .lent .highs)), ← q .next, ← zero-add (length (r .so-far .lent .tables)), ← v .next); stored = rw w (u .last, q .last, v .last) }
 
-        pub walk-after : tag ≡ 69 → (e + 1 ≡ length text → ⊥) → Walks limits text lent stored (walked.Refused 7 (k + 1))
+        pub walk-after : tag ≡ 69 → (e + 1 ≡ length text → ⊥) → Walks limits text into stored (walked.Refused 7 (k + 1))
         walk-after x z =
-            refused limits text lent stored 7 (k + 1)
+            refused limits text into stored 7 (k + 1)
             (line-after limits s (r .so-far) k (take (e - at) (drop at text)) (split 10 (drop (e + 1) text)) (readText limits text) this-line
             tag (o .due) (o .short) (not-last 10 (drop (e + 1) text)) (y ∙ o .counted) (check-good c rules-count h) x
             (some-after 10 (drop (e + 1) text) (omega (arith, length-drop (e + 1) text, o .ended))))
 
         module _ (x : tag ≡ 69 → ⊥) {d : Record} {w : Taken} (u : d ≡ recordOf tag (split 9 (take (e - at) (drop at text)))) (v : w ≡ takenOf s d) where
-          pub walk-bad : {p : ℕ} → w ≡ taken.Bad p → Walks limits text lent stored (walked.Refused p k)
+          pub walk-bad : {p : ℕ} → w ≡ taken.Bad p → Walks limits text into stored (walked.Refused p k)
           walk-bad {p} z =
-              refused limits text lent stored p k
+              refused limits text into stored p k
               (line-bad limits s (r .so-far) k (take (e - at) (drop at text)) (split 10 (drop (e + 1) text)) (readText limits text) this-line
               tag (o .due) (o .short) (not-last 10 (drop (e + 1) text)) (y ∙ o .counted) (check-good c rules-count h) x p
               (ap (takenOf s) (sym u) ∙ sym v ∙ z))
 
-          pub walk-next : {s' : State} → w ≡ taken.Good s' → Reading limits text lent stored s' (e + 1) (k + 1) filled
+          pub walk-next : {s' : State} → w ≡ taken.Good s' → Reading limits text into stored s' (e + 1) (k + 1) filled
           walk-next {s'} z =
               let row = take (e - at) (drop at text) in
               record {
-                so-far = holding (r .so-far) (rulesOf tag limits (s .sheet .header) (split 9 row)) (split 9 row);
+                so-far = holding (r .so-far) tag (rulesOf tag limits (s .sheet .header) (split 9 row)) (split 9 row);
                 inside = o .ended;
                 lines = omega (arith, r .lines, o .ordered);
-                room = omega (arith, c .held-most, c .upto, r .room, split-length 9 row, o .size, o .ordered);
+                low-room = omega (arith, c .low-most, c .upto, r .low-room, split-length 9 row, o .size, o .ordered);
+                high-room = omega (arith, c .high-most, c .upto, r .high-room, split-length 9 row, o .size, o .ordered);
                 space = omega (arith, c .listed-most, c .upto, r .space, split-length 9 row, o .size, o .ordered);
-                levels = stored-both (r .levels) (check-held c rules-count h);
+                lows = stored-both (r .lows) (check-low c rules-count h);
+                highs = stored-both (r .highs) (check-high c rules-count h);
                 tables = stored-both (r .tables) (check-listed c rules-count h);
                 rest =
                     line-next limits s (r .so-far) k row (split 10 (drop (e + 1) text)) (readText limits text) this-line

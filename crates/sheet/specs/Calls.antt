@@ -11,7 +11,7 @@ use Rattle.sheet.specs.declared.Measured.{Measured}
 use Rattle.sheet.specs.declared.Measured.the-variants as measured
 use Rattle.sheet.specs.declared.Answer.{Answer}
 use Rattle.sheet.specs.declared.Answer.the-variants as answer
-use Rattle.contents.specs.Sheets.{Held}
+use Rattle.contents.specs.Sheets.{Lent}
 use Rattle.sheet.specs.Reading.{Outcome, Contents, readText}
 use Rattle.sheet.specs.Reading.Outcome.{Gives, Refused}
 
@@ -30,33 +30,35 @@ answerSays (answer.Refused k line) = Refused k line
 
 -- "a measuring call gives both lengths for a legal text, and for any other the same refusal as reading"
 abbrev pub lengthsOf : Outcome Contents → Outcome Lengths
-lengthsOf (Gives c) = Gives (record { levels = length (c .held .levels); tables = length (c .held .tables) })
+lengthsOf (Gives c) = Gives (record { levels = length (c .held .lent .lows); tables = length (c .held .lent .tables) })
 lengthsOf (Refused k line) = Refused k line
 
 abbrev pub measuring : Limits → List ℕ → Outcome Lengths
 measuring limits text = lengthsOf (readText limits text)
 
--- "Reading also refuses a levels or tables buffer not of the exact length (8), last". It is no line's fault: line 0.
-abbrev pub fits : Held → Held → Bool
-fits h lent = eqb (length (h .levels)) (length (lent .levels)) && eqb (length (h .tables)) (length (lent .tables))
+-- "Reading also refuses a levels or tables buffer not of the exact length (8), last"; levels are "lows and highs, two buffers of
+-- the old length each" (M-105). It is no line's fault: line 0.
+abbrev pub fits : Lent → Lent → Bool
+fits b into =
+    eqb (length (b .lows)) (length (into .lows)) && (eqb (length (b .highs)) (length (into .highs)) && eqb (length (b .tables)) (length (into .tables)))
 
-abbrev pub fitted : Held → Outcome Contents → Outcome Contents
-fitted lent (Gives c) = cond (fits (c .held) lent) (Gives c) (Refused 8 0)
-fitted lent (Refused k line) = Refused k line
+abbrev pub fitted : Lent → Outcome Contents → Outcome Contents
+fitted into (Gives c) = cond (fits (c .held .lent) into) (Gives c) (Refused 8 0)
+fitted into (Refused k line) = Refused k line
 
 -- Reading a text into buffers that hold these values
-abbrev pub reading : Limits → List ℕ → Held → Outcome Contents
-reading limits text lent = fitted lent (readText limits text)
+abbrev pub reading : Limits → List ℕ → Lent → Outcome Contents
+reading limits text into = fitted into (readText limits text)
 
 -- its answer, and the buffers afterwards: a refusal leaves "lent buffers and any record unchanged"
 abbrev pub sheetIn : Outcome Contents → Outcome Sheet
 sheetIn (Gives c) = Gives (c .sheet)
 sheetIn (Refused k line) = Refused k line
 
-abbrev pub heldAfter : Outcome Contents → Held → Held
-heldAfter (Gives c) lent = c .held
-heldAfter (Refused k line) lent = lent
+abbrev pub lentAfter : Outcome Contents → Lent → Lent
+lentAfter (Gives c) into = c .held .lent
+lentAfter (Refused k line) into = into
 
-pub record Reads (limits : Limits) (text : List ℕ) (lent after : Held) (r : Answer) : Type 0 where
-  pub answer : answerSays r ≡ sheetIn (reading limits text lent)
-  pub held : after ≡ heldAfter (reading limits text lent) lent
+pub record Reads (limits : Limits) (text : List ℕ) (into after : Lent) (r : Answer) : Type 0 where
+  pub answer : answerSays r ≡ sheetIn (reading limits text into)
+  pub lent : after ≡ lentAfter (reading limits text into) into

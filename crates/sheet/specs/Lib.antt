@@ -3,7 +3,3 @@ pub mod Lines
 pub mod Reading
 pub mod Calls
 pub mod Walk
-pub mod Written
-pub mod Longest
-pub mod Accepts
-pub mod Page

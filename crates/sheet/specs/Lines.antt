@@ -1,17 +1,18 @@
 -- The lines of a sheet: the rule of each field, left to right, and what a good line says.
--- Tags are S (83), F (70), A (65), C (67), B (66) and E (69).
-use Prim.Native.Nat.{ℕ}
+-- Tags are S (83), F (70), A (65), C (67), B (66), G (71) and E (69).
+use Prim.Native.Nat.{ℕ, zero, suc}
 use mathlib.Core.List.{List, [], _∷_, _++_}
-use mathlib.Core.Bool.{cond}
+use mathlib.Core.Bool.{Bool, true, false, cond}
 use mathlib.Core.Option.{Option, none, some}
-use lib.ListN.{length, getD, replicate}
+use lib.ListN.{length, getD, drop, replicate}
 use lib.Dec.{eqb}
-use lib.IntN.{ℤ}
 use Rattle.text.specs.declared.field.Rule.{Rule}
 use Rattle.text.specs.declared.field.Rule.the-variants as rule
+use Rattle.text.specs.declared.field.Field.{Field}
 use Rattle.text.specs.Numbers.{numberAt}
 use Rattle.text.specs.Weights.{weightAt}
-use Rattle.text.specs.Fields.{letter, fieldOf, faultIn, levelsIn, tablesIn}
+use Rattle.text.specs.Levels.{levelOf, levelValue}
+use Rattle.text.specs.Fields.{letter, fieldOf, faultIn, lowsIn, highsIn, tablesIn}
 use Rattle.contents.specs.declared.Limits.{Limits}
 use Rattle.contents.specs.declared.Choice.{Choice}
 use Rattle.contents.specs.declared.Choice.the-variants as choice
@@ -20,7 +21,7 @@ use Rattle.contents.specs.declared.Channel.{Channel}
 use Rattle.sheet.specs.declared.line.Setting.the-variants as setting
 use Rattle.sheet.specs.declared.line.Record.{Record}
 use Rattle.sheet.specs.declared.line.Record.the-variants as line
-use Rattle.contents.specs.Sheets.{Held, held}
+use Rattle.contents.specs.Sheets.{lent, Held, held}
 
 -- "three iteration counts (0 to 1,000)", by the caller's limit
 abbrev pub count : Limits → Rule
@@ -71,6 +72,15 @@ channelRules = rule.Tag 67 ∷ ownSide ∷ ownSide ∷ factor ∷ factor ∷ rep
 abbrev pub blockRules : List Rule
 blockRules = rule.Tag 66 ∷ replicate 64 rule.Level
 
+-- the rules of n pairs with the fields fs: a high's rule knows its low
+abbrev pub pairRules : ℕ → List (List ℕ) → List Rule
+pairRules zero fs = []
+pairRules (suc n) fs = rule.Low ∷ rule.High (levelValue (levelOf (getD fs 0 []))) ∷ pairRules n (drop 2 fs)
+
+-- "`G` with 64 pairs, low then high" (M-105)
+abbrev pub rangeRules : List (List ℕ) → List Rule
+rangeRules fs = rule.Tag 71 ∷ pairRules 64 (drop 1 fs)
+
 -- "`E` alone ends it."
 abbrev pub endRules : List Rule
 endRules = rule.Tag 69 ∷ []
@@ -79,14 +89,15 @@ endRules = rule.Tag 69 ∷ []
 unfoldable pub rulesOf : ℕ → Limits → Header → List (List ℕ) → List Rule
 rulesOf tag limits h fs =
     cond (eqb tag 66) blockRules
+    (cond (eqb tag 71) (rangeRules fs)
     (cond (eqb tag 67) channelRules
     (cond (eqb tag 83) (headerRules limits fs)
     (cond (eqb tag 70) roundingRules
-    (cond (eqb tag 65) startRules endRules))))
+    (cond (eqb tag 65) startRules endRules)))))
 
 -- how many fields that line must have
 unfoldable pub fieldCount : ℕ → ℕ
-fieldCount tag = cond (eqb tag 66) 65 (cond (eqb tag 67) 69 (cond (eqb tag 83) 16 (cond (eqb tag 70) 2 (cond (eqb tag 65) 2 1))))
+fieldCount tag = cond (eqb tag 66) 65 (cond (eqb tag 71) 129 (cond (eqb tag 67) 69 (cond (eqb tag 83) 16 (cond (eqb tag 70) 2 (cond (eqb tag 65) 2 1)))))
 
 -- "fields left to right": the fault of the first bad field, if there is one
 abbrev pub orElse : Option ℕ → Option ℕ → Option ℕ
@@ -102,20 +113,22 @@ firstFault (r ∷ rs) (f ∷ fs) = orElse (faultIn (fieldOf r f)) (firstFault rs
 unfoldable pub fieldsFault : List Rule → List (List ℕ) → Option ℕ
 fieldsFault rs fs = cond (eqb (length fs) (length rs)) (firstFault rs fs) (some 1)
 
--- What a line adds to the levels, "values row by row", and to the tables
-abbrev pub lineLevels : List Rule → List (List ℕ) → List ℤ
-lineLevels [] fs = []
-lineLevels (r ∷ rs) [] = []
-lineLevels (r ∷ rs) (f ∷ fs) = levelsIn (fieldOf r f) ++ lineLevels rs fs
+-- What a line adds, field by field: to the lows, highs or tables, "values row by row"
+abbrev pub lineAdds : {A : Type 0} → (Field → List A) → List Rule → List (List ℕ) → List A
+lineAdds add [] fs = []
+lineAdds add (r ∷ rs) [] = []
+lineAdds add (r ∷ rs) (f ∷ fs) = add (fieldOf r f) ++ lineAdds add rs fs
 
-abbrev pub lineTables : List Rule → List (List ℕ) → List ℕ
-lineTables [] fs = []
-lineTables (r ∷ rs) [] = []
-lineTables (r ∷ rs) (f ∷ fs) = tablesIn (fieldOf r f) ++ lineTables rs fs
+-- the kind of a block's line
+abbrev pub kindOf : ℕ → List Bool
+kindOf tag = cond (eqb tag 66) (false ∷ []) (cond (eqb tag 71) (true ∷ []) [])
 
 -- what was read so far, and a line more
-abbrev pub holding : Held → List Rule → List (List ℕ) → Held
-holding h rs fs = held (h .levels ++ lineLevels rs fs) (h .tables ++ lineTables rs fs)
+abbrev pub holding : Held → ℕ → List Rule → List (List ℕ) → Held
+holding h tag rs fs =
+    held
+    (lent (h .lent .lows ++ lineAdds lowsIn rs fs) (h .lent .highs ++ lineAdds highsIn rs fs) (h .lent .tables ++ lineAdds tablesIn rs fs))
+    (h .ranged ++ kindOf tag)
 
 -- "A record is a header, channel or block line": what a good line holds besides
 unfoldable pub headerOf : List (List ℕ) → Header

@@ -23,7 +23,7 @@ use Rattle.sheet.specs.declared.state.State.{State}
 use Rattle.sheet.specs.declared.state.Taken.{Taken}
 use Rattle.sheet.specs.declared.state.Taken.the-variants as taken
 use Rattle.sheet.specs.Lines.{rulesOf, fieldsFault, holding, recordOf}
-use Rattle.contents.specs.Sheets.{Held, held, noHeader, noSettings, noChannel}
+use Rattle.contents.specs.Sheets.{Held, nothing, noHeader, noSettings, noChannel}
 
 -- What a call or a text gives: its values, or a number of the paper's table and the line, counted from 1
 pub data Outcome (A : Type 0) : Type 0 where
@@ -69,9 +69,13 @@ mayStand i s = s .begun && (eqb (s .read) 0 && ltb (lastSaid (s .sheet .settings
 abbrev pub isSetting : State → List (List ℕ) → ℕ → ℕ → Bool
 isSetting s fs i tag = letter tag (getD fs 0 []) && mayStand i s
 
+-- "A block may be written `G` .. in place of `B`"
+abbrev pub isRange : State → List (List ℕ) → Bool
+isRange s fs = letter 71 (getD fs 0 []) && (s .begun && ltb 0 (s .left))
+
 -- The tag that a line with the fields fs is read by: its own where it may stand here, else the due one, whose rule then gives 1
 unfoldable pub lineTag : State → List (List ℕ) → ℕ
-lineTag s fs = cond (isSetting s fs 1 70) 70 (cond (isSetting s fs 2 65) 65 (dueTag s))
+lineTag s fs = cond (isSetting s fs 1 70) 70 (cond (isSetting s fs 2 65) 65 (cond (isRange s fs) 71 (dueTag s)))
 
 -- one more setting
 abbrev pub withSetting : Settings → Setting → Settings
@@ -147,7 +151,7 @@ readFrom limits s h at (p ∷ rest) =
     onFault (lineFault rs p rest) at
     (cond (eqb tag 69)
     (cond (nothingLeft rest) (contents (s .sheet) h) (Refused 7 (at + 1)))
-    (onTaken (takenOf s (recordOf tag fs)) at (λ t. readFrom limits t (holding h rs fs) (at + 1) rest)))
+    (onTaken (takenOf s (recordOf tag fs)) at (λ t. readFrom limits t (holding h tag rs fs) (at + 1) rest)))
 
 -- What a caller may allow: a side limit that could be a side, and a limit of iterations "from 0 to 1,000" (M-106)
 abbrev pub allowed : Limits → Bool
@@ -156,4 +160,4 @@ allowed limits = isSide 512 (limits .side) && leb (limits .iterations) 1000
 -- A text at the caller's limits. The side limit is 512 in the library; "W and H above 32 are 2 there, at that field" in `smooth`.
 -- "a parameter above 1,000 is 2, line 0, before the text is read", and so is a side limit that no caller may set.
 unfoldable pub readText : Limits → List ℕ → Outcome Contents
-readText limits text = cond (allowed limits) (readFrom limits blank (held [] []) 1 (split 10 text)) (Refused 2 0)
+readText limits text = cond (allowed limits) (readFrom limits blank nothing 1 (split 10 text)) (Refused 2 0)

@@ -1,7 +1,10 @@
 -- What the walk over a text promises its two callers.
-use Prim.Native.Nat.{ℕ, zero, suc, _+_, _<_}
+use Prim.Native.Nat.{ℕ, zero, suc, _+_, _%_, _<_}
 use mathlib.Core.Path.{_≡_}
 use mathlib.Core.List.{List, []}
+use mathlib.Core.Bool.{cond}
+use lib.Dec.{eqb}
+use lib.IntN.{ℤ, pos}
 use lib.ListN.{length, getD}
 use lib.Seq.{sets}
 use Rattle.text.specs.declared.field.Rule.{Rule}
@@ -15,7 +18,7 @@ use Rattle.sheet.specs.declared.line.Record.the-variants as line
 use Rattle.sheet.specs.declared.state.State.{State}
 use Rattle.sheet.specs.declared.walk.Walked.{Walked}
 use Rattle.sheet.specs.declared.walk.Walked.the-variants as walked
-use Rattle.contents.specs.Sheets.{Held}
+use Rattle.contents.specs.Sheets.{Lent}
 use Rattle.sheet.specs.Reading.{Outcome, Contents, readText}
 use Rattle.sheet.specs.Reading.Outcome.{Gives, Refused}
 
@@ -31,6 +34,18 @@ abbrev pub saidBefore : List Rule → List (List ℕ) → ℕ → Field
 saidBefore rs fs zero = field.Good
 saidBefore rs fs (suc i) = fieldOf (getD rs i (rule.Tag 0)) (getD fs i [])
 
+-- The rule of field i of a line `G`, by what the field before it said
+abbrev pub lowSaid : Field → ℤ
+lowSaid (field.Bad k) = pos 0
+lowSaid (field.Quantiser q) = pos 0
+lowSaid (field.Level z) = pos 0
+lowSaid (field.Low z) = z
+lowSaid (field.High z) = pos 0
+lowSaid field.Good = pos 0
+
+abbrev pub rangeRule : ℕ → Field → Rule
+rangeRule i last = cond (eqb i 0) (rule.Tag 71) (cond (eqb (i % 2) 1) rule.Low (rule.High (lowSaid last)))
+
 -- The values vs were stored from place n on, as far as there is room, and r is the next place
 pub record Stored {A : Type 0} (entry exit : List A) (n r : ℕ) (vs : List A) : Type 0 where
   pub next : r ≡ n + length vs
@@ -38,14 +53,15 @@ pub record Stored {A : Type 0} (entry exit : List A) (n r : ℕ) (vs : List A) :
 
 -- The answer of a walk
 abbrev pub walkedOf : Outcome Contents → Walked
-walkedOf (Gives c) = walked.Sheet (c .sheet) (length (c .held .levels)) (length (c .held .tables))
+walkedOf (Gives c) = walked.Sheet (c .sheet) (length (c .held .lent .lows)) (length (c .held .lent .highs)) (length (c .held .lent .tables))
 walkedOf (Refused k line) = walked.Refused k line
 
 -- A legal text's levels and quantisers were stored, as far as there is room
-abbrev pub Stores : Outcome Contents → Held → Held → Type 0
-Stores (Gives c) lent after = (after .levels ≡ sets (lent .levels) 0 (c .held .levels)) × (after .tables ≡ sets (lent .tables) 0 (c .held .tables))
-Stores (Refused k line) lent after = Unit {0}
+abbrev pub Stores : Outcome Contents → Lent → Lent → Type 0
+Stores (Gives c) into after =
+    (after .lows ≡ sets (into .lows) 0 (c .held .lent .lows)) × (after .highs ≡ sets (into .highs) 0 (c .held .lent .highs)) × (after .tables ≡ sets (into .tables) 0 (c .held .lent .tables))
+Stores (Refused k line) into after = Unit {0}
 
-pub record Walks (limits : Limits) (text : List ℕ) (lent after : Held) (r : Walked) : Type 0 where
+pub record Walks (limits : Limits) (text : List ℕ) (into after : Lent) (r : Walked) : Type 0 where
   pub answer : r ≡ walkedOf (readText limits text)
-  pub stored : Stores (readText limits text) lent after
+  pub stored : Stores (readText limits text) into after

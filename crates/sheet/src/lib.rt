@@ -7,10 +7,12 @@ use crate::walk::Walked;
 use contents::Limits;
 use contents::Sheet;
 ghost use mathlib.Core.Path.{_≡_};
-ghost use Rattle.contents.specs.Sheets.{held};
+ghost use Rattle.contents.specs.Sheets.{lent};
+ghost use Rattle.sheet.specs.Reading.{readText};
 ghost use Rattle.sheet.specs.Calls.{measuring, measuredSays, Reads};
+ghost use Rattle.sheet.specs.Walk.{walkedOf};
 
-// The answer of measuring: the lengths of the levels and tables buffers, or a refusal.
+// The answer of measuring: the length of the two levels buffers, lows and highs, and that of the tables, or a refusal.
 pub enum Measured {
     Lengths { levels: usize, tables: usize },
     Refused { number: u8, line: usize },
@@ -22,18 +24,27 @@ pub enum Answer {
     Refused { number: u8, line: usize },
 }
 
-// The lengths that reading needs, or the refusal that it gives. A side or an iteration count above its limit is refused, and so are
-// limits that no caller may set.
+// A walk that keeps no level and no quantiser.
+fn count(text: &[u8], limits: Limits) -> Walked
+    ensures { λ r. ⌜ r ≡ walkedOf (readText limits (now (text .entry))) ⌝ }
+{
+    let mut lows = [0i16; 1];
+    let mut highs = [0i16; 1];
+    let mut tables = [0u16; 1];
+    walk::walk(text, limits, &mut lows, &mut highs, &mut tables)
+}
+
+// The lengths that reading needs, or the refusal that it gives. A side or an iteration count above the limit is refused, and so
+// are limits that no caller may set.
 // Ruled out: lengths for a text with a byte after E; a refusal at a later line than the first bad one.
 pub fn measure(text: &[u8], limits: Limits) -> Measured
     ensures { λ r. ⌜ measuredSays r ≡ measuring limits (now (text .entry)) ⌝ }
 {
-    let mut levels = [0i16; 1];
-    let mut tables = [0u16; 1];
-    match walk::walk(text, limits, &mut levels, &mut tables) {
+    match count(text, limits) {
         Walked::Sheet {
             sheet: _,
-            levels: n,
+            lows: n,
+            highs: _,
             tables: m,
         } => Measured::Lengths {
             levels: n,
@@ -43,28 +54,42 @@ pub fn measure(text: &[u8], limits: Limits) -> Measured
     }
 }
 
-// Reads a sheet into the lent buffers. They are written only once the whole text and both lengths are good.
-// Ruled out: a level stored before a later line is refused; 8 given for a text that is itself refused.
-pub fn read(text: &[u8], limits: Limits, levels: &mut [i16], tables: &mut [u16]) -> Answer
-    ensures { λ r. ⌜ Reads limits (now (text .entry)) (held (now (levels .entry)) (now (tables .entry))) (held (now (levels .exit)) (now (tables .exit))) r ⌝ }
+// Reads a sheet into the lent buffers: of each place the lowest and the highest level, and the tables. They are written only
+// once the whole text and all lengths are good.
+// Ruled out: a level stored before a later line is refused; a range's high in the lows; 8 given for a text that is itself
+// refused.
+pub fn read(
+    text: &[u8],
+    limits: Limits,
+    lows: &mut [i16],
+    highs: &mut [i16],
+    tables: &mut [u16],
+) -> Answer
+    ensures { λ r. ⌜ Reads limits (now (text .entry)) (lent (now (lows .entry)) (now (highs .entry)) (now (tables .entry))) (lent (now (lows .exit)) (now (highs .exit)) (now (tables .exit))) r ⌝ }
 {
-    let measured = measure(text, limits);
-    match measured {
-        Measured::Refused { number, line } => Answer::Refused { number, line },
-        Measured::Lengths {
-            levels: n,
+    let counted = count(text, limits);
+    match counted {
+        Walked::Refused { number, line } => Answer::Refused { number, line },
+        Walked::Sheet {
+            sheet: _,
+            lows: n,
+            highs: h,
             tables: m,
         } => {
-            if n != levels.len() {
+            if n != lows.len() {
+                return Answer::Refused { number: 8, line: 0 };
+            }
+            if h != highs.len() {
                 return Answer::Refused { number: 8, line: 0 };
             }
             if m != tables.len() {
                 return Answer::Refused { number: 8, line: 0 };
             }
-            match walk::walk(text, limits, levels, tables) {
+            match walk::walk(text, limits, lows, highs, tables) {
                 Walked::Sheet {
                     sheet,
-                    levels: _,
+                    lows: _,
+                    highs: _,
                     tables: _,
                 } => Answer::Sheet(sheet),
                 Walked::Refused { number, line } => Answer::Refused { number, line },

@@ -14,7 +14,7 @@ ghost use Prim.Native.Nat.{_<_};
 ghost use lib.ListN.{getD};
 ghost use Rattle.text.specs.Pieces.{split};
 ghost use Rattle.sheet.specs.Lines.{headerRules, choiceRules, choiceOf, channelRules, blockRules, rulesOf, fieldCount, headerOf, channelOf, recordOf};
-ghost use Rattle.sheet.specs.Walk.{saidBefore};
+ghost use Rattle.sheet.specs.Walk.{saidBefore, rangeRule};
 
 // A setting's line: F or A.
 pub enum Setting {
@@ -42,6 +42,9 @@ pub fn field_count(tag: u8) -> usize
     }
     if tag == b'B' {
         return 65;
+    }
+    if tag == b'G' {
+        return 129;
     }
     if tag == b'F' {
         return 2;
@@ -115,6 +118,22 @@ fn block_rule(i: usize) -> Rule
     if i == 0 { Rule::Tag(b'B') } else { Rule::Level }
 }
 
+// A block with 64 pairs: tag, then low and high by turns. A high's rule has the low before it.
+fn range_rule(i: usize, last: Field) -> Rule
+    ensures { λ r. ⌜ r ≡ rangeRule i last ⌝ }
+{
+    if i == 0 {
+        return Rule::Tag(b'G');
+    }
+    if i % 2 == 1 {
+        return Rule::Low;
+    }
+    let Field::Low(z) = last else {
+        return Rule::High(0);
+    };
+    Rule::High(z)
+}
+
 // A setting with one of two letters.
 fn choice_rule(i: usize, tag: u8, a: u8, b: u8) -> Rule
     requires { ⌜ i < 2 ⌝ }
@@ -133,6 +152,9 @@ pub fn rule_at(tag: u8, i: usize, limits: Limits, header: Header, last: Field, r
 {
     if tag == b'B' {
         return block_rule(i);
+    }
+    if tag == b'G' {
+        return range_rule(i, last);
     }
     if tag == b'C' {
         return channel_rule(i);

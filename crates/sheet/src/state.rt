@@ -14,7 +14,7 @@ ghost use Rattle.contents.specs.Sheets.{noHeader, noChannel};
 ghost use Prim.Native.Nat.{_<_};
 ghost use Rattle.sheet.specs.Walk.{Due};
 ghost use Rattle.text.specs.Pieces.{split};
-ghost use Rattle.sheet.specs.Reading.{blank, headed, placed, dueTag, unsaid, lastSaid, mayStand, isSetting, lineTag, withSetting, settled, takenOf};
+ghost use Rattle.sheet.specs.Reading.{blank, headed, placed, dueTag, unsaid, lastSaid, mayStand, isSetting, isRange, lineTag, withSetting, settled, takenOf};
 
 // The sheet so far: whether the header was read, how many channels were, and how many blocks of the last are still to come.
 pub struct State {
@@ -163,6 +163,19 @@ fn is_setting(s: State, row: &[u8], i: u32, tag: u8) -> bool
     false
 }
 
+// Is this the line of a block with ranges, and may it stand here?
+fn is_range(s: State, row: &[u8]) -> bool
+    ensures { λ r. ⌜ r ≡ isRange s (split 9 (now (row .entry))) ⌝ }
+{
+    if field::letter_at(row, 0, b'G') {
+        if s.begun {
+            return 0 < s.left;
+        }
+        return false;
+    }
+    false
+}
+
 // The tag that the next line is read by: its own where it may stand here, else the due one.
 pub fn expected(s: State, row: &[u8]) -> u8
     ensures { λ r. ⌜ r ≡ lineTag s (split 9 (now (row .entry))) ⌝ }
@@ -172,6 +185,9 @@ pub fn expected(s: State, row: &[u8]) -> u8
     }
     if is_setting(s, row, 2, b'A') {
         return b'A';
+    }
+    if is_range(s, row) {
+        return b'G';
     }
     due(s)
 }

@@ -8,17 +8,19 @@ use text::field;
 use text::field::Field;
 use text::pieces;
 ghost use mathlib.Core.Path.{_≡_};
+ghost use mathlib.Core.List.{[], _∷_};
 ghost use Prim.Native.Nat.{_+_, _^_, _<_};
-ghost use Rattle.text.specs.Fields.{levelsIn, tablesIn};
-ghost use Rattle.contents.specs.Sheets.{held};
+ghost use Rattle.text.specs.Fields.{lowsIn, highsIn, tablesIn};
+ghost use Rattle.contents.specs.Sheets.{lent};
 ghost use Rattle.sheet.specs.Reading.{allowed};
 ghost use Rattle.sheet.specs.Walk.{Stored, Walks};
 
-// What a walk of a text gives: the sheet with how many levels and quantisers it has, or a refusal and its line.
+// What a walk of a text gives: the sheet with how many lows, highs and quantisers it has, or a refusal and its line.
 pub enum Walked {
     Sheet {
         sheet: Sheet,
-        levels: usize,
+        lows: usize,
+        highs: usize,
         tables: usize,
     },
     Refused {
@@ -44,18 +46,39 @@ fn are_allowed(limits: Limits) -> bool
 }
 
 // A level goes to its place, if there is room. Returns the next place.
-fn put_level(f: Field, levels: &mut [i16], at: usize) -> usize
+fn put(v: i16, levels: &mut [i16], at: usize) -> usize
     requires { ⌜ at + 1 < 2 ^ 64 ⌝ }
-    ensures { λ r. ⌜ Stored (now (levels .entry)) (now (levels .exit)) at r (levelsIn f) ⌝ }
+    ensures { λ r. ⌜ Stored (now (levels .entry)) (now (levels .exit)) at r (v ∷ []) ⌝ }
 {
-    let Field::Level(v) = f else {
-        return at;
-    };
     if levels.len() <= at {
         return at + 1;
     }
     levels[at] = v;
     at + 1
+}
+
+// A level, and the lowest of a range, goes to the lows.
+fn put_low(f: Field, lows: &mut [i16], at: usize) -> usize
+    requires { ⌜ at + 1 < 2 ^ 64 ⌝ }
+    ensures { λ r. ⌜ Stored (now (lows .entry)) (now (lows .exit)) at r (lowsIn f) ⌝ }
+{
+    match f {
+        Field::Level(v) => put(v, lows, at),
+        Field::Low(v) => put(v, lows, at),
+        _ => at,
+    }
+}
+
+// A level, and the highest of a range, goes to the highs.
+fn put_high(f: Field, highs: &mut [i16], at: usize) -> usize
+    requires { ⌜ at + 1 < 2 ^ 64 ⌝ }
+    ensures { λ r. ⌜ Stored (now (highs .entry)) (now (highs .exit)) at r (highsIn f) ⌝ }
+{
+    match f {
+        Field::Level(v) => put(v, highs, at),
+        Field::High(v) => put(v, highs, at),
+        _ => at,
+    }
 }
 
 // A quantiser likewise.
@@ -75,8 +98,14 @@ fn put_quantiser(f: Field, tables: &mut [u16], at: usize) -> usize
 
 // Reads a whole text and stops at the first bad field of the first bad line. Levels and quantisers go to the lent buffers as
 // far as there is room.
-pub fn walk(text: &[u8], limits: Limits, levels: &mut [i16], tables: &mut [u16]) -> Walked
-    ensures { λ r. ⌜ Walks limits (now (text .entry)) (held (now (levels .entry)) (now (tables .entry))) (held (now (levels .exit)) (now (tables .exit))) r ⌝ }
+pub fn walk(
+    text: &[u8],
+    limits: Limits,
+    lows: &mut [i16],
+    highs: &mut [i16],
+    tables: &mut [u16],
+) -> Walked
+    ensures { λ r. ⌜ Walks limits (now (text .entry)) (lent (now (lows .entry)) (now (highs .entry)) (now (tables .entry))) (lent (now (lows .exit)) (now (highs .exit)) (now (tables .exit))) r ⌝ }
 {
     if !are_allowed(limits) {
         return Walked::Refused { number: 2, line: 0 };
@@ -84,7 +113,8 @@ pub fn walk(text: &[u8], limits: Limits, levels: &mut [i16], tables: &mut [u16])
     let mut state = state::nothing();
     let mut at: usize = 0;
     let mut line: usize = 1;
-    let mut held: usize = 0;
+    let mut low: usize = 0;
+    let mut high: usize = 0;
     let mut listed: usize = 0;
     let answer: Walked = 'lines: loop {
         // the line's length, then its end, then tag and field count
@@ -115,7 +145,8 @@ pub fn walk(text: &[u8], limits: Limits, levels: &mut [i16], tables: &mut [u16])
             if let Field::Bad(number) = f {
                 break 'lines Walked::Refused { number, line };
             }
-            held = put_level(f, levels, held);
+            low = put_low(f, lows, low);
+            high = put_high(f, highs, high);
             listed = put_quantiser(f, tables, listed);
             last = f;
             a = e + 1;
@@ -126,7 +157,8 @@ pub fn walk(text: &[u8], limits: Limits, levels: &mut [i16], tables: &mut [u16])
             if end + 1 == text.len() {
                 break 'lines Walked::Sheet {
                     sheet,
-                    levels: held,
+                    lows: low,
+                    highs: high,
                     tables: listed,
                 };
             }

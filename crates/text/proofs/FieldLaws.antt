@@ -6,19 +6,29 @@ use mathlib.Core.Bool.{Bool, true, false}
 use native.Mathlib.Omega.{arith}
 use lib.ListN.{length, getD, drop, take}
 use lib.Dec.{eqb}
+use lib.IntN.{ℤ}
+use lib.Signed.{mag, leZ}
+use mir.Syntax.{w16}
+use mir.Val.{toZ, ofZ}
+use mir.Facts.{toZ-ofZ}
 use borrow.Author.Tests.{eq-eqb, ne-eqb, le-leb, lt-leb}
 use Rattle.text.specs.declared.number.Number.{Number}
 use Rattle.text.specs.declared.number.Number.the-variants as number
 use Rattle.contents.specs.declared.Weight.{Weight}
 use Rattle.text.specs.declared.weight.WeightField.{WeightField}
 use Rattle.text.specs.declared.weight.WeightField.the-variants as weight-field
+use Rattle.text.specs.declared.level.LevelField.{LevelField}
+use Rattle.text.specs.declared.level.LevelField.the-variants as level-field
+use Rattle.text.specs.declared.field.Rule.{Rule}
 use Rattle.text.specs.declared.field.Rule.the-variants as rule
+use Rattle.text.specs.declared.field.Field.{Field}
 use Rattle.text.specs.declared.field.Field.the-variants as field
 use Rattle.text.specs.declared.pieces.Span.{Span}
 use Rattle.text.specs.Pieces.{split}
 use Rattle.text.specs.Cursor.{IsField}
 use Rattle.text.specs.Numbers.{numberOf}
 use Rattle.text.specs.Weights.{weightOf}
+use Rattle.text.specs.Levels.{levelOf}
 use Rattle.text.specs.Fields.{letter, fieldOf}
 
 -- One letter
@@ -170,4 +180,61 @@ module _ (f : List ℕ) (r : WeightField) (e : r ≡ weightOf f) where
   unfolding fieldOf
   weight-bad k p = rw (sym e ∙ p)
 
-pub ruleset fields = (count-not, count-high, count-page, count-in, range-not, range-low, range-high, range-in, side-not, side-odd, side-low, side-high, side-in, channels-not, channels-one, channels-three, channels-other, quantiser-not, quantiser-low, quantiser-high, quantiser-in, tag-is, tag-not, letters-first, letters-second, letters-not, weight-is, weight-bad)
+-- Levels, and the ends of a range
+
+module _ (f : List ℕ) (z : ℤ) (e : levelOf f ≡ level-field.Is z) where
+  pub level-of : fieldOf rule.Level f ≡ field.Level z
+  unfolding fieldOf
+  level-of = rw e
+
+  pub low-of : fieldOf rule.Low f ≡ field.Low z
+  unfolding fieldOf
+  low-of = rw e
+
+  pub high-of : (low : ℤ) → leZ low z ≡ true → fieldOf (rule.High low) f ≡ field.High z
+  unfolding fieldOf
+  high-of low h = rw (e, h)
+
+module _ (f : List ℕ) (r : LevelField) (e : r ≡ levelOf f) where
+  -- an i16 is handed on by its bits
+  module _ (z : ℤ) (p : r ≡ level-field.Is z) (m : mag z < 32768) where
+    bits : toZ w16 (ofZ w16 z) ≡ z
+    bits = toZ-ofZ {w = w16} {z = z} (record { sfits = m })
+
+    pub level-is : field.Level (toZ w16 (ofZ w16 z)) ≡ fieldOf rule.Level f
+    unfolding fieldOf
+    level-is = rw (bits, sym e ∙ p)
+
+    pub low-is : field.Low (toZ w16 (ofZ w16 z)) ≡ fieldOf rule.Low f
+    unfolding fieldOf
+    low-is = rw (bits, sym e ∙ p)
+
+    module _ (low : ℤ) (n : mag low < 32768) (b : Bool) (q : b ≡ leZ (toZ w16 (ofZ w16 low)) (toZ w16 (ofZ w16 z))) where
+      ordered : b ≡ leZ low z
+      ordered = q ∙ rw (bits, toZ-ofZ {w = w16} {z = low} (record { sfits = n }))
+
+      pub high-is : b ≡ true → field.High (toZ w16 (ofZ w16 z)) ≡ fieldOf (rule.High low) f
+      unfolding fieldOf
+      high-is o = rw (bits, sym e ∙ p, sym ordered ∙ o)
+
+      pub high-below : b ≡ false → field.Bad 14 ≡ fieldOf (rule.High low) f
+      unfolding fieldOf
+      high-below o = rw (sym e ∙ p, sym ordered ∙ o)
+
+  module _ (k : ℕ) (p : r ≡ level-field.Bad k) where
+    pub level-bad : field.Bad k ≡ fieldOf rule.Level f
+    unfolding fieldOf
+    level-bad = rw (sym e ∙ p)
+
+    pub low-bad : field.Bad k ≡ fieldOf rule.Low f
+    unfolding fieldOf
+    low-bad = rw (sym e ∙ p)
+
+    pub high-bad : (low : ℤ) → field.Bad k ≡ fieldOf (rule.High low) f
+    unfolding fieldOf
+    high-bad low = rw (sym e ∙ p)
+
+pub high-rule : (f : List ℕ) (x : Rule) (r : Field) (low : ℤ) → x ≡ rule.High low → mag low < 32768 → r ≡ fieldOf (rule.High (toZ w16 (ofZ w16 low))) f → r ≡ fieldOf x f
+high-rule f x r low e n q = rw (e, ← toZ-ofZ {w = w16} {z = low} (record { sfits = n })) q
+
+pub ruleset fields = (high-rule, level-is, level-bad, low-is, low-bad, high-is, high-below, high-bad, count-not, count-high, count-page, count-in, range-not, range-low, range-high, range-in, side-not, side-odd, side-low, side-high, side-in, channels-not, channels-one, channels-three, channels-other, quantiser-not, quantiser-low, quantiser-high, quantiser-in, tag-is, tag-not, letters-first, letters-second, letters-not, weight-is, weight-bad)

@@ -1,4 +1,4 @@
--- What a field with no fault says, and which fields add nothing to the levels or the tables.
+-- What a field with no fault says, and which fields add nothing to the levels or to the tables.
 use Prim.Native.Nat.{ℕ, zero, suc, _%_, _≤_}
 use mathlib.Core.Path.{_≡_, refl}
 use mathlib.Core.List.{List, [], _∷_}
@@ -8,12 +8,15 @@ use mathlib.Core.Option.{none, some}
 use native.Mathlib.Omega.{arith}
 use lib.Dec.{eqb, leb, ltb}
 use lib.IntN.{ℤ, pos, negℤ}
+use lib.Signed.{leZ}
 use borrow.Author.Tests.{eqb-true, leb-true, ltb-true}
 use Rattle.text.specs.declared.number.Number.{Number}
 use Rattle.text.specs.declared.number.Number.the-variants as number
 use Rattle.contents.specs.declared.Weight.the-variants as weight
 use Rattle.text.specs.declared.weight.WeightField.{WeightField}
 use Rattle.text.specs.declared.weight.WeightField.the-variants as weight-field
+use Rattle.text.specs.declared.level.LevelField.{LevelField}
+use Rattle.text.specs.declared.level.LevelField.the-variants as level-field
 use Rattle.text.specs.declared.field.Rule.{Rule}
 use Rattle.text.specs.declared.field.Rule.the-variants as rule
 use Rattle.text.specs.declared.field.Field.{Field}
@@ -22,7 +25,7 @@ use Rattle.text.specs.Numbers.{numberOf, numberValue}
 use Rattle.text.specs.Weights.{bitForm, wholeWeight, orWhole, afterLetter, weightOf, weightIn}
 use Rattle.contents.specs.Legal.{Between, LegalSide, LegalWeight, LegalLevel}
 use Rattle.text.specs.Levels.{fromZero, belowZero, levelOf}
-use Rattle.text.specs.Fields.{letter, isSide, numberField, countField, quantiserField, weightField, fieldOf, faultIn, levelsIn, tablesIn}
+use Rattle.text.specs.Fields.{letter, isSide, numberField, countField, quantiserField, weightField, levelField, lowField, highField, fieldOf, faultIn, lowsIn, highsIn, tablesIn}
 use Rattle.digits.proofs.Both.{both-left, both-right}
 
 -- Tests
@@ -135,43 +138,76 @@ pub quantiser-good : (f : List ℕ) → faultIn (fieldOf rule.Quantiser f) ≡ n
 unfolding fieldOf
 quantiser-good f e = table-good (numberOf f) e
 
-abbrev OneLevel : Field → Type 0
-OneLevel x = (z : ℤ) × (x ≡ field.Level z) × LegalLevel z
+abbrev OneLevel : LevelField → Type 0
+OneLevel r = (z : ℤ) × (r ≡ level-field.Is z) × LegalLevel z
 
-from-zero : (r : Number) → faultIn (fromZero r) ≡ none → OneLevel (fromZero r)
-from-zero (number.Is n) e = two (leb n 2047) refl e
+-- no level
+abbrev Wrong : LevelField → Type 0
+Wrong r = (k : ℕ) × (r ≡ level-field.Bad k)
+
+from-zero : (r : Number) → OneLevel (fromZero r) ⊎ Wrong (fromZero r)
+from-zero (number.Is n) = two (leb n 2047) refl
   where
-    two : (a : Bool) → leb n 2047 ≡ a → faultIn (cond a (field.Level (pos n)) (field.Bad 5)) ≡ none → OneLevel (cond a (field.Level (pos n)) (field.Bad 5))
-    two true p o = (pos n, refl, leb-true n 2047 p)
-    two false p o = never o
-from-zero number.Not e = never e
+    two : (a : Bool) → leb n 2047 ≡ a → OneLevel (cond a (level-field.Is (pos n)) (level-field.Bad 5)) ⊎ Wrong (cond a (level-field.Is (pos n)) (level-field.Bad 5))
+    two true p = inl (pos n, refl, leb-true n 2047 p)
+    two false p = inr (5, refl)
+from-zero number.Not = inr (1, refl)
 
 minus : (n : ℕ) → n ≤ 2047 → LegalLevel (negℤ (pos n))
 minus zero h = omega arith
 minus (suc n) h = omega arith
 
-below-zero : (r : Number) → faultIn (belowZero r) ≡ none → OneLevel (belowZero r)
-below-zero (number.Is n) e = two (eqb n 0) (leb n 2047) refl e
+below-zero : (r : Number) → OneLevel (belowZero r) ⊎ Wrong (belowZero r)
+below-zero (number.Is n) = two (eqb n 0) (leb n 2047) refl
   where
     two : (a b : Bool) → leb n 2047 ≡ b
-        → faultIn (cond a (field.Bad 1) (cond b (field.Level (negℤ (pos n))) (field.Bad 5))) ≡ none
-        → OneLevel (cond a (field.Bad 1) (cond b (field.Level (negℤ (pos n))) (field.Bad 5)))
-    two true b p o = never o
-    two false true p o = (negℤ (pos n), refl, minus n (leb-true n 2047 p))
-    two false false p o = never o
-below-zero number.Not e = never e
+        → OneLevel (cond a (level-field.Bad 1) (cond b (level-field.Is (negℤ (pos n))) (level-field.Bad 5)))
+        ⊎ Wrong (cond a (level-field.Bad 1) (cond b (level-field.Is (negℤ (pos n))) (level-field.Bad 5)))
+    two true b p = inr (1, refl)
+    two false true p = inl (negℤ (pos n), refl, minus n (leb-true n 2047 p))
+    two false false p = inr (5, refl)
+below-zero number.Not = inr (1, refl)
 
-pub level-good : (f : List ℕ) → faultIn (fieldOf rule.Level f) ≡ none → (z : ℤ) × (fieldOf rule.Level f ≡ field.Level z) × LegalLevel z
-unfolding fieldOf levelOf
-level-good [] e = never e
-level-good (b ∷ l) e = two (eqb b 45) e
+-- what a level's field says: a legal level, or a fault
+level-or : (f : List ℕ) → OneLevel (levelOf f) ⊎ Wrong (levelOf f)
+unfolding levelOf
+level-or [] = inr (1, refl)
+level-or (b ∷ l) = two (eqb b 45)
   where
-    two : (a : Bool) → faultIn (cond a (belowZero (numberOf l)) (fromZero (numberOf (b ∷ l)))) ≡ none
-        → OneLevel (cond a (belowZero (numberOf l)) (fromZero (numberOf (b ∷ l))))
-    two true o = below-zero (numberOf l) o
-    two false o = from-zero (numberOf (b ∷ l)) o
+    two : (a : Bool) → OneLevel (cond a (belowZero (numberOf l)) (fromZero (numberOf (b ∷ l)))) ⊎ Wrong (cond a (belowZero (numberOf l)) (fromZero (numberOf (b ∷ l))))
+    two true = below-zero (numberOf l)
+    two false = from-zero (numberOf (b ∷ l))
 
--- Only a quantiser adds to the tables, only a level to the levels
+pub level-good : (f : List ℕ) → faultIn (fieldOf rule.Level f) ≡ none → OneLevel (levelOf f)
+unfolding fieldOf
+level-good f e = by (level-or f)
+  where
+    by : OneLevel (levelOf f) ⊎ Wrong (levelOf f) → OneLevel (levelOf f)
+    by (inl g) = g
+    by (inr w) = never (rw (w .1) at e)
+
+pub low-good : (f : List ℕ) → faultIn (fieldOf rule.Low f) ≡ none → OneLevel (levelOf f)
+unfolding fieldOf
+low-good f e = by (level-or f)
+  where
+    by : OneLevel (levelOf f) ⊎ Wrong (levelOf f) → OneLevel (levelOf f)
+    by (inl g) = g
+    by (inr w) = never (rw (w .1) at e)
+
+-- the highest level of a range is not below its lowest
+pub high-good : (low : ℤ) (f : List ℕ) → faultIn (fieldOf (rule.High low) f) ≡ none → (z : ℤ) × (levelOf f ≡ level-field.Is z) × LegalLevel z × (leZ low z ≡ true)
+unfolding fieldOf
+high-good low f e = by (level-or f)
+  where
+    above : (z : ℤ) (b : Bool) → leZ low z ≡ b → faultIn (cond b (field.High z) (field.Bad 14)) ≡ none → leZ low z ≡ true
+    above z true p o = p
+    above z false p o = never o
+
+    by : OneLevel (levelOf f) ⊎ Wrong (levelOf f) → (z : ℤ) × (levelOf f ≡ level-field.Is z) × LegalLevel z × (leZ low z ≡ true)
+    by (inl g) = (g .0, g .1, g .2, above (g .0) (leZ low (g .0)) refl (rw (g .1) at e))
+    by (inr w) = never (rw (w .1) at e)
+
+-- Only a quantiser adds to the tables, only levels to the lows and the highs
 
 abbrev pub addsTable : Rule → Bool
 addsTable (rule.Tag t) = false
@@ -183,6 +219,8 @@ addsTable (rule.Letters a b) = false
 addsTable rule.Weight = false
 addsTable rule.Quantiser = true
 addsTable rule.Level = false
+addsTable rule.Low = false
+addsTable (rule.High low) = false
 
 abbrev pub addsLevel : Rule → Bool
 addsLevel (rule.Tag t) = false
@@ -194,64 +232,59 @@ addsLevel (rule.Letters a b) = false
 addsLevel rule.Weight = false
 addsLevel rule.Quantiser = false
 addsLevel rule.Level = true
+addsLevel rule.Low = true
+addsLevel (rule.High low) = true
 
--- a field that is good or bad and holds nothing
+-- a field that holds no level, and one that holds no quantiser
+abbrev NoLevel : Field → Type 0
+NoLevel x = (lowsIn x ≡ []) × (highsIn x ≡ [])
+
 abbrev Bare : Field → Type 0
-Bare x = (tablesIn x ≡ []) × (levelsIn x ≡ [])
+Bare x = (tablesIn x ≡ []) × NoLevel x
 
 bare-cond : (b : Bool) (k : ℕ) → Bare (cond b field.Good (field.Bad k))
-bare-cond true k = (refl, refl)
-bare-cond false k = (refl, refl)
+bare-cond true k = (refl, (refl, refl))
+bare-cond false k = (refl, (refl, refl))
 
 bare-number : (k : ℕ) (ok : ℕ → Bool) (r : Number) → Bare (numberField k ok r)
 bare-number k ok (number.Is n) = bare-cond (ok n) k
-bare-number k ok number.Not = (refl, refl)
+bare-number k ok number.Not = (refl, (refl, refl))
 
 bare-count : (most : ℕ) (r : Number) → Bare (countField most r)
 bare-count most (number.Is n) = two (leb n 1000) (leb n most)
   where
     two : (a b : Bool) → Bare (cond a (cond b field.Good (field.Bad 15)) (field.Bad 2))
     two true b = bare-cond b 15
-    two false b = (refl, refl)
-bare-count most number.Not = (refl, refl)
+    two false b = (refl, (refl, refl))
+bare-count most number.Not = (refl, (refl, refl))
 
 bare-weight : (r : WeightField) → Bare (weightField r)
-bare-weight (weight-field.Is w) = (refl, refl)
-bare-weight (weight-field.Bad k) = (refl, refl)
+bare-weight (weight-field.Is w) = (refl, (refl, refl))
+bare-weight (weight-field.Bad k) = (refl, (refl, refl))
 
-no-level : (r : Number) → levelsIn (quantiserField r) ≡ []
+no-level : (r : Number) → NoLevel (quantiserField r)
 no-level (number.Is n) = two (leb 1 n && leb n 255)
   where
-    two : (b : Bool) → levelsIn (cond b (field.Quantiser n) (field.Bad 4)) ≡ []
+    two : (b : Bool) → NoLevel (cond b (field.Quantiser n) (field.Bad 4))
+    two true = (refl, refl)
+    two false = (refl, refl)
+no-level number.Not = (refl, refl)
+
+no-table : (r : LevelField) → tablesIn (levelField r) ≡ []
+no-table (level-field.Is z) = refl
+no-table (level-field.Bad k) = refl
+
+no-table-low : (r : LevelField) → tablesIn (lowField r) ≡ []
+no-table-low (level-field.Is z) = refl
+no-table-low (level-field.Bad k) = refl
+
+no-table-high : (low : ℤ) (r : LevelField) → tablesIn (highField low r) ≡ []
+no-table-high low (level-field.Is z) = two (leZ low z)
+  where
+    two : (b : Bool) → tablesIn (cond b (field.High z) (field.Bad 14)) ≡ []
     two true = refl
     two false = refl
-no-level number.Not = refl
-
-no-table : (f : List ℕ) → tablesIn (levelOf f) ≡ []
-unfolding levelOf
-no-table [] = refl
-no-table (b ∷ l) = two (eqb b 45)
-  where
-    zero-up : (r : Number) → tablesIn (fromZero r) ≡ []
-    zero-up (number.Is n) = by (leb n 2047)
-      where
-        by : (c : Bool) → tablesIn (cond c (field.Level (pos n)) (field.Bad 5)) ≡ []
-        by true = refl
-        by false = refl
-    zero-up number.Not = refl
-
-    zero-down : (r : Number) → tablesIn (belowZero r) ≡ []
-    zero-down (number.Is n) = by (eqb n 0) (leb n 2047)
-      where
-        by : (a c : Bool) → tablesIn (cond a (field.Bad 1) (cond c (field.Level (negℤ (pos n))) (field.Bad 5))) ≡ []
-        by true c = refl
-        by false true = refl
-        by false false = refl
-    zero-down number.Not = refl
-
-    two : (c : Bool) → tablesIn (cond c (belowZero (numberOf l)) (fromZero (numberOf (b ∷ l)))) ≡ []
-    two true = zero-down (numberOf l)
-    two false = zero-up (numberOf (b ∷ l))
+no-table-high low (level-field.Bad k) = refl
 
 pub tables-none : (r : Rule) (f : List ℕ) → addsTable r ≡ false → tablesIn (fieldOf r f) ≡ []
 unfolding fieldOf
@@ -263,9 +296,11 @@ tables-none rule.Channels f e = bare-number 2 (λ n. eqb n 1 || eqb n 3) (number
 tables-none (rule.Letters a b) f e = bare-cond (letter a f || letter b f) 1 .0
 tables-none rule.Weight f e = bare-weight (weightOf f) .0
 tables-none rule.Quantiser f e = let z : _≡_ {A = ℕ} 0 1 = cc in let y : ⊥ = omega arith in absurd y
-tables-none rule.Level f e = no-table f
+tables-none rule.Level f e = no-table (levelOf f)
+tables-none rule.Low f e = no-table-low (levelOf f)
+tables-none (rule.High low) f e = no-table-high low (levelOf f)
 
-pub levels-none : (r : Rule) (f : List ℕ) → addsLevel r ≡ false → levelsIn (fieldOf r f) ≡ []
+pub levels-none : (r : Rule) (f : List ℕ) → addsLevel r ≡ false → (lowsIn (fieldOf r f) ≡ []) × (highsIn (fieldOf r f) ≡ [])
 unfolding fieldOf
 levels-none (rule.Tag t) f e = bare-cond (letter t f) 1 .1
 levels-none (rule.Range k low high) f e = bare-number k (λ n. leb low n && leb n high) (numberOf f) .1
@@ -276,3 +311,5 @@ levels-none (rule.Letters a b) f e = bare-cond (letter a f || letter b f) 1 .1
 levels-none rule.Weight f e = bare-weight (weightOf f) .1
 levels-none rule.Quantiser f e = no-level (numberOf f)
 levels-none rule.Level f e = let z : _≡_ {A = ℕ} 0 1 = cc in let y : ⊥ = omega arith in absurd y
+levels-none rule.Low f e = let z : _≡_ {A = ℕ} 0 1 = cc in let y : ⊥ = omega arith in absurd y
+levels-none (rule.High low) f e = let z : _≡_ {A = ℕ} 0 1 = cc in let y : ⊥ = omega arith in absurd y

@@ -11,7 +11,7 @@ use mir.Facts.{toZ-pos, toZ-ofZ}
 use borrow.Author.Tests.{eq-eqb, ne-eqb, le-leb, lt-leb}
 use Rattle.text.specs.declared.number.Number.{Number}
 use Rattle.text.specs.declared.number.Number.the-variants as number
-use Rattle.text.specs.declared.field.Field.the-variants as field
+use Rattle.text.specs.declared.level.LevelField.the-variants as level-field
 use Rattle.text.specs.Numbers.{numberOf}
 use Rattle.text.specs.Levels.{fromZero, belowZero, levelOf}
 use Rattle.text.proofs.WeightLaws.{tail-part}
@@ -39,7 +39,7 @@ unfolding levelOf
 level-plus [] h e = let z : ⊥ = omega arith in absurd z
 level-plus (b ∷ l) h e = rw (ne-eqb b 45 e)
 
-pub level-empty : (s : List ℕ) → length s < 1 → field.Bad 1 ≡ levelOf s
+pub level-empty : (s : List ℕ) → length s < 1 → level-field.Bad 1 ≡ levelOf s
 unfolding levelOf
 level-empty [] h = refl
 level-empty (b ∷ l) h = let z : ⊥ = omega arith in absurd z
@@ -49,26 +49,26 @@ module _ (s : List ℕ) (r : Number) (h : 1 ≤ length s) where
     is : r ≡ numberOf (drop 1 s)
     is = e ∙ ap numberOf (tail-part s)
 
-    pub minus-not : r ≡ number.Not → field.Bad 1 ≡ levelOf s
+    pub minus-not : r ≡ number.Not → level-field.Bad 1 ≡ levelOf s
     minus-not p = rw (level-minus s h m, sym is ∙ p)
 
-    pub minus-zero : (n : ℕ) → r ≡ number.Is n → n ≡ 0 → field.Bad 1 ≡ levelOf s
+    pub minus-zero : (n : ℕ) → r ≡ number.Is n → n ≡ 0 → level-field.Bad 1 ≡ levelOf s
     minus-zero n p z = rw (level-minus s h m, sym is ∙ p, eq-eqb n 0 z)
 
-    pub minus-high : (n : ℕ) → r ≡ number.Is n → (n ≡ 0 → ⊥) → 2047 < n → field.Bad 5 ≡ levelOf s
+    pub minus-high : (n : ℕ) → r ≡ number.Is n → (n ≡ 0 → ⊥) → 2047 < n → level-field.Bad 5 ≡ levelOf s
     minus-high n p z u = rw (level-minus s h m, sym is ∙ p, ne-eqb n 0 z, lt-leb n 2047 u)
 
-    pub minus-is : (n : ℕ) → r ≡ number.Is n → (n ≡ 0 → ⊥) → n ≤ 2047 → field.Level (toZ w16 (ofZ w16 (pos 0 -ℤ toZ w16 n))) ≡ levelOf s
-    minus-is n p z u = rw (level-minus s h m, sym is ∙ p, ne-eqb n 0 z, le-leb n 2047 u) (ap field.Level (minus-value n u))
+    pub minus-is : (n : ℕ) → r ≡ number.Is n → (n ≡ 0 → ⊥) → n ≤ 2047 → level-field.Is (toZ w16 (ofZ w16 (pos 0 -ℤ toZ w16 n))) ≡ levelOf s
+    minus-is n p z u = rw (level-minus s h m, sym is ∙ p, ne-eqb n 0 z, le-leb n 2047 u) (ap level-field.Is (minus-value n u))
 
   module _ (m : getD s 0 0 ≡ 45 → ⊥) (e : r ≡ numberOf s) where
-    pub plus-not : r ≡ number.Not → field.Bad 1 ≡ levelOf s
+    pub plus-not : r ≡ number.Not → level-field.Bad 1 ≡ levelOf s
     plus-not p = rw (level-plus s h m, sym e ∙ p)
 
-    pub plus-high : (n : ℕ) → r ≡ number.Is n → 2047 < n → field.Bad 5 ≡ levelOf s
+    pub plus-high : (n : ℕ) → r ≡ number.Is n → 2047 < n → level-field.Bad 5 ≡ levelOf s
     plus-high n p u = rw (level-plus s h m, sym e ∙ p, lt-leb n 2047 u)
 
-    pub plus-is : (n : ℕ) → r ≡ number.Is n → n ≤ 2047 → field.Level (toZ w16 n) ≡ levelOf s
-    plus-is n p u = rw (level-plus s h m, sym e ∙ p, le-leb n 2047 u) (ap field.Level (toZ-small n u))
+    pub plus-is : (n : ℕ) → r ≡ number.Is n → n ≤ 2047 → level-field.Is (toZ w16 n) ≡ levelOf s
+    plus-is n p u = rw (level-plus s h m, sym e ∙ p, le-leb n 2047 u) (ap level-field.Is (toZ-small n u))
 
 pub ruleset levels = (level-empty, minus-fits, minus-not, minus-zero, minus-high, minus-is, plus-not, plus-high, plus-is)

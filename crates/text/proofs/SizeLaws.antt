@@ -8,7 +8,6 @@ use mathlib.Core.Option.{none, some}
 use native.Mathlib.Omega.{arith}
 use lib.ListN.{length, length-append}
 use lib.Dec.{eqb, leb, ltb}
-use lib.IntN.{ℤ}
 use borrow.Author.Tests.{eqb-true, ltb-true, ltb-false}
 use Rattle.text.specs.declared.number.Number.{Number}
 use Rattle.text.specs.declared.number.Number.the-variants as number
@@ -20,12 +19,12 @@ use Rattle.text.specs.declared.field.Field.the-variants as field
 use Rattle.text.specs.Numbers.{numberOf, numberValue}
 use Rattle.text.specs.Weights.{weightOf, weightIn}
 use Rattle.text.specs.Fields.{letter, isSide, numberField, quantiserField, weightField, fieldOf, faultIn}
-use Rattle.text.specs.Written.{weightText, levelText}
+use Rattle.text.specs.Written.{weightText}
 use Rattle.digits.specs.Written.{digitsOf, decimal}
-use Rattle.text.proofs.GoodLaws.{range-good, count-good, channels-good, quantiser-good, level-good, weight-good}
+use Rattle.text.proofs.GoodLaws.{range-good, count-good, channels-good, quantiser-good, weight-good}
 use Rattle.text.proofs.DecimalLaws.{number-canonical}
 use Rattle.digits.proofs.Lengths.{decimal-length}
-use Rattle.text.proofs.SpellingLaws.{weight-canonical, level-canonical, weight-length, level-length}
+use Rattle.text.proofs.SpellingLaws.{weight-canonical, weight-length}
 
 never : {k : ℕ} {A : Type 0} → some k ≡ none → A
 never e = let z : _≡_ {A = ℕ} 0 1 = cc in let y : ⊥ = omega arith in absurd y
@@ -118,7 +117,7 @@ module _ (f : List ℕ) where
   pub letters-short : (t u : ℕ) → faultIn (fieldOf (rule.Letters t u) f) ≡ none → length f ≤ 1
   letters-short t u e = omega (arith, ap length (letters-as t u e))
 
-  -- Weights, quantisers and levels
+  -- Weights and quantisers
 
   pub weight-as : faultIn (fieldOf rule.Weight f) ≡ none → weightText (weightIn (weightOf f)) ≡ f
   unfolding fieldOf
@@ -147,12 +146,3 @@ module _ (f : List ℕ) where
   quantiser-short e =
       let g = quantiser-good f e in
       omega (arith, ap length (quantiser-as (g .0) (g .1)), decimal-length 2 (g .0) (omega (arith, g .2 .top)))
-
-  pub level-as : (z : ℤ) → fieldOf rule.Level f ≡ field.Level z → levelText z ≡ f
-  unfolding fieldOf
-  level-as z e = level-canonical f z e
-
-  pub level-short : faultIn (fieldOf rule.Level f) ≡ none → length f ≤ 5
-  level-short e =
-      let g = level-good f e in
-      omega (arith, ap length (level-as (g .0) (g .1)), level-length (g .0) (g .2))

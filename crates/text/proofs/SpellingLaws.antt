@@ -15,7 +15,7 @@ use Rattle.text.specs.declared.number.Number.the-variants as number
 use Rattle.contents.specs.declared.Weight.{Weight}
 use Rattle.contents.specs.declared.Weight.the-variants as weight
 use Rattle.text.specs.declared.weight.WeightField.the-variants as weight-field
-use Rattle.text.specs.declared.field.Field.the-variants as field
+use Rattle.text.specs.declared.level.LevelField.the-variants as level-field
 use Rattle.text.specs.Numbers.{numberOf}
 use Rattle.text.specs.Weights.{hexDigit, hexDigits, afterLetter, bitForm, wholeWeight, orWhole, weightOf}
 use Rattle.text.specs.Levels.{fromZero, belowZero, levelOf}
@@ -163,45 +163,45 @@ weight-canonical f w e = form (bitForm f) refl e
 
 -- Levels
 
-level-inj : (y z : ℤ) → field.Level y ≡ field.Level z → y ≡ z
+level-inj : (y z : ℤ) → level-field.Is y ≡ level-field.Is z → y ≡ z
 level-inj y z e = cc
 
-no-level : {k : ℕ} {z : ℤ} {A : Type 0} → field.Bad k ≡ field.Level z → A
+no-level : {k : ℕ} {z : ℤ} {A : Type 0} → level-field.Bad k ≡ level-field.Is z → A
 no-level e = let z : _≡_ {A = ℕ} 0 1 = cc in let y : ⊥ = omega arith in absurd y
 
 head-high : (n : ℕ) → getD (decimal n) 0 0 ≡ 45 → ⊥
 head-high n e = omega (arith, above-head 48 (decimal n) (above-decimal n) (decimal-some n))
 
-pub level-written : (z : ℤ) → LegalLevel z → levelOf (levelText z) ≡ field.Level z
+pub level-written : (z : ℤ) → LegalLevel z → levelOf (levelText z) ≡ level-field.Is z
 unfolding levelText levelOf
 level-written (pos n) h = level-plus (decimal n) (decimal-some n) (head-high n) ∙ rw (number-written n (omega arith), le-leb n 2047 h)
 level-written (negsuc n) h = rw (number-written (suc n) (omega arith), ne-eqb (suc n) 0 (λ e. omega arith), le-leb (suc n) 2047 (omega arith))
 
-pub level-canonical : (f : List ℕ) (z : ℤ) → levelOf f ≡ field.Level z → levelText z ≡ f
+pub level-canonical : (f : List ℕ) (z : ℤ) → levelOf f ≡ level-field.Is z → levelText z ≡ f
 unfolding levelOf levelText
 level-canonical [] z e = no-level e
 level-canonical (b ∷ l) z e = two (eqb b 45) refl e
   where
-    up : (n : ℕ) (t : Bool) → numberOf (b ∷ l) ≡ number.Is n → cond t (field.Level (pos n)) (field.Bad 5) ≡ field.Level z → levelText z ≡ b ∷ l
+    up : (n : ℕ) (t : Bool) → numberOf (b ∷ l) ≡ number.Is n → cond t (level-field.Is (pos n)) (level-field.Bad 5) ≡ level-field.Is z → levelText z ≡ b ∷ l
     up n true p o = rw (← level-inj (pos n) z o) (number-canonical (b ∷ l) n p)
     up n false p o = no-level o
 
-    from : (r : Number) → numberOf (b ∷ l) ≡ r → fromZero r ≡ field.Level z → levelText z ≡ b ∷ l
+    from : (r : Number) → numberOf (b ∷ l) ≡ r → fromZero r ≡ level-field.Is z → levelText z ≡ b ∷ l
     from (number.Is n) p o = up n (leb n 2047) p o
     from number.Not p o = no-level o
 
-    down : (n : ℕ) (s t : Bool) → eqb b 45 ≡ true → numberOf l ≡ number.Is n → cond s (field.Bad 1) (cond t (field.Level (negℤ (pos n))) (field.Bad 5)) ≡ field.Level z
+    down : (n : ℕ) (s t : Bool) → eqb b 45 ≡ true → numberOf l ≡ number.Is n → cond s (level-field.Bad 1) (cond t (level-field.Is (negℤ (pos n))) (level-field.Bad 5)) ≡ level-field.Is z
         → eqb n 0 ≡ s → levelText z ≡ b ∷ l
     down n true t q p o r = no-level o
     down n false false q p o r = no-level o
     down zero false true q p o r = let z : _≡_ {A = ℕ} 0 1 = cc in let y : ⊥ = omega arith in absurd y
     down (suc n) false true q p o r = rw (← level-inj (negsuc n) z o) (rw (eqb-true b 45 q) (ap (λ (x : List ℕ). 45 ∷ x) (number-canonical l (suc n) p)))
 
-    below : (r : Number) → eqb b 45 ≡ true → numberOf l ≡ r → belowZero r ≡ field.Level z → levelText z ≡ b ∷ l
+    below : (r : Number) → eqb b 45 ≡ true → numberOf l ≡ r → belowZero r ≡ level-field.Is z → levelText z ≡ b ∷ l
     below (number.Is n) q p o = down n (eqb n 0) (leb n 2047) q p o refl
     below number.Not q p o = no-level o
 
-    two : (t : Bool) → eqb b 45 ≡ t → cond t (belowZero (numberOf l)) (fromZero (numberOf (b ∷ l))) ≡ field.Level z → levelText z ≡ b ∷ l
+    two : (t : Bool) → eqb b 45 ≡ t → cond t (belowZero (numberOf l)) (fromZero (numberOf (b ∷ l))) ≡ level-field.Is z → levelText z ≡ b ∷ l
     two true q o = below (numberOf l) q refl o
     two false q o = from (numberOf (b ∷ l)) refl o
 

@@ -6,6 +6,7 @@ use mathlib.Core.Bool.{Bool, false, cond, _&&_, _||_}
 use mathlib.Core.Option.{Option, none, some}
 use lib.Dec.{eqb, leb}
 use lib.IntN.{ℤ}
+use lib.Signed.{leZ}
 use Rattle.text.specs.declared.number.Number.{Number}
 use Rattle.text.specs.declared.number.Number.the-variants as number
 use Rattle.text.specs.declared.weight.WeightField.{WeightField}
@@ -16,6 +17,8 @@ use Rattle.text.specs.declared.field.Field.{Field}
 use Rattle.text.specs.declared.field.Field.the-variants as field
 use Rattle.text.specs.Numbers.{numberOf}
 use Rattle.text.specs.Weights.{weightOf}
+use Rattle.text.specs.declared.level.LevelField.{LevelField}
+use Rattle.text.specs.declared.level.LevelField.the-variants as level-field
 use Rattle.text.specs.Levels.{levelOf}
 
 -- just the letter t
@@ -47,6 +50,19 @@ abbrev pub weightField : WeightField → Field
 weightField (weight-field.Is w) = field.Good
 weightField (weight-field.Bad k) = field.Bad k
 
+-- "lines `B` with 64 levels"; "`G` with 64 pairs, low then high"; "14 "range", low above high, checked after 5 on the same pair" (M-105)
+abbrev pub levelField : LevelField → Field
+levelField (level-field.Is z) = field.Level z
+levelField (level-field.Bad k) = field.Bad k
+
+abbrev pub lowField : LevelField → Field
+lowField (level-field.Is z) = field.Low z
+lowField (level-field.Bad k) = field.Bad k
+
+abbrev pub highField : ℤ → LevelField → Field
+highField low (level-field.Is z) = cond (leZ low z) (field.High z) (field.Bad 14)
+highField low (level-field.Bad k) = field.Bad k
+
 -- "side, channel count, iterations .. against the rules" is 2, and the number of any other range stands in its rule; "a bad
 -- mode letter is 1", and so is any other bad letter
 unfoldable pub fieldOf : Rule → List ℕ → Field
@@ -58,24 +74,40 @@ fieldOf rule.Channels f = numberField 2 (λ n. eqb n 1 || eqb n 3) (numberOf f)
 fieldOf (rule.Letters a b) f = cond (letter a f || letter b f) field.Good (field.Bad 1)
 fieldOf rule.Weight f = weightField (weightOf f)
 fieldOf rule.Quantiser f = quantiserField (numberOf f)
-fieldOf rule.Level f = levelOf f
+fieldOf rule.Level f = levelField (levelOf f)
+fieldOf rule.Low f = lowField (levelOf f)
+fieldOf (rule.High low) f = highField low (levelOf f)
 
 -- The number of a field's fault, if it has one
 abbrev pub faultIn : Field → Option ℕ
 faultIn (field.Bad k) = some k
 faultIn (field.Quantiser n) = none
 faultIn (field.Level z) = none
+faultIn (field.Low z) = none
+faultIn (field.High z) = none
 faultIn field.Good = none
 
--- What a field adds to the tables, and to the levels
+-- What a field adds to the tables, to the lows and to the highs: "a `B` level stands in both"
 abbrev pub tablesIn : Field → List ℕ
 tablesIn (field.Bad k) = []
 tablesIn (field.Quantiser n) = n ∷ []
 tablesIn (field.Level z) = []
+tablesIn (field.Low z) = []
+tablesIn (field.High z) = []
 tablesIn field.Good = []
 
-abbrev pub levelsIn : Field → List ℤ
-levelsIn (field.Bad k) = []
-levelsIn (field.Quantiser n) = []
-levelsIn (field.Level z) = z ∷ []
-levelsIn field.Good = []
+abbrev pub lowsIn : Field → List ℤ
+lowsIn (field.Bad k) = []
+lowsIn (field.Quantiser n) = []
+lowsIn (field.Level z) = z ∷ []
+lowsIn (field.Low z) = z ∷ []
+lowsIn (field.High z) = []
+lowsIn field.Good = []
+
+abbrev pub highsIn : Field → List ℤ
+highsIn (field.Bad k) = []
+highsIn (field.Quantiser n) = []
+highsIn (field.Level z) = z ∷ []
+highsIn (field.Low z) = []
+highsIn (field.High z) = z ∷ []
+highsIn field.Good = []

@@ -1,5 +1,6 @@
 // Fields and their rules.
 use crate::level;
+use crate::level::LevelField;
 use crate::number;
 use crate::number::Number;
 use crate::pieces;
@@ -8,11 +9,13 @@ use crate::weight::WeightField;
 ghost use mathlib.Core.Path.{_≡_};
 ghost use mathlib.Core.List.{[]};
 ghost use lib.ListN.{getD};
+ghost use lib.Signed.{leZ};
 ghost use Rattle.text.specs.Pieces.{split};
 ghost use Rattle.text.specs.Fields.{letter, fieldOf};
 
 // What a field must be: this one letter; a number from low to high, else this fault; an iteration count up to the most; a
-// multiple of 8 from 8 to the most; 1 or 3; one of two letters; a weight; a quantiser; a level.
+// multiple of 8 from 8 to the most; 1 or 3; one of two letters; a weight; a quantiser; a level; the lowest of a range of
+// levels; the highest of the range with this lowest.
 pub enum Rule {
     Tag(u8),
     Range { fault: u8, low: u32, high: u32 },
@@ -23,13 +26,18 @@ pub enum Rule {
     Weight,
     Quantiser,
     Level,
+    Low,
+    High(i16),
 }
 
-// What a field says under its rule: the number of its fault, a quantiser, a level, or any other good field.
+// What a field says under its rule: the number of its fault, a quantiser, a level, the lowest or the highest of a range, or
+// any other good field.
 pub enum Field {
     Bad(u8),
     Quantiser(u16),
     Level(i16),
+    Low(i16),
+    High(i16),
     Good,
 }
 
@@ -161,6 +169,45 @@ fn read_quantiser(f: &[u8]) -> Field
     Field::Quantiser(n as u16)
 }
 
+fn check_level(f: &[u8]) -> Field
+    ensures { λ r. ⌜ r ≡ fieldOf Rule.Level (now (f .entry)) ⌝ }
+{
+    match level::read_level(f) {
+        LevelField::Is(z) => Field::Level(z),
+        LevelField::Bad(k) => Field::Bad(k),
+    }
+}
+
+fn check_low(f: &[u8]) -> Field
+    ensures { λ r. ⌜ r ≡ fieldOf Rule.Low (now (f .entry)) ⌝ }
+{
+    match level::read_level(f) {
+        LevelField::Is(z) => Field::Low(z),
+        LevelField::Bad(k) => Field::Bad(k),
+    }
+}
+
+fn is_ordered(low: i16, high: i16) -> bool
+    ensures { λ r. ⌜ r ≡ leZ low high ⌝ }
+{
+    low <= high
+}
+
+// The highest level of a range, not below its lowest.
+fn check_high(f: &[u8], low: i16) -> Field
+    ensures { λ r. ⌜ r ≡ fieldOf (Rule.High low) (now (f .entry)) ⌝ }
+{
+    match level::read_level(f) {
+        LevelField::Is(z) => {
+            if is_ordered(low, z) {
+                return Field::High(z);
+            }
+            Field::Bad(14)
+        }
+        LevelField::Bad(k) => Field::Bad(k),
+    }
+}
+
 // What a field says under its rule, spelling before range.
 pub fn read_field(rule: Rule, f: &[u8]) -> Field
     ensures { λ r. ⌜ r ≡ fieldOf rule (now (f .entry)) ⌝ }
@@ -174,6 +221,8 @@ pub fn read_field(rule: Rule, f: &[u8]) -> Field
         Rule::Letters(a, b) => read_letters(f, a, b),
         Rule::Weight => check_weight(f),
         Rule::Quantiser => read_quantiser(f),
-        Rule::Level => level::read_level(f),
+        Rule::Level => check_level(f),
+        Rule::Low => check_low(f),
+        Rule::High(low) => check_high(f, low),
     }
 }

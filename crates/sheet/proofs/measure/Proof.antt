@@ -7,5 +7,4 @@ use Rattle.sheet.proofs.measure.Tie as tie
 pub measure-spec : {M : Type 1} → statement M
 measure-spec =
     tie.close
-    (tie.spec (λ c. search needs) (λ c. search needs) (λ c κs. search needs) (λ c. search needs) (λ c. search needs)
-    (λ c. search measures) (λ c. search measures))
+    (tie.spec (λ c κs. search needs) (λ c. search needs) (λ c. search needs) (λ c. search measures) (λ c. search measures))

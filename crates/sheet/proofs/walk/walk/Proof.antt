@@ -7,25 +7,25 @@ use borrow.Author.Tests.{not-true, not-false}
 use lib.ListN.{length}
 use Rattle.text.specs.Pieces.{split}
 use Rattle.sheet.specs.Lines.{rulesOf}
-use Rattle.contents.specs.Sheets.{held}
+use Rattle.contents.specs.Sheets.{lent}
 use Rattle.sheet.proofs.StateLaws.{due}
-use Rattle.sheet.proofs.WalkLaws.{good-field, places, Checking, check-begin, check-levels, check-tables, check-at, check-in, check-bad, check-step, Reading, read-begin, walk-limit, OnLine, same-levels, same-tables, end-inside, walk-long, walk-cut, on-line, walk-count, row-count, rules-count, level-room, table-room, walk-fault, walk-end, walk-after, walk-bad, walk-next}
+use Rattle.sheet.proofs.WalkLaws.{good-field, places, Checking, check-begin, check-lows, check-highs, check-tables, check-at, check-in, check-bad, check-step, Reading, read-begin, walk-limit, OnLine, same-lows, same-highs, same-tables, end-inside, walk-long, walk-cut, on-line, walk-count, row-count, rules-count, low-place, high-place, table-room, walk-fault, walk-end, walk-after, walk-bad, walk-next}
 use Rattle.sheet.proofs.walk.walk.Statement.{statement}
 use Rattle.sheet.proofs.walk.walk.Tie as tie
 
 abbrev Inv-loop : tie.InvT-loop
-Inv-loop text limits levels₀ tables₀ state at line held₀ listed₀ end row tag count sheet header i₀ a₀ last₀ levels tables filled listed i a last = OnLine text state at end tag count
+Inv-loop text limits lows₀ highs₀ tables₀ state at line low₀ high₀ listed₀ end row tag count sheet header i₀ a₀ last₀ lows highs tables low high listed i a last = OnLine text state at end tag count
     × (length (split 9 row) ≡ count)
-    × Checking (rulesOf tag limits header (split 9 row)) row count (held levels₀ tables₀) (places held₀ listed₀) (held levels tables) (places filled listed) i a last
+    × Checking (rulesOf tag limits header (split 9 row)) row count (lent lows₀ highs₀ tables₀) (places low₀ high₀ listed₀) (lent lows highs tables) (places low high listed) i a last
 
 abbrev μ-loop : tie.MeasureT-loop
-μ-loop text limits levels₀ tables₀ state at line held₀ listed₀ end row tag count sheet header i₀ a₀ last₀ levels tables filled listed i a last = count - i
+μ-loop text limits lows₀ highs₀ tables₀ state at line low₀ high₀ listed₀ end row tag count sheet header i₀ a₀ last₀ lows highs tables low high listed i a last = count - i
 
 abbrev Inv-lines : tie.InvT-lines
-Inv-lines text limits levels₀ tables₀ state₀ at₀ line₀ held₀ listed₀ levels tables state at line filled listed = Reading limits text (held levels₀ tables₀) (held levels tables) state at line (places filled listed)
+Inv-lines text limits lows₀ highs₀ tables₀ state₀ at₀ line₀ low₀ high₀ listed₀ lows highs tables state at line low high listed = Reading limits text (lent lows₀ highs₀ tables₀) (lent lows highs tables) state at line (places low high listed)
 
 abbrev μ-lines : tie.MeasureT-lines
-μ-lines text limits levels₀ tables₀ state₀ at₀ line₀ held₀ listed₀ levels tables state at line filled listed = length text - at
+μ-lines text limits lows₀ highs₀ tables₀ state₀ at₀ line₀ low₀ high₀ listed₀ lows highs tables state at line low high listed = length text - at
 
 returns : tie.Need-returns Inv-loop μ-loop Inv-lines μ-lines
 returns c = walk-limit _ _ _ (sym (c .before .are-allowed .ensures) ∙ not-true (c .before .are-allowed .result) (c .if1 .taken))
@@ -67,24 +67,28 @@ part-read-field-start c = omega (arith, c .before .field-end .ensures)
 part-read-field-end : tie.Need-part-read-field-end Inv-loop μ-loop Inv-lines μ-lines
 part-read-field-end c = check-in (c .before .before .before .loop .inv .2) (c .before .before .loop-test .taken) (c .before .field-end .ensures)
 
-put-level-requires : tie.Need-put-level-requires Inv-loop μ-loop Inv-lines μ-lines
-put-level-requires c κs =
-    level-room (c .before .before .before .before .before .before .before .before .before .before .before .before .before .before .before .before .before .before .lines .inv) (c .before .before .before .before .before .before .before .loop .inv .0) (c .before .before .before .before .before .before .before .loop .inv .1) (c .before .before .before .before .before .before .before .before .before .before .before .before .before .before .before .before .before .before .before .before .before .before .before .before .good .0 .0) (c .before .before .before .before .before .before .loop-test .taken) (c .before .before .before .before .before .before .before .loop .inv .2 .held-most)
+put-low-requires : tie.Need-put-low-requires Inv-loop μ-loop Inv-lines μ-lines
+put-low-requires c κs =
+    low-place (c .before .before .before .before .before .before .before .before .before .before .before .before .before .before .before .before .before .before .lines .inv) (c .before .before .before .before .before .before .before .loop .inv .0) (c .before .before .before .before .before .before .before .loop .inv .1) (c .before .before .before .before .before .before .before .before .before .before .before .before .before .before .before .before .before .before .before .before .before .before .before .before .good .0 .0) (c .before .before .before .before .before .before .loop-test .taken) (c .before .before .before .before .before .before .before .loop .inv .2 .low-most)
+
+put-high-requires : tie.Need-put-high-requires Inv-loop μ-loop Inv-lines μ-lines
+put-high-requires c κs =
+    high-place (c .before .before .before .before .before .before .before .before .before .before .before .before .before .before .before .before .before .before .before .before .before .lines .inv) (c .before .before .before .before .before .before .before .before .before .before .loop .inv .0) (c .before .before .before .before .before .before .before .before .before .before .loop .inv .1) (c .before .before .before .before .before .before .before .before .before .before .before .before .before .before .before .before .before .before .before .before .before .before .before .before .before .before .before .good .0 .0) (c .before .before .before .before .before .before .before .before .before .loop-test .taken) (c .before .before .before .before .before .before .before .before .before .before .loop .inv .2 .high-most)
 
 put-quantiser-requires : tie.Need-put-quantiser-requires Inv-loop μ-loop Inv-lines μ-lines
 put-quantiser-requires c κs =
-    table-room (c .before .before .before .before .before .before .before .before .before .before .before .before .before .before .before .before .before .before .before .before .before .lines .inv) (c .before .before .before .before .before .before .before .before .before .before .loop .inv .0) (c .before .before .before .before .before .before .before .before .before .before .loop .inv .1) (c .before .before .before .before .before .before .before .before .before .before .before .before .before .before .before .before .before .before .before .before .before .before .before .before .before .before .before .good .0 .0) (c .before .before .before .before .before .before .before .before .before .loop-test .taken) (c .before .before .before .before .before .before .before .before .before .before .loop .inv .2 .listed-most)
+    table-room (c .before .before .before .before .before .before .before .before .before .before .before .before .before .before .before .before .before .before .before .before .before .before .before .before .lines .inv) (c .before .before .before .before .before .before .before .before .before .before .before .before .before .loop .inv .0) (c .before .before .before .before .before .before .before .before .before .before .before .before .before .loop .inv .1) (c .before .before .before .before .before .before .before .before .before .before .before .before .before .before .before .before .before .before .before .before .before .before .before .before .before .before .before .before .before .before .good .0 .0) (c .before .before .before .before .before .before .before .before .before .before .before .before .loop-test .taken) (c .before .before .before .before .before .before .before .before .before .before .before .before .before .loop .inv .2 .listed-most)
 
 add-a : tie.Need-add-a Inv-loop μ-loop Inv-lines μ-lines
 add-a c =
-    omega (arith, check-in (c .before .before .before .before .before .before .before .before .before .before .before .before .before .loop .inv .2) (c .before .before .before .before .before .before .before .before .before .before .before .before .loop-test .taken) (c .before .before .before .before .before .before .before .before .before .before .before .field-end .ensures), c .before .before .before .before .before .before .before .before .before .before .before .before .before .loop .inv .0 .size, c .before .before .before .before .before .before .before .before .before .before .before .before .before .loop .inv .0 .ended, c .before .before .before .before .before .before .before .before .before .before .before .before .before .before .before .before .before .before .before .before .before .before .before .before .before .before .before .before .before .before .good .0 .0)
+    omega (arith, check-in (c .before .before .before .before .before .before .before .before .before .before .before .before .before .before .before .before .loop .inv .2) (c .before .before .before .before .before .before .before .before .before .before .before .before .before .before .before .loop-test .taken) (c .before .before .before .before .before .before .before .before .before .before .before .before .before .before .field-end .ensures), c .before .before .before .before .before .before .before .before .before .before .before .before .before .before .before .before .loop .inv .0 .size, c .before .before .before .before .before .before .before .before .before .before .before .before .before .before .before .before .loop .inv .0 .ended, c .before .before .before .before .before .before .before .before .before .before .before .before .before .before .before .before .before .before .before .before .before .before .before .before .before .before .before .before .before .before .before .before .before .good .0 .0)
 
 loop-again : tie.Need-loop-again Inv-loop μ-loop Inv-lines μ-lines
 loop-again c = (
-  c .before .before .before .before .before .before .before .before .before .before .before .before .before .loop .inv .0,
-  c .before .before .before .before .before .before .before .before .before .before .before .before .before .loop .inv .1,
-  check-step (c .before .before .before .before .before .before .before .before .before .before .before .before .before .loop .inv .2) (c .before .before .before .before .before .before .before .before .before .before .before .before .loop-test .taken) (c .before .before .before .before .before .before .before .before .before .before .before .field-end .ensures) (rules-count (c .before .before .before .before .before .before .before .before .before .before .before .before .before .before .before .before .before .before .before .before .before .before .before .before .lines .inv) (c .before .before .before .before .before .before .before .before .before .before .before .before .before .loop .inv .0)) (c .before .before .before .before .before .before .before .before .before .before .before .before .before .loop .inv .1) (c .before .before .before .before .before .before .before .before .before .before .rule-at .ensures) (c .before .before .before .before .before .before .before .before .read-field .ensures)
-      (good-field (c .before .before .before .before .before .before .before .before .read-field .result) (c .before .before .before .before .before .before .before .match .keys2)) (c .before .before .before .before .before .put-level .ensures) (c .before .before .put-quantiser .ensures),
+  c .before .before .before .before .before .before .before .before .before .before .before .before .before .before .before .before .loop .inv .0,
+  c .before .before .before .before .before .before .before .before .before .before .before .before .before .before .before .before .loop .inv .1,
+  check-step (c .before .before .before .before .before .before .before .before .before .before .before .before .before .before .before .before .loop .inv .2) (c .before .before .before .before .before .before .before .before .before .before .before .before .before .before .before .loop-test .taken) (c .before .before .before .before .before .before .before .before .before .before .before .before .before .before .field-end .ensures) (rules-count (c .before .before .before .before .before .before .before .before .before .before .before .before .before .before .before .before .before .before .before .before .before .before .before .before .before .before .before .lines .inv) (c .before .before .before .before .before .before .before .before .before .before .before .before .before .before .before .before .loop .inv .0)) (c .before .before .before .before .before .before .before .before .before .before .before .before .before .before .before .before .loop .inv .1) (c .before .before .before .before .before .before .before .before .before .before .before .before .before .rule-at .ensures) (c .before .before .before .before .before .before .before .before .before .before .before .read-field .ensures)
+      (good-field (c .before .before .before .before .before .before .before .before .before .before .before .read-field .result) (c .before .before .before .before .before .before .before .before .before .before .match .keys2)) (c .before .before .before .before .before .before .before .before .put-low .ensures) (c .before .before .before .before .before .put-high .ensures) (c .before .before .put-quantiser .ensures),
 )
 
 add-if6 : tie.Need-add-if6 Inv-loop μ-loop Inv-lines μ-lines
@@ -114,77 +118,90 @@ lines-again c =
     walk-next (c .before .before .before .before .before .before .before .before .before .before .before .before .before .before .before .before .before .before .lines .inv) (c .before .before .before .before .before .before .before .loop .inv .0) (c .before .before .before .before .before .before .before .loop .inv .1) (c .before .before .before .before .before .before .before .loop .inv .2) (c .before .before .before .before .before .before .loop-test .left) (c .before .before .before .before .before .if5 .left) (c .before .before .before .before .record-of .ensures) (c .before .before .before .take-record .ensures) (c .before .next .given .1)
 
 same-length : tie.Need-same-length Inv-loop μ-loop Inv-lines μ-lines
-same-length c = same-levels (c .before .before .lines .inv)
+same-length c = same-lows (c .before .before .lines .inv)
 
 same-length-2 : tie.Need-same-length-2 Inv-loop μ-loop Inv-lines μ-lines
-same-length-2 c = same-tables (c .before .before .lines .inv)
+same-length-2 c = same-highs (c .before .before .lines .inv)
+
+same-length-3 : tie.Need-same-length-3 Inv-loop μ-loop Inv-lines μ-lines
+same-length-3 c = same-tables (c .before .before .lines .inv)
 
 returns-2 : tie.Need-returns-2 Inv-loop μ-loop Inv-lines μ-lines
 returns-2 c = walk-long (c .before .before .lines .inv) (c .before .line-at .ensures) (c .if2 .taken)
 
-same-length-3 : tie.Need-same-length-3 Inv-loop μ-loop Inv-lines μ-lines
-same-length-3 c = same-levels (c .before .before .before .lines .inv)
-
 same-length-4 : tie.Need-same-length-4 Inv-loop μ-loop Inv-lines μ-lines
-same-length-4 c = same-tables (c .before .before .before .lines .inv)
+same-length-4 c = same-lows (c .before .before .before .lines .inv)
+
+same-length-5 : tie.Need-same-length-5 Inv-loop μ-loop Inv-lines μ-lines
+same-length-5 c = same-highs (c .before .before .before .lines .inv)
+
+same-length-6 : tie.Need-same-length-6 Inv-loop μ-loop Inv-lines μ-lines
+same-length-6 c = same-tables (c .before .before .before .lines .inv)
 
 returns-3 : tie.Need-returns-3 Inv-loop μ-loop Inv-lines μ-lines
 returns-3 c = walk-cut (c .before .before .before .lines .inv) (c .before .before .line-at .ensures) (c .before .if2 .left) (c .if3 .taken)
 
-same-length-5 : tie.Need-same-length-5 Inv-loop μ-loop Inv-lines μ-lines
-same-length-5 c = same-levels (c .before .before .before .before .before .before .before .before .lines .inv)
+same-length-7 : tie.Need-same-length-7 Inv-loop μ-loop Inv-lines μ-lines
+same-length-7 c = same-lows (c .before .before .before .before .before .before .before .before .lines .inv)
 
-same-length-6 : tie.Need-same-length-6 Inv-loop μ-loop Inv-lines μ-lines
-same-length-6 c = same-tables (c .before .before .before .before .before .before .before .before .lines .inv)
+same-length-8 : tie.Need-same-length-8 Inv-loop μ-loop Inv-lines μ-lines
+same-length-8 c = same-highs (c .before .before .before .before .before .before .before .before .lines .inv)
+
+same-length-9 : tie.Need-same-length-9 Inv-loop μ-loop Inv-lines μ-lines
+same-length-9 c = same-tables (c .before .before .before .before .before .before .before .before .lines .inv)
 
 returns-4 : tie.Need-returns-4 Inv-loop μ-loop Inv-lines μ-lines
 returns-4 c =
     walk-count (c .before .before .before .before .before .before .before .before .lines .inv) (on-line (c .before .before .before .before .before .before .before .before .lines .inv) (c .before .before .before .before .before .before .before .line-at .ensures) (c .before .before .before .before .before .before .if2 .left) (c .before .before .before .before .before .if3 .left) (c .before .before .before .expected .ensures) (c .before .before .field-count .ensures)) (c .before .before .before .before .before .before .before .line-at .ensures) (c .if4 .taken)
 
-same-length-7 : tie.Need-same-length-7 Inv-loop μ-loop Inv-lines μ-lines
-same-length-7 c =
-    check-levels (c .before .before .before .before .before .before .before .before .loop .inv .2) ∙ same-levels (c .before .before .before .before .before .before .before .before .before .before .before .before .before .before .before .before .before .before .before .lines .inv)
+same-length-10 : tie.Need-same-length-10 Inv-loop μ-loop Inv-lines μ-lines
+same-length-10 c = check-lows (c .before .before .before .before .before .before .before .before .loop .inv .2) ∙ same-lows (c .before .before .before .before .before .before .before .before .before .before .before .before .before .before .before .before .before .before .before .lines .inv)
 
-same-length-8 : tie.Need-same-length-8 Inv-loop μ-loop Inv-lines μ-lines
-same-length-8 c =
-    check-tables (c .before .before .before .before .before .before .before .before .loop .inv .2) ∙ same-tables (c .before .before .before .before .before .before .before .before .before .before .before .before .before .before .before .before .before .before .before .lines .inv)
+same-length-11 : tie.Need-same-length-11 Inv-loop μ-loop Inv-lines μ-lines
+same-length-11 c = check-highs (c .before .before .before .before .before .before .before .before .loop .inv .2) ∙ same-highs (c .before .before .before .before .before .before .before .before .before .before .before .before .before .before .before .before .before .before .before .lines .inv)
+
+same-length-12 : tie.Need-same-length-12 Inv-loop μ-loop Inv-lines μ-lines
+same-length-12 c = check-tables (c .before .before .before .before .before .before .before .before .loop .inv .2) ∙ same-tables (c .before .before .before .before .before .before .before .before .before .before .before .before .before .before .before .before .before .before .before .lines .inv)
 
 returns-5 : tie.Need-returns-5 Inv-loop μ-loop Inv-lines μ-lines
 returns-5 c =
     walk-fault (c .before .before .before .before .before .before .before .before .before .before .before .before .before .before .before .before .before .before .before .lines .inv) (c .before .before .before .before .before .before .before .before .loop .inv .0) (c .before .before .before .before .before .before .before .before .loop .inv .1)
     (check-bad (c .before .before .before .before .before .before .before .before .loop .inv .2) (c .before .before .before .before .before .before .before .loop-test .taken) (c .before .before .before .before .before .before .field-end .ensures) (rules-count (c .before .before .before .before .before .before .before .before .before .before .before .before .before .before .before .before .before .before .before .lines .inv) (c .before .before .before .before .before .before .before .before .loop .inv .0)) (c .before .before .before .before .before .before .before .before .loop .inv .1) (c .before .before .before .before .before .rule-at .ensures) (c .before .before .before .read-field .ensures) _ (c .before .f .given .1))
 
-same-length-9 : tie.Need-same-length-9 Inv-loop μ-loop Inv-lines μ-lines
-same-length-9 c =
-    check-levels (c .before .before .before .loop .inv .2) ∙ same-levels (c .before .before .before .before .before .before .before .before .before .before .before .before .before .before .lines .inv)
+same-length-13 : tie.Need-same-length-13 Inv-loop μ-loop Inv-lines μ-lines
+same-length-13 c = check-lows (c .before .before .before .loop .inv .2) ∙ same-lows (c .before .before .before .before .before .before .before .before .before .before .before .before .before .before .lines .inv)
 
-same-length-10 : tie.Need-same-length-10 Inv-loop μ-loop Inv-lines μ-lines
-same-length-10 c =
-    check-tables (c .before .before .before .loop .inv .2) ∙ same-tables (c .before .before .before .before .before .before .before .before .before .before .before .before .before .before .lines .inv)
+same-length-14 : tie.Need-same-length-14 Inv-loop μ-loop Inv-lines μ-lines
+same-length-14 c = check-highs (c .before .before .before .loop .inv .2) ∙ same-highs (c .before .before .before .before .before .before .before .before .before .before .before .before .before .before .lines .inv)
+
+same-length-15 : tie.Need-same-length-15 Inv-loop μ-loop Inv-lines μ-lines
+same-length-15 c = check-tables (c .before .before .before .loop .inv .2) ∙ same-tables (c .before .before .before .before .before .before .before .before .before .before .before .before .before .before .lines .inv)
 
 returns-6 : tie.Need-returns-6 Inv-loop μ-loop Inv-lines μ-lines
 returns-6 c =
     walk-end (c .before .before .before .before .before .before .before .before .before .before .before .before .before .before .lines .inv) (c .before .before .before .loop .inv .0) (c .before .before .before .loop .inv .1) (c .before .before .before .loop .inv .2) (c .before .before .loop-test .left) (c .before .if5 .taken) (c .if6 .taken)
 
-same-length-11 : tie.Need-same-length-11 Inv-loop μ-loop Inv-lines μ-lines
-same-length-11 c =
-    check-levels (c .before .before .before .loop .inv .2) ∙ same-levels (c .before .before .before .before .before .before .before .before .before .before .before .before .before .before .lines .inv)
+same-length-16 : tie.Need-same-length-16 Inv-loop μ-loop Inv-lines μ-lines
+same-length-16 c = check-lows (c .before .before .before .loop .inv .2) ∙ same-lows (c .before .before .before .before .before .before .before .before .before .before .before .before .before .before .lines .inv)
 
-same-length-12 : tie.Need-same-length-12 Inv-loop μ-loop Inv-lines μ-lines
-same-length-12 c =
-    check-tables (c .before .before .before .loop .inv .2) ∙ same-tables (c .before .before .before .before .before .before .before .before .before .before .before .before .before .before .lines .inv)
+same-length-17 : tie.Need-same-length-17 Inv-loop μ-loop Inv-lines μ-lines
+same-length-17 c = check-highs (c .before .before .before .loop .inv .2) ∙ same-highs (c .before .before .before .before .before .before .before .before .before .before .before .before .before .before .lines .inv)
+
+same-length-18 : tie.Need-same-length-18 Inv-loop μ-loop Inv-lines μ-lines
+same-length-18 c = check-tables (c .before .before .before .loop .inv .2) ∙ same-tables (c .before .before .before .before .before .before .before .before .before .before .before .before .before .before .lines .inv)
 
 returns-7 : tie.Need-returns-7 Inv-loop μ-loop Inv-lines μ-lines
 returns-7 c =
     walk-after (c .before .before .before .before .before .before .before .before .before .before .before .before .before .before .lines .inv) (c .before .before .before .loop .inv .0) (c .before .before .before .loop .inv .1) (c .before .before .before .loop .inv .2) (c .before .before .loop-test .left) (c .before .if5 .taken) (c .if6 .left)
 
-same-length-13 : tie.Need-same-length-13 Inv-loop μ-loop Inv-lines μ-lines
-same-length-13 c =
-    check-levels (c .before .before .before .before .before .before .before .loop .inv .2) ∙ same-levels (c .before .before .before .before .before .before .before .before .before .before .before .before .before .before .before .before .before .before .lines .inv)
+same-length-19 : tie.Need-same-length-19 Inv-loop μ-loop Inv-lines μ-lines
+same-length-19 c = check-lows (c .before .before .before .before .before .before .before .loop .inv .2) ∙ same-lows (c .before .before .before .before .before .before .before .before .before .before .before .before .before .before .before .before .before .before .lines .inv)
 
-same-length-14 : tie.Need-same-length-14 Inv-loop μ-loop Inv-lines μ-lines
-same-length-14 c =
-    check-tables (c .before .before .before .before .before .before .before .loop .inv .2) ∙ same-tables (c .before .before .before .before .before .before .before .before .before .before .before .before .before .before .before .before .before .before .lines .inv)
+same-length-20 : tie.Need-same-length-20 Inv-loop μ-loop Inv-lines μ-lines
+same-length-20 c = check-highs (c .before .before .before .before .before .before .before .loop .inv .2) ∙ same-highs (c .before .before .before .before .before .before .before .before .before .before .before .before .before .before .before .before .before .before .lines .inv)
+
+same-length-21 : tie.Need-same-length-21 Inv-loop μ-loop Inv-lines μ-lines
+same-length-21 c = check-tables (c .before .before .before .before .before .before .before .loop .inv .2) ∙ same-tables (c .before .before .before .before .before .before .before .before .before .before .before .before .before .before .before .before .before .before .lines .inv)
 
 returns-8 : tie.Need-returns-8 Inv-loop μ-loop Inv-lines μ-lines
 returns-8 c =
@@ -196,9 +213,6 @@ walk-spec =
     (tie.spec Inv-loop μ-loop Inv-lines μ-lines (λ c κs. search needs) returns (λ c κs. search needs) lines-holds
     line-at-requires sub-if2 sub-row part-row-start part-row-end (λ c κs. search needs) (λ c κs. search needs)
     loop-holds field-end-requires rule-at-requires sub-read-field part-read-field-start part-read-field-end
-    (λ c κs. search needs) (λ c. search needs) put-level-requires put-quantiser-requires add-a (λ c. omega arith)
+    (λ c κs. search needs) (λ c. search needs) put-low-requires put-high-requires put-quantiser-requires add-a (λ c. omega arith)
     (λ c. omega arith) loop-again add-if6 add-next (λ c κs. search needs) take-record-requires (λ c. search needs)
-    (λ c. search needs) add-at add-line lines-less lines-again same-length same-length-2 returns-2 same-length-3
-    same-length-4 returns-3 same-length-5 same-length-6 returns-4 same-length-7 same-length-8 returns-5
-    same-length-9 same-length-10 returns-6 same-length-11 same-length-12 returns-7 same-length-13 same-length-14
-    returns-8)
+    (λ c. search needs) add-at add-line lines-less lines-again same-length same-length-2 same-length-3 returns-2 same-length-4 same-length-5 same-length-6 returns-3 same-length-7 same-length-8 same-length-9 returns-4 same-length-10 same-length-11 same-length-12 returns-5 same-length-13 same-length-14 same-length-15 returns-6 same-length-16 same-length-17 same-length-18 returns-7 same-length-19 same-length-20 same-length-21 returns-8)

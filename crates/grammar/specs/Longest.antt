@@ -14,8 +14,9 @@ choiceSizes = 1 ∷ 1 ∷ []
 abbrev pub channelSizes : ℕ → List ℕ
 channelSizes d = 1 ∷ d ∷ d ∷ 1 ∷ 1 ∷ replicate 64 3
 
+-- a block with 64 pairs; one with 64 levels is shorter
 abbrev pub blockSizes : List ℕ
-blockSizes = 1 ∷ replicate 64 5
+blockSizes = 1 ∷ replicate 128 5
 
 -- a channel with as many blocks as the full sides hold
 abbrev pub channelBytes : ℕ → ℕ → ℕ

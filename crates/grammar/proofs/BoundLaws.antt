@@ -9,13 +9,13 @@ use lib.ListN.{length}
 use Rattle.text.specs.Pieces.{split}
 use Rattle.text.proofs.PieceLaws.{split-length}
 use Rattle.contents.specs.declared.Limits.{Limits}
 use Rattle.sheet.specs.declared.state.State.{State}
 use Rattle.sheet.specs.declared.state.Taken.{Taken}
 use Rattle.sheet.specs.declared.state.Taken.the-variants as taken
 use Rattle.sheet.specs.Lines.{rulesOf, holding, recordOf}
-use Rattle.contents.specs.Sheets.{Held, held}
+use Rattle.contents.specs.Sheets.{Held, nothing}
 use Rattle.sheet.specs.Reading.{Outcome, Contents, contents, blank, lineTag, takenOf, lineFault, nothingLeft, onFault, onTaken, readFrom, allowed, readText}
 use Rattle.sheet.specs.Reading.Outcome.{Gives, Refused}
 
 -- the line of a refusal is at most m
 abbrev pub LineTo : ℕ → Outcome Contents → Type 0
@@ -46,14 +46,14 @@ from-line limits s H at m (p ∷ rest) h =
     let tag = lineTag s fs in
     let rs = rulesOf tag limits (s .sheet .header) fs in
     let E = cond (nothingLeft rest) (contents (s .sheet) H) (Refused 7 (at + 1)) in
-    let more = onTaken (takenOf s (recordOf tag fs)) at (λ t. readFrom limits t (holding H rs fs) (at + 1) rest) in
+    let more = onTaken (takenOf s (recordOf tag fs)) at (λ t. readFrom limits t (holding H tag rs fs) (at + 1) rest) in
     on-fault (lineFault rs p rest) at m (cond (eqb tag 69) E more) (omega arith)
     (on-cond (eqb tag 69) m E more (ended rest s H at m (omega arith))
-    (on-taken (takenOf s (recordOf tag fs)) at m (λ t. readFrom limits t (holding H rs fs) (at + 1) rest) (omega arith)
-    (λ t. from-line limits t (holding H rs fs) (at + 1) m rest (omega arith))))
+    (on-taken (takenOf s (recordOf tag fs)) at m (λ t. readFrom limits t (holding H tag rs fs) (at + 1) rest) (omega arith)
+    (λ t. from-line limits t (holding H tag rs fs) (at + 1) m rest (omega arith))))
 
 pub line-bound : (limits : Limits) (text : List ℕ) → LineTo (length text + 2) (readText limits text)
 unfolding readText
 line-bound limits text =
-    on-cond (allowed limits) (length text + 2) (readFrom limits blank (held [] []) 1 (split 10 text)) (Refused 2 0)
-    (from-line limits blank (held [] []) 1 (length text + 2) (split 10 text) (omega (arith, split-length 10 text))) (omega arith)
+    on-cond (allowed limits) (length text + 2) (readFrom limits blank nothing 1 (split 10 text)) (Refused 2 0)
+    (from-line limits blank nothing 1 (length text + 2) (split 10 text) (omega (arith, split-length 10 text))) (omega arith)

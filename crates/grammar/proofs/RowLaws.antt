@@ -1,13 +1,13 @@
 -- The written rows: their fields are good, they say what was written, and they are short and free of tabs and line ends.
-use Prim.Native.Nat.{ℕ, _<_, _≤_}
-use mathlib.Core.Path.{_≡_, refl, sym, ap}
-use mathlib.Core.List.{List, [], _∷_, _++_, map}
+use Prim.Native.Nat.{ℕ, _*_, _<_, _≤_}
+use mathlib.Core.Path.{_≡_, refl, sym, ap, _∙_}
+use mathlib.Core.List.{List, [], _∷_, _++_, map, append-nil}
 use mathlib.Core.Bool.{Bool, true, false, cond}
 use mathlib.Core.Logic.{_⊎_, inl, inr}
 use mathlib.Core.Option.{none}
 use native.Mathlib.Nat.{le-trans}
 use native.Mathlib.Omega.{arith}
-use lib.ListN.{length, replicate}
+use lib.ListN.{length, replicate, length-map}
 use lib.IntN.{ℤ}
 use borrow.Author.Tests.{eq-eqb}
 use Rattle.text.specs.declared.number.Number.the-variants as number
@@ -18,20 +18,23 @@ use Rattle.text.specs.declared.field.Rule.the-variants as rule
 use Rattle.text.specs.declared.field.Field.the-variants as field
 use Rattle.text.specs.Numbers.{numberOf, numberValue, numberAt}
 use Rattle.text.specs.Weights.{weightOf, weightIn, weightAt}
-use Rattle.text.specs.Fields.{letter, fieldOf, faultIn}
-use Rattle.contents.specs.Legal.{Between, LegalSide, LegalWeight, LegalLevel, LegalLimits, LegalHeader, LegalChannel, LegalQuantisers, LegalLevels}
+use Rattle.text.specs.Fields.{letter, fieldOf, faultIn, lowsIn, highsIn, tablesIn}
+use Rattle.contents.specs.Legal.{Between, LegalSide, LegalWeight, LegalLimits, LegalHeader, LegalChannel, LegalQuantisers, LegalLevels, LegalRanges}
 use Rattle.text.specs.Written.{weightText, levelText}
 use Rattle.digits.specs.Written.{decimal, joined}
-use Rattle.text.proofs.FieldLaws.{range-in, count-in, side-in, channels-one, channels-three, quantiser-in, weight-is}
+use Rattle.text.proofs.FieldLaws.{range-in, count-in, side-in, channels-one, channels-three, quantiser-in, weight-is, level-of, low-of, high-of}
 use Rattle.text.proofs.DecimalLaws.{number-written}
 use Rattle.digits.proofs.Lengths.{decimal-length}
-use Rattle.text.proofs.SpellingLaws.{weight-written, level-written, weight-length, level-length}
+use Rattle.text.proofs.SpellingLaws.{weight-written, level-written, weight-length}
 use Rattle.text.proofs.JoinLaws.{above, above-free, above-less, above-decimal, above-weight, above-level, allFree, Within, joined-length}
 use Rattle.contents.specs.declared.Limits.{Limits}
 use Rattle.contents.specs.declared.Header.{Header}
 use Rattle.contents.specs.declared.Channel.{Channel}
-use Rattle.sheet.specs.Lines.{count, mode, headerRules, channelRules, blockRules, firstFault, lineLevels, lineTables, headerOf, channelOf}
-use Rattle.sheet.specs.Written.{headerFields, channelFields, blockFields, endFields}
+use Rattle.contents.specs.Sheets.{Held}
+use Rattle.sheet.specs.Lines.{count, mode, headerRules, channelRules, blockRules, pairRules, rangeRules, fieldCount, firstFault, lineAdds, holding, headerOf, channelOf}
+use Rattle.grammar.specs.Written.{headerFields, channelFields, pairTexts, blockFields, endFields}
+use Rattle.sheet.proofs.GoodLines.{lows-skip, highs-skip, tables-skip}
+use Rattle.grammar.proofs.BlockLaws.{Block, withBlock, block-bytes}
 
 -- Good fields
 
@@ -50,10 +53,6 @@ weight-field-written w h = rw (← weight-is (weightText w) (weight-field.Is w) 
 
 quantiser-written : (q : ℕ) → Between 1 255 q → fieldOf rule.Quantiser (decimal q) ≡ field.Quantiser q
 quantiser-written q b = sym (quantiser-in (decimal q) (number.Is q) (sym (number-written q (omega (arith, b .top)))) q refl (b .low) (b .top))
-
-level-field-written : (z : ℤ) → LegalLevel z → fieldOf rule.Level (levelText z) ≡ field.Level z
-unfolding fieldOf
-level-field-written z h = level-written z h
 
 tag-written : (t : ℕ) → faultIn (fieldOf (rule.Tag t) (t ∷ [])) ≡ none
 unfolding fieldOf
@@ -183,17 +182,46 @@ module _ (limits : Limits) (allowed : LegalLimits limits) (h : Header) (l : Lega
 
 -- Channels
 
-all-decimal : (qs : List ℕ) → LegalQuantisers qs → (firstFault (replicate (length qs) rule.Quantiser) (map decimal qs) ≡ none) × (lineTables (replicate (length qs) rule.Quantiser) (map decimal qs) ≡ qs)
+all-decimal : (qs : List ℕ) → LegalQuantisers qs → (firstFault (replicate (length qs) rule.Quantiser) (map decimal qs) ≡ none) × (lineAdds tablesIn (replicate (length qs) rule.Quantiser) (map decimal qs) ≡ qs)
 all-decimal [] l = (refl, refl)
 all-decimal (q ∷ qs) l =
     let r = all-decimal qs (l .1) in
     rw (quantiser-written q (l .0)) (r .0, ap (λ (x : List ℕ). q ∷ x) (r .1))
 
-all-level : (zs : List ℤ) → LegalLevels zs → (firstFault (replicate (length zs) rule.Level) (map levelText zs) ≡ none) × (lineLevels (replicate (length zs) rule.Level) (map levelText zs) ≡ zs)
-all-level [] l = (refl, refl)
+-- the line of levels that is written, or of pairs: its fields are good, and what they add to the lows, the highs and the tables
+record Adds (rs : List Rule) (fs : List (List ℕ)) (ls hs : List ℤ) : Type 0 where
+  good : firstFault rs fs ≡ none
+  lows : lineAdds lowsIn rs fs ≡ ls
+  highs : lineAdds highsIn rs fs ≡ hs
+  tables : lineAdds tablesIn rs fs ≡ []
+
+all-level : (zs : List ℤ) → LegalLevels zs → Adds (replicate (length zs) rule.Level) (map levelText zs) zs zs
+all-level [] l = record { good = refl; lows = refl; highs = refl; tables = refl }
 all-level (z ∷ zs) l =
     let r = all-level zs (l .1) in
-    rw (level-field-written z (l .0)) (r .0, ap (λ (x : List ℤ). z ∷ x) (r .1))
+    let e = level-of (levelText z) z (level-written z (l .0)) in
+    record {
+      good = rw e (r .good);
+      lows = rw e (ap (λ (x : List ℤ). z ∷ x) (r .lows));
+      highs = rw e (ap (λ (x : List ℤ). z ∷ x) (r .highs));
+      tables = rw e (r .tables);
+    }
+
+all-pairs : (ls hs : List ℤ) → length ls ≡ length hs → LegalLevels ls → LegalLevels hs → LegalRanges ls hs → Adds (pairRules (length ls) (pairTexts ls hs)) (pairTexts ls hs) ls hs
+all-pairs [] [] n l h o = record { good = refl; lows = refl; highs = refl; tables = refl }
+all-pairs [] (y ∷ hs) n l h o = let w : ⊥ = omega arith in absurd w
+all-pairs (z ∷ ls) [] n l h o = let w : ⊥ = omega arith in absurd w
+all-pairs (z ∷ ls) (y ∷ hs) n l h o =
+    let r = all-pairs ls hs (omega arith) (l .1) (h .1) (o .1) in
+    let w = level-written z (l .0) in
+    let e = low-of (levelText z) z w in
+    let f = high-of (levelText y) y (level-written y (h .0)) z (o .0) in
+    record {
+      good = rw (e, w, f) (r .good);
+      lows = rw (e, w, f) (ap (λ (x : List ℤ). z ∷ x) (r .lows));
+      highs = rw (e, w, f) (ap (λ (x : List ℤ). y ∷ x) (r .highs));
+      tables = rw (e, w, f) (r .tables);
+    }
 
 -- the full sides have at most six digits
 abbrev pub SixDigits : Header → Type 0
@@ -214,7 +242,7 @@ module _ (h : Header) (x : SixDigits h) (c : Channel) (l : LegalChannel h c) (qs
       )
       (rw n at (all-decimal qs g .0))
 
-  pub channel-said : lineTables (replicate 64 rule.Quantiser) (map decimal qs) ≡ qs
+  pub channel-said : lineAdds tablesIn (replicate 64 rule.Quantiser) (map decimal qs) ≡ qs
   channel-said = rw n at (all-decimal qs g .1)
 
   pub channel-back : channelOf (channelFields c qs) ≡ c
@@ -224,12 +252,60 @@ module _ (h : Header) (x : SixDigits h) (c : Channel) (l : LegalChannel h c) (qs
 
 -- Blocks and the end
 
-module _ (zs : List ℤ) (n : length zs ≡ 64) (g : LegalLevels zs) where
-  pub block-good : firstFault blockRules (blockFields zs) ≡ none
-  block-good = rw (tag-written 66) (rw n at (all-level zs g .0))
+-- the rules of a block's line
+abbrev pub rulesIn : Bool → List (List ℕ) → List Rule
+rulesIn false fs = blockRules
+rulesIn true fs = rangeRules fs
 
-  pub block-said : lineLevels (replicate 64 rule.Level) (map levelText zs) ≡ zs
-  block-said = rw n at (all-level zs g .1)
+abbrev pub tagIn : Bool → ℕ
+tagIn false = 66
+tagIn true = 71
+
+module _ (ls hs : List ℤ) where
+  levels-in : Block false ls hs → Adds (replicate 64 rule.Level) (map levelText ls) ls ls
+  levels-in b = rw (b .low-count) at (all-level ls (b .lows))
+
+  pairs-in : Block true ls hs → Adds (pairRules 64 (pairTexts ls hs)) (pairTexts ls hs) ls hs
+  pairs-in b = rw (b .low-count) at (all-pairs ls hs (b .low-count ∙ sym (b .high-count)) (b .lows) (b .highs) (b .ranges))
+
+  pub block-good : (r : Bool) → Block r ls hs → firstFault (rulesIn r (blockFields r ls hs)) (blockFields r ls hs) ≡ none
+  block-good false b = rw (tag-written 66) (levels-in b .good)
+  block-good true b = rw (tag-written 71) (pairs-in b .good)
+
+  pub block-holds : (r : Bool) → Block r ls hs → (H : Held) → holding H (tagIn r) (rulesIn r (blockFields r ls hs)) (blockFields r ls hs) ≡ withBlock H r ls hs
+  block-holds false b H =
+      let a = levels-in b in
+      rw (
+        lows-skip (rule.Tag 66 ∷ []) (replicate 64 rule.Level) (blockFields false ls hs) refl,
+        highs-skip (rule.Tag 66 ∷ []) (replicate 64 rule.Level) (blockFields false ls hs) refl,
+        tables-skip (rule.Tag 66 ∷ []) (replicate 64 rule.Level) (blockFields false ls hs) refl,
+        a .lows,
+        a .highs,
+        a .tables,
+        append-nil (H .lent .tables),
+        b .alike refl,
+      )
+  block-holds true b H =
+      let a = pairs-in b in
+      rw (
+        lows-skip (rule.Tag 71 ∷ []) (pairRules 64 (pairTexts ls hs)) (blockFields true ls hs) refl,
+        highs-skip (rule.Tag 71 ∷ []) (pairRules 64 (pairTexts ls hs)) (blockFields true ls hs) refl,
+        tables-skip (rule.Tag 71 ∷ []) (pairRules 64 (pairTexts ls hs)) (blockFields true ls hs) refl,
+        a .lows,
+        a .highs,
+        a .tables,
+        append-nil (H .lent .tables),
+      )
+
+pairs-many : (ls hs : List ℤ) → length ls ≡ length hs → length (pairTexts ls hs) ≡ 2 * length ls
+pairs-many [] hs e = refl
+pairs-many (z ∷ ls) [] e = let w : ⊥ = omega arith in absurd w
+pairs-many (z ∷ ls) (y ∷ hs) e = omega (arith, pairs-many ls hs (omega arith))
+
+pub block-count : (r : Bool) (ls hs : List ℤ) → Block r ls hs → length (blockFields r ls hs) ≡ fieldCount (tagIn r)
+unfolding fieldCount
+block-count false ls hs b = omega (arith, length-map ls levelText, b .low-count)
+block-count true ls hs b = omega (arith, pairs-many ls hs (b .low-count ∙ sym (b .high-count)), b .low-count)
 
 pub end-good : firstFault (rule.Tag 69 ∷ []) endFields ≡ none
 end-good = rw (tag-written 69)
@@ -298,8 +374,14 @@ channel-free b k c qs =
     cleans-free b k (channelFields c qs)
     (refl, (clean-decimal (c .width), (clean-decimal (c .height), (clean-decimal (c .across), (clean-decimal (c .down), clean-decimals qs)))))
 
-pub block-free : (b : ℕ) → b < 45 → (zs : List ℤ) → allFree b (blockFields zs) ≡ true
-block-free b k zs = cleans-free b k (blockFields zs) (refl, clean-levels zs)
+clean-pairs : (ls hs : List ℤ) → Cleans (pairTexts ls hs)
+clean-pairs [] hs = tt
+clean-pairs (z ∷ ls) [] = tt
+clean-pairs (z ∷ ls) (y ∷ hs) = (above-level z, (above-level y, clean-pairs ls hs))
+
+pub block-free : (b : ℕ) → b < 45 → (r : Bool) (ls hs : List ℤ) → allFree b (blockFields r ls hs) ≡ true
+block-free b k false ls hs = cleans-free b k (blockFields false ls hs) (refl, clean-levels ls)
+block-free b k true ls hs = cleans-free b k (blockFields true ls hs) (refl, clean-pairs ls hs)
 
 -- No row is over 1,024 bytes
 
@@ -309,10 +391,6 @@ short-decimal n h = decimal-length 5 n (omega arith)
 all-short : (qs : List ℕ) → LegalQuantisers qs → Within (map decimal qs) (replicate (length qs) 6)
 all-short [] l = tt
 all-short (q ∷ qs) l = (short-decimal q (omega (arith, l .0 .top)), all-short qs (l .1))
-
-all-low : (zs : List ℤ) → LegalLevels zs → Within (map levelText zs) (replicate (length zs) 5)
-all-low [] l = tt
-all-low (z ∷ zs) l = (level-length z (l .0), all-low zs (l .1))
 
 pub header-short : (limits : Limits) → LegalLimits limits → (h : Header) → LegalHeader limits h → length (joined (headerFields h)) ≤ 1024
 header-short limits most h l =
@@ -378,5 +456,5 @@ channel-short h x c l qs n g =
       ),
     )
 
-pub block-short : (zs : List ℤ) → length zs ≡ 64 → LegalLevels zs → length (joined (blockFields zs)) ≤ 1024
-block-short zs n g = omega (arith, joined-length (blockFields zs) (1 ∷ replicate 64 5) (omega arith) (omega arith, rw n at (all-low zs g)))
+pub block-short : (r : Bool) (ls hs : List ℤ) → Block r ls hs → length (joined (blockFields r ls hs)) ≤ 1024
+block-short r ls hs b = omega (arith, block-bytes r ls hs b)

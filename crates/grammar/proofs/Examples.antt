@@ -5,9 +5,9 @@ use Prim.Native.Char.{code}
 use Prim.Native.String.{String, len, charAt}
 use mathlib.Core.Path.{_≡_, refl}
 use mathlib.Core.List.{List, [], _∷_, _++_, map}
-use mathlib.Core.Bool.{false, cond}
+use mathlib.Core.Bool.{true, false, cond}
 use lib.ListN.{length, replicate, take, drop, set, getD}
-use lib.IntN.{pos}
+use lib.IntN.{ℤ, pos}
 use lib.Dec.{eqb}
 use Rattle.contents.specs.declared.Weight.the-variants as weight
 use Rattle.text.specs.Numbers.{numberOf, numberAt}
@@ -16,11 +16,12 @@ use Rattle.text.specs.Levels.{levelOf}
 use Rattle.text.specs.Fields.{fieldOf}
 use Rattle.digits.specs.Written.{joined, ended}
 use Rattle.contents.specs.declared.Limits.{Limits}
+use Rattle.contents.specs.declared.Sheet.{Sheet}
 use Rattle.sheet.specs.Lines.{rulesOf, fieldsFault, headerOf, channelOf, recordOf}
-use Rattle.contents.specs.Sheets.{held, noSettings, noChannel}
+use Rattle.contents.specs.Sheets.{lent, held, noSettings, noChannel}
 use Rattle.sheet.specs.Reading.{Outcome, Contents, contents, blank, lineTag, takenOf, lineFault, readText}
 use Rattle.sheet.specs.Calls.{Lengths, measuring, reading}
 use Rattle.sheet.specs.Reading.Outcome.{Gives, Refused}
 
 -- the bytes of a text
 abbrev bytesFrom : String → ℕ → ℕ → List ℕ
@@ -78,8 +79,9 @@ abbrev answers : ℕ → List (List ℕ) → List (ℕ × ℕ)
 answers side [] = []
 answers side (t ∷ ts) = answer side t ∷ answers side ts
 
-whole-reads : readText (at 32) (text whole) ≡ contents
-    (record {
+abbrev whole-sheet : Sheet
+whole-sheet =
+    record {
       header = record {
         width = 8;
         height = 8;
@@ -101,8 +103,13 @@ whole-reads : readText (at 32) (text whole) ≡ contents
       first = record { width = 8; height = 8; across = 1; down = 1 };
       second = noChannel;
       third = noChannel;
-    })
-    (held (pos 1 ∷ replicate 63 (pos 0)) (replicate 64 8))
+    }
+
+-- a value, then zeros
+abbrev first : ℕ → List ℤ
+first n = pos n ∷ replicate 63 (pos 0)
+
+whole-reads : readText (at 32) (text whole) ≡ contents whole-sheet (held (lent (first 1) (first 1) (replicate 64 8)) (false ∷ []))
 unfolding readText blank lineTag takenOf recordOf headerOf channelOf lineFault fieldsFault rulesOf numberAt weightAt numberOf bitForm weightOf levelOf fieldOf
 whole-reads = refl
 
@@ -219,6 +226,50 @@ page : (paged 50 (one 0 7 "50") ≡ (0, 0)) × (paged 50 (one 0 7 "51") ≡ (15,
 unfolding paged
 page = (refl, refl, refl, refl, refl, refl, refl, refl)
 
+-- M-105: the whole example with the line `G` that begins with these fields and goes on with zeros
+abbrev ranged : List String → List ℕ
+ranged ss = text (take 2 whole ++ (b "G" ∷ (map b ss ++ replicate (128 - length ss) (b "0"))) ∷ drop 3 whole)
+
+-- low: spelling, ±2,047; high: spelling, ±2,047; then low above high, then the next pair
+ranges : answers 32 (
+    ranged ("1" ∷ "4" ∷ [])
+    ∷ ranged ("-4" ∷ "-1" ∷ [])
+    ∷ ranged ("2" ∷ "1" ∷ "x" ∷ "0" ∷ [])
+    ∷ ranged ("2" ∷ "1" ∷ "2048" ∷ "2048" ∷ [])
+    ∷ ranged ("2048" ∷ "0" ∷ "2" ∷ "1" ∷ [])
+    ∷ ranged ("5" ∷ "-2048" ∷ [])
+    ∷ ranged ("2048" ∷ "x" ∷ [])
+    ∷ ranged ("5" ∷ "-0" ∷ [])
+    ∷ ranged ("2048" ∷ "2047" ∷ [])
+    ∷ ranged ("0" ∷ "0" ∷ "0" ∷ "-1" ∷ [])
+    ∷ []
+    )
+    ≡ (0, 0) ∷ (0, 0) ∷ (14, 3) ∷ (14, 3) ∷ (5, 3) ∷ (5, 3) ∷ (5, 3) ∷ (1, 3) ∷ (5, 3) ∷ (14, 3) ∷ []
+unfolding answer
+ranges = refl
+
+-- lows and highs; equal pairs leave what the line `B` leaves
+range-reads : readText (at 32) (ranged ("1" ∷ "4" ∷ [])) ≡ contents whole-sheet (held (lent (first 1) (first 4) (replicate 64 8)) (true ∷ []))
+unfolding readText blank lineTag takenOf recordOf headerOf channelOf lineFault fieldsFault rulesOf numberAt weightAt numberOf bitForm weightOf levelOf fieldOf
+range-reads = refl
+
+equal-reads : readText (at 32) (ranged ("1" ∷ "1" ∷ [])) ≡ contents whole-sheet (held (lent (first 1) (first 1) (replicate 64 8)) (true ∷ []))
+unfolding readText blank lineTag takenOf recordOf headerOf channelOf lineFault fieldsFault rulesOf numberAt weightAt numberOf bitForm weightOf levelOf fieldOf
+equal-reads = refl
+
+-- the tag decides the count; `G` nowhere but where `B` may stand
+range-places : answers 32 (
+    text (take 2 whole ++ (b "G" ∷ replicate 64 (b "0")) ∷ drop 3 whole)
+    ∷ text (take 2 whole ++ (b "B" ∷ replicate 128 (b "0")) ∷ drop 3 whole)
+    ∷ text (take 1 whole ++ (b "G" ∷ replicate 128 (b "0")) ∷ drop 1 whole)
+    ∷ text (take 3 whole ++ (b "G" ∷ replicate 128 (b "0")) ∷ drop 3 whole)
+    ∷ text ((b "G" ∷ replicate 128 (b "0")) ∷ whole)
+    ∷ []
+    )
+    ≡ (1, 3) ∷ (1, 3) ∷ (1, 2) ∷ (1, 4) ∷ (1, 1) ∷ []
+unfolding answer
+range-places = refl
+
 -- measuring gives both lengths; reading refuses other lengths, last
 unfoldable measured : ℕ → List ℕ → Outcome Lengths
 unfolding readText blank lineTag takenOf recordOf headerOf channelOf lineFault fieldsFault rulesOf numberAt weightAt numberOf bitForm weightOf levelOf fieldOf
@@ -228,10 +279,10 @@ lengths : measured 32 (text whole) ≡ Gives (record { levels = 64; tables = 64 
 unfolding measured
 lengths = refl
 
-unfoldable reads : ℕ → List ℕ → ℕ → ℕ → ℕ × ℕ
+unfoldable reads : ℕ → List ℕ → ℕ → ℕ → ℕ → ℕ × ℕ
 unfolding readText blank lineTag takenOf recordOf headerOf channelOf lineFault fieldsFault rulesOf numberAt weightAt numberOf bitForm weightOf levelOf fieldOf
-reads side t n m = answerOf (reading (at side) t (held (replicate n (pos 7)) (replicate m 7)))
+reads side t n h m = answerOf (reading (at side) t (lent (replicate n (pos 7)) (replicate h (pos 7)) (replicate m 7)))
 
-other-lengths : (reads 32 (text whole) 64 64 ≡ (0, 0)) × (reads 32 (text whole) 63 64 ≡ (8, 0)) × (reads 32 (text whole) 64 65 ≡ (8, 0)) × (reads 32 (text whole ++ 10 ∷ []) 63 64 ≡ (7, 5))
+other-lengths : (reads 32 (text whole) 64 64 64 ≡ (0, 0)) × (reads 32 (text whole) 63 64 64 ≡ (8, 0)) × (reads 32 (text whole) 64 63 64 ≡ (8, 0)) × (reads 32 (text whole) 64 64 65 ≡ (8, 0)) × (reads 32 (text whole ++ 10 ∷ []) 63 64 64 ≡ (7, 5))
 unfolding reads
-other-lengths = (refl, refl, refl, refl)
+other-lengths = (refl, refl, refl, refl, refl)

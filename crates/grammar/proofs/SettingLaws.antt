@@ -17,17 +17,18 @@ use Rattle.contents.specs.declared.Choice.{Choice}
 use Rattle.contents.specs.declared.Choice.the-variants as choice
 use Rattle.contents.specs.declared.Header.{Header}
 use Rattle.contents.specs.declared.Settings.{Settings}
+use Rattle.contents.specs.Sheets.{Held}
 use Rattle.sheet.specs.declared.line.Setting.{Setting}
 use Rattle.sheet.specs.declared.line.Setting.the-variants as setting
 use Rattle.sheet.specs.declared.line.Record.{Record}
 use Rattle.sheet.specs.declared.line.Record.the-variants as line
-use Rattle.sheet.specs.Lines.{choiceRules, roundingRules, startRules, rulesOf, firstFault, lineLevels, lineTables, choiceOf, recordOf}
+use Rattle.sheet.specs.Lines.{choiceRules, roundingRules, startRules, rulesOf, firstFault, holding, choiceOf, recordOf}
 use Rattle.sheet.specs.Reading.{unsaid, lastSaid, withSetting}
-use Rattle.sheet.specs.Written.{choiceLines, settingLine, settingLines}
-use Rattle.sheet.specs.Longest.{settingsBytes}
+use Rattle.grammar.specs.Written.{choiceLines, settingLine, settingLines}
+use Rattle.grammar.specs.Longest.{settingsBytes}
 use Rattle.sheet.proofs.StateLaws.{SettingTag}
 use Rattle.sheet.proofs.StateLaws.SettingTag.{F-tag, A-tag}
-use Rattle.sheet.proofs.GoodLines.{fault-at, tables-without, levels-without, field-at, no-more, row-as}
+use Rattle.sheet.proofs.GoodLines.{fault-at, holds-none, field-at, no-more, row-as}
 
 -- a setting's place in the order
 abbrev pub placeOf : Setting → ℕ
@@ -64,38 +65,35 @@ none-said choice.Unsaid e = refl
 none-said choice.First e = let z : _≡_ {A = ℕ} 0 1 = cc in let y : ⊥ = omega arith in absurd y
 none-said choice.Second e = let z : _≡_ {A = ℕ} 0 1 = cc in let y : ⊥ = omega arith in absurd y
 
--- A good line of setting i: what it says, and that it is written so
-pub record Said (i : ℕ) (rs : List Rule) (p : List ℕ) (rec : Record) : Type 0 where
+-- A good line of setting i with the tag g: what it says, that it is written so, and that it adds nothing to what is held
+pub record Said (i g : ℕ) (rs : List Rule) (p : List ℕ) (rec : Record) : Type 0 where
   pub x : Setting
   pub says : rec ≡ line.Setting x
   pub place : placeOf x ≡ i
   pub row : settingLine x ≡ p ∷ []
-  pub levels : lineLevels rs (split 9 p) ≡ []
-  pub tables : lineTables rs (split 9 p) ≡ []
+  pub holds : (H : Held) → holding H g rs (split 9 p) ≡ H
 
 pub said-line : (i g : ℕ) (limits : Limits) (top : Header) (p : List ℕ) → SettingTag i g
     → length (split 9 p) ≡ length (rulesOf g limits top (split 9 p)) → firstFault (rulesOf g limits top (split 9 p)) (split 9 p) ≡ none
-    → Said i (rulesOf g limits top (split 9 p)) p (recordOf g (split 9 p))
+    → Said i g (rulesOf g limits top (split 9 p)) p (recordOf g (split 9 p))
 unfolding rulesOf recordOf
 said-line i g limits top p (F-tag q r) n e =
-    subst⁻¹ (λ (g : ℕ). Said i (rulesOf g limits top (split 9 p)) p (recordOf g (split 9 p))) r
+    subst⁻¹ (λ (g : ℕ). Said i g (rulesOf g limits top (split 9 p)) p (recordOf g (split 9 p))) r
     (record {
       x = setting.Rounding (choiceOf 116 (getD (split 9 p) 1 []));
       says = refl;
       place = sym q;
       row = choice-row 70 116 110 p (rw r at n) (rw r at e);
-      levels = levels-without roundingRules (split 9 p) refl;
-      tables = tables-without roundingRules (split 9 p) refl;
+      holds = λ H. holds-none H 70 roundingRules (split 9 p) refl refl refl;
     })
 said-line i g limits top p (A-tag q r) n e =
-    subst⁻¹ (λ (g : ℕ). Said i (rulesOf g limits top (split 9 p)) p (recordOf g (split 9 p))) r
+    subst⁻¹ (λ (g : ℕ). Said i g (rulesOf g limits top (split 9 p)) p (recordOf g (split 9 p))) r
     (record {
       x = setting.Start (choiceOf 109 (getD (split 9 p) 1 []));
       says = refl;
       place = sym q;
       row = choice-row 65 109 111 p (rw r at n) (rw r at e);
-      levels = levels-without startRules (split 9 p) refl;
-      tables = tables-without startRules (split 9 p) refl;
+      holds = λ H. holds-none H 65 startRules (split 9 p) refl refl refl;
     })
 
 pub no-end : (i g : ℕ) → SettingTag i g → eqb g 69 ≡ false

@@ -21,24 +21,25 @@ use Rattle.text.proofs.PieceLaws.{split-cut, split-whole, split-some}
 use Rattle.digits.proofs.Both.{both-left, both-right}
 use Rattle.digits.proofs.Lengths.{decimal-length}
 use Rattle.text.proofs.JoinLaws.{joined-split, joined-length, Within}
-use Rattle.text.proofs.SizeLaws.{tag-short, range-short, count-short, side-short, channels-short, letters-short, weight-short, quantiser-short, level-short}
+use Rattle.text.proofs.SizeLaws.{tag-short, range-short, count-short, side-short, channels-short, letters-short, weight-short, quantiser-short}
 use Rattle.contents.specs.declared.Limits.{Limits}
 use Rattle.contents.specs.declared.Header.{Header}
 use Rattle.contents.specs.declared.Settings.{Settings}
 use Rattle.sheet.specs.declared.state.State.{State}
 use Rattle.sheet.specs.declared.state.Taken.{Taken}
 use Rattle.sheet.specs.declared.state.Taken.the-variants as taken
-use Rattle.sheet.specs.Lines.{headerRules, channelRules, blockRules, rulesOf, firstFault, fieldsFault, holding, headerOf, channelOf, recordOf}
-use Rattle.contents.specs.Sheets.{Held, held}
+use Rattle.sheet.specs.Lines.{headerRules, channelRules, rulesOf, firstFault, fieldsFault, holding, headerOf, channelOf, recordOf}
+use Rattle.contents.specs.Sheets.{Held, nothing}
 use Rattle.sheet.specs.Reading.{Outcome, Contents, contents, headed, blank, lastSaid, mayStand, lineTag, opened, covers, takenOf, isLast, lineFault, nothingLeft, onFault, onTaken, readFrom, allowed, readText}
 use Rattle.sheet.specs.Reading.Outcome.{Gives, Refused}
-use Rattle.sheet.specs.Longest.{headerSizes, channelSizes, blockSizes, channelBytes, longest, decisive}
-use Rattle.sheet.proofs.StateLaws.{SettingTag, Stands, stands, unbegun, first-tag}
+use Rattle.grammar.specs.Longest.{headerSizes, channelSizes, blockSizes, channelBytes, longest, decisive}
+use Rattle.sheet.proofs.StateLaws.{SettingTag, BlockTag, Stands, stands, unbegun, first-tag}
 use Rattle.sheet.proofs.StateLaws.Stands.{Header-line, Setting-line, Block-line, Channel-line, End-line}
 use Rattle.sheet.proofs.WalkLaws.{line-long, split-head, not-last, some-after}
 use Rattle.sheet.proofs.GoodLines.{or-left, or-right, fault-at, fault-drop}
-use Rattle.sheet.proofs.SettingLaws.{placeOf, settingsLeft, said-line, now-said, setting-spent}
-use Rattle.sheet.proofs.LegalLaws.{header-is-legal, allowed-is, channel-is-legal, few, fields-count, line-fields, line-is, refusal, withSet}
+use Rattle.grammar.proofs.SettingLaws.{placeOf, settingsLeft, said-line, now-said, setting-spent}
+use Rattle.grammar.proofs.BlockLaws.{said-block, block-record, block-bytes}
+use Rattle.grammar.proofs.LegalLaws.{header-is-legal, allowed-is, channel-is-legal, few, fields-count, line-fields, line-is, refusal, withSet, lessBlock}
 
 -- The length of a good line
 
@@ -53,13 +54,6 @@ same-rule r m short zero (f ∷ fs) l e = let y : ⊥ = omega arith in absurd y
 same-rule r m short (suc n) [] l e = let y : ⊥ = omega arith in absurd y
 same-rule r m short (suc n) (f ∷ fs) l e =
     (short f (or-left (faultIn (fieldOf r f)) (firstFault (replicate n r) fs) e), same-rule r m short n fs (omega arith) (or-right (faultIn (fieldOf r f)) (firstFault (replicate n r) fs) e))
-
-block-within : (fs : List (List ℕ)) → length fs ≡ 65 → firstFault blockRules fs ≡ none → Within fs blockSizes
-block-within [] l e = let y : ⊥ = omega arith in absurd y
-block-within (f ∷ fs) l e = (
-  tag-short f 66 (or-left (faultIn (fieldOf (rule.Tag 66) f)) (firstFault (replicate 64 rule.Level) fs) e),
-  same-rule rule.Level 5 (λ g q. level-short g q) 64 fs (omega arith) (or-right (faultIn (fieldOf (rule.Tag 66) f)) (firstFault (replicate 64 rule.Level) fs) e),
-)
 
 four : (f : List ℕ) → faultIn (fieldOf (rule.Range 3 1 4) f) ≡ none → length f ≤ 1
 four f e = le-trans (range-short f 3 1 4 4 (omega arith) e) (decimal-length 0 4 (omega arith))
@@ -165,13 +159,16 @@ module _ (limits : Limits) (most : limits .side ≤ 512) (p : List ℕ) where
       })
 
   module _ (s : State) (b : On limits s) where
-    spent-block : (t : State) → length (split 9 p) ≡ 65 → firstFault blockRules (split 9 p) ≡ none → 0 < s .left
-        → taken.Good (record { begun = s .begun; sheet = s .sheet; read = s .read; left = s .left - 1 }) ≡ taken.Good t → Spent limits s p t
-    spent-block t n e h o =
-        subst (Spent limits s p) (good-inj _ t o)
+    spent-block : (t : State) (r : Bool) (g : ℕ) → BlockTag r g → length (split 9 p) ≡ length (rulesOf g limits (s .sheet .header) (split 9 p))
+        → firstFault (rulesOf g limits (s .sheet .header) (split 9 p)) (split 9 p) ≡ none → 0 < s .left → takenOf s (recordOf g (split 9 p)) ≡ taken.Good t → Spent limits s p t
+    unfolding takenOf
+    spent-block t r g q n e h o =
+        let w = said-block r g limits (s .sheet .header) p q n e in
+        let z : taken.Good (lessBlock s) ≡ taken.Good t = rw (block-record r g (split 9 p) q) at o in
+        subst (Spent limits s p) (good-inj _ t z)
         (record {
           stage = record { begun = b .begun; wide = b .wide; high = b .high; few = b .few };
-          bytes = rw (b .begun) (omega (arith, row-bytes p blockSizes (block-within (split 9 p) n e)));
+          bytes = rw (b .begun) (omega (arith, block-bytes r (w .ls) (w .hs) (w .block), ap length (w .row)));
         })
 
     spent-setting : (t : State) (i g : ℕ) → mayStand i s ≡ true → SettingTag i g → length (split 9 p) ≡ length (rulesOf g limits (s .sheet .header) (split 9 p))
@@ -219,7 +216,7 @@ module _ (limits : Limits) (most : limits .side ≤ 512) (p : List ℕ) where
     unfolding rulesOf recordOf takenOf
     spent-on t g (Header-line q r) x n e o = unbegun s (b .begun) q
     spent-on t g (Setting-line i q r) x n e o = spent-setting t i g q r n e o
-    spent-on t g (Block-line q l r) x n e o = spent-block t (rw r at n) (rw r at e) l (rw r at o)
+    spent-on t g (Block-line r q l y) x n e o = spent-block t r g y n e l o
     spent-on t g (Channel-line q l c r) x n e o = covering (covers (s .sheet .header) (channelOf (split 9 p))) refl (rw r at n) (rw r at e) l c (rw r at o)
       where
         covering : (c : Bool) → covers (s .sheet .header) (channelOf (split 9 p)) ≡ c → length (split 9 p) ≡ 69 → firstFault channelRules (split 9 p) ≡ none
@@ -261,7 +258,7 @@ module _ (limits : Limits) (s : State) (H : Held) (k : ℕ) (p : List ℕ) (rest
       rw (same-fault (rulesOf (lineTag s (split 9 p)) limits (s .sheet .header) (split 9 p)) p rest more a, b) (fault (lineFault (rulesOf (lineTag s (split 9 p)) limits (s .sheet .header) (split 9 p)) p more) refl)
     where
       K : Held
-      K = holding H (rulesOf (lineTag s (split 9 p)) limits (s .sheet .header) (split 9 p)) (split 9 p)
+      K = holding H (lineTag s (split 9 p)) (rulesOf (lineTag s (split 9 p)) limits (s .sheet .header) (split 9 p)) (split 9 p)
 
       E : Outcome Contents
       E = cond (nothingLeft more) (contents (s .sheet) H) (Refused 7 (k + 1))
@@ -367,8 +364,8 @@ unfolding readText decisive
 decides limits text n h = two (allowed limits) refl
   where
     two : (b : Bool) → allowed limits ≡ b
-        → cond b (readFrom limits blank (held [] []) 1 (split 10 (take n text))) (Refused 2 0) ≡ cond b (readFrom limits blank (held [] []) 1 (split 10 text)) (Refused 2 0)
-    two true e = decides-from limits (allowed-is limits e .side .top) (length text) blank (held [] []) 1 text n (omega arith) (inl refl) (omega (arith, room-first limits))
+        → cond b (readFrom limits blank nothing 1 (split 10 (take n text))) (Refused 2 0) ≡ cond b (readFrom limits blank nothing 1 (split 10 text)) (Refused 2 0)
+    two true e = decides-from limits (allowed-is limits e .side .top) (length text) blank nothing 1 text n (omega arith) (inl refl) (omega (arith, room-first limits))
     two false e = refl
 
 -- No legal text is longer than `longest`
@@ -459,6 +456,6 @@ pub at-most : (limits : Limits) (text : List ℕ) (C : Contents) → readText li
 unfolding readText
 at-most limits text C e = two (allowed limits) refl e
   where
-    two : (b : Bool) → allowed limits ≡ b → cond b (readFrom limits blank (held [] []) 1 (split 10 text)) (Refused 2 0) ≡ Gives C → length text ≤ longest (limits .side)
-    two true q o = omega (arith, short-from limits (allowed-is limits q .side .top) (length text) blank (held [] []) 1 text C (omega arith) (inl refl) o, room-first limits)
+    two : (b : Bool) → allowed limits ≡ b → cond b (readFrom limits blank nothing 1 (split 10 text)) (Refused 2 0) ≡ Gives C → length text ≤ longest (limits .side)
+    two true q o = omega (arith, short-from limits (allowed-is limits q .side .top) (length text) blank nothing 1 text C (omega arith) (inl refl) o, room-first limits)
     two false q o = refusal 2 0 C o

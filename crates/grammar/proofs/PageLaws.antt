@@ -20,21 +20,22 @@ use Rattle.text.specs.Numbers.{numberOf, numberAt}
 use Rattle.text.specs.Fields.{isSide, countField, fieldOf, faultIn}
 use Rattle.contents.specs.declared.Limits.{Limits}
 use Rattle.contents.specs.Legal.{Between}
-use Rattle.contents.specs.Sheets.{Held, held}
+use Rattle.contents.specs.Sheets.{Held, nothing}
 use Rattle.sheet.specs.declared.line.Record.{Record}
 use Rattle.sheet.specs.declared.line.Record.the-variants as line
 use Rattle.sheet.specs.declared.state.State.{State}
 use Rattle.sheet.specs.declared.state.Taken.{Taken}
 use Rattle.sheet.specs.declared.state.Taken.the-variants as taken
 use Rattle.sheet.specs.Lines.{mode, headerRules, rulesOf, orElse, firstFault, fieldsFault, holding, headerOf, recordOf}
 use Rattle.sheet.specs.Reading.{Outcome, Contents, contents, headed, blank, lineTag, opened, covers, takenOf, isLast, lineFault, nothingLeft, onFault, onTaken, readFrom, allowed, readText}
 use Rattle.sheet.specs.Reading.Outcome.{Gives, Refused}
-use Rattle.sheet.specs.Page.{BothCallers, raisedTo, Raised}
+use Rattle.grammar.specs.Page.{BothCallers, raisedTo, Raised}
 use Rattle.sheet.proofs.StateLaws.{Stands, stands, unbegun, first-tag}
-use Rattle.sheet.proofs.StateLaws.SettingTag.{F-tag, A-tag}
 use Rattle.sheet.proofs.StateLaws.Stands.{Header-line, Setting-line, Block-line, Channel-line, End-line}
-use Rattle.sheet.proofs.GoodLines.{tables-without, levels-without}
-use Rattle.sheet.proofs.LegalLaws.{line-is, refusal}
+use Rattle.sheet.proofs.StateLaws.SettingTag.{F-tag, A-tag}
+use Rattle.sheet.proofs.StateLaws.BlockTag.{B-tag, G-tag}
+use Rattle.sheet.proofs.GoodLines.{holds-none}
+use Rattle.grammar.proofs.LegalLaws.{line-is, refusal}
 
 -- After the header
 
@@ -42,9 +43,10 @@ use Rattle.sheet.proofs.LegalLaws.{line-is, refusal}
 rules-later : (one other : Limits) (s : State) (fs : List (List ℕ)) → s .begun ≡ true → (tag : ℕ) → Stands s tag → rulesOf tag one (s .sheet .header) fs ≡ rulesOf tag other (s .sheet .header) fs
 unfolding rulesOf
 rules-later one other s fs b tag (Header-line p o) = unbegun s b p
-rules-later one other s fs b tag (Setting-line i p (F-tag j o)) = rw o
-rules-later one other s fs b tag (Setting-line i p (A-tag j o)) = rw o
-rules-later one other s fs b tag (Block-line p l o) = rw o
+rules-later one other s fs b tag (Setting-line i p (F-tag n o)) = rw o
+rules-later one other s fs b tag (Setting-line i p (A-tag n o)) = rw o
+rules-later one other s fs b tag (Block-line r p l (B-tag n o)) = rw o
+rules-later one other s fs b tag (Block-line r p l (G-tag n o)) = rw o
 rules-later one other s fs b tag (Channel-line p l r o) = rw o
 rules-later one other s fs b tag (End-line p l r o) = rw o
 
@@ -78,43 +80,43 @@ after-header one other (p ∷ rest) s H k b =
     (λ (rs : List Rule). onFault (lineFault rs p rest) k
     (cond (eqb tag 69)
     (cond (nothingLeft rest) (contents (s .sheet) H) (Refused 7 (k + 1)))
-    (onTaken (takenOf s (recordOf tag fs)) k (λ t. readFrom one t (holding H rs fs) (k + 1) rest))))
+    (onTaken (takenOf s (recordOf tag fs)) k (λ t. readFrom one t (holding H tag rs fs) (k + 1) rest))))
     (rules-later one other s fs b tag (stands s fs tag refl))
     ∙ ap
     (λ (o : Outcome Contents). onFault (lineFault rules p rest) k (cond (eqb tag 69) (cond (nothingLeft rest) (contents (s .sheet) H) (Refused 7 (k + 1))) o))
     (taken-same (takenOf s (recordOf tag fs)) (begun-kept s (recordOf tag fs) b) k
-    (λ t. readFrom one t (holding H rules fs) (k + 1) rest)
-    (λ t. readFrom other t (holding H rules fs) (k + 1) rest)
-    (λ t c. after-header one other rest t (holding H rules fs) (k + 1) c))
+    (λ t. readFrom one t (holding H tag rules fs) (k + 1) rest)
+    (λ t. readFrom other t (holding H tag rules fs) (k + 1) rest)
+    (λ t c. after-header one other rest t (holding H tag rules fs) (k + 1) c))
 
 -- what the header's line leads to
 abbrev begin : List ℕ → State
 begin p = record { begun = true; sheet = headed (headerOf (split 9 p)); read = 0; left = 0 }
 
 first-line : (limits : Limits) (p : List ℕ) (rest : List (List ℕ))
-    → readFrom limits blank (held [] []) 1 (p ∷ rest) ≡ onFault (lineFault (headerRules limits (split 9 p)) p rest) 1 (readFrom limits (begin p) (held [] []) 2 rest)
+    → readFrom limits blank nothing 1 (p ∷ rest) ≡ onFault (lineFault (headerRules limits (split 9 p)) p rest) 1 (readFrom limits (begin p) nothing 2 rest)
 unfolding rulesOf takenOf recordOf
 first-line limits p rest =
     let fs = split 9 p in
-    rw (first-tag fs, levels-without (headerRules limits fs) fs refl, tables-without (headerRules limits fs) fs refl)
+    rw (first-tag fs, holds-none nothing 83 (headerRules limits fs) fs refl refl refl)
 
 -- The same contents
 
-read-on : (limits : Limits) (text : List ℕ) (C : Contents) → readText limits text ≡ Gives C → readFrom limits blank (held [] []) 1 (split 10 text) ≡ Gives C
+read-on : (limits : Limits) (text : List ℕ) (C : Contents) → readText limits text ≡ Gives C → readFrom limits blank nothing 1 (split 10 text) ≡ Gives C
 unfolding readText
 read-on limits text C e = two (allowed limits) e
   where
-    two : (b : Bool) → cond b (readFrom limits blank (held [] []) 1 (split 10 text)) (Refused 2 0) ≡ Gives C → readFrom limits blank (held [] []) 1 (split 10 text) ≡ Gives C
+    two : (b : Bool) → cond b (readFrom limits blank nothing 1 (split 10 text)) (Refused 2 0) ≡ Gives C → readFrom limits blank nothing 1 (split 10 text) ≡ Gives C
     two true o = o
     two false o = refusal 2 0 C o
 
 same-from : (one other : Limits) (ps : List (List ℕ)) (C D : Contents)
-    → readFrom one blank (held [] []) 1 ps ≡ Gives C → readFrom other blank (held [] []) 1 ps ≡ Gives D → Gives C ≡ Gives D
+    → readFrom one blank nothing 1 ps ≡ Gives C → readFrom other blank nothing 1 ps ≡ Gives D → Gives C ≡ Gives D
 same-from one other [] C D e f = refusal 7 1 C e
 same-from one other (p ∷ rest) C D e f =
-    let l = line-is (headerRules one (split 9 p)) 1 p rest (readFrom one (begin p) (held [] []) 2 rest) C (sym (first-line one p rest) ∙ e) in
-    let m = line-is (headerRules other (split 9 p)) 1 p rest (readFrom other (begin p) (held [] []) 2 rest) D (sym (first-line other p rest) ∙ f) in
-    sym (l .more) ∙ after-header one other rest (begin p) (held [] []) 2 refl ∙ m .more
+    let l = line-is (headerRules one (split 9 p)) 1 p rest (readFrom one (begin p) nothing 2 rest) C (sym (first-line one p rest) ∙ e) in
+    let m = line-is (headerRules other (split 9 p)) 1 p rest (readFrom other (begin p) nothing 2 rest) D (sym (first-line other p rest) ∙ f) in
+    sym (l .more) ∙ after-header one other rest (begin p) nothing 2 refl ∙ m .more
 
 pub both-callers : (one other : Limits) (text : List ℕ) → BothCallers one other text
 both-callers one other text =
@@ -188,19 +190,19 @@ line-paged limits most h p rest = by (ltb 1024 (length p)) (isLast rest) (eqb (l
     by false false true = header-paged limits most h (split 9 p)
 
 raised-from : (limits : Limits) (most : ℕ) → limits .iterations ≤ most → (ps : List (List ℕ))
-    → (readFrom limits blank (held [] []) 1 ps ≡ Refused 15 1) ⊎ (readFrom limits blank (held [] []) 1 ps ≡ readFrom (raisedTo limits most) blank (held [] []) 1 ps)
+    → (readFrom limits blank nothing 1 ps ≡ Refused 15 1) ⊎ (readFrom limits blank nothing 1 ps ≡ readFrom (raisedTo limits most) blank nothing 1 ps)
 raised-from limits most h [] = inr refl
 raised-from limits most h (p ∷ rest) = by (line-paged limits most h p rest)
   where
     wide : Limits
     wide = raisedTo limits most
 
-    same : readFrom limits (begin p) (held [] []) 2 rest ≡ readFrom wide (begin p) (held [] []) 2 rest
-    same = after-header limits wide rest (begin p) (held [] []) 2 refl
+    same : readFrom limits (begin p) nothing 2 rest ≡ readFrom wide (begin p) nothing 2 rest
+    same = after-header limits wide rest (begin p) nothing 2 refl
 
     by : Paged (lineFault (headerRules limits (split 9 p)) p rest) (lineFault (headerRules wide (split 9 p)) p rest)
-        → (readFrom limits blank (held [] []) 1 (p ∷ rest) ≡ Refused 15 1) ⊎ (readFrom limits blank (held [] []) 1 (p ∷ rest) ≡ readFrom wide blank (held [] []) 1 (p ∷ rest))
-    by (inl e) = inl (first-line limits p rest ∙ ap (λ (k : Option ℕ). onFault k 1 (readFrom limits (begin p) (held [] []) 2 rest)) e)
+        → (readFrom limits blank nothing 1 (p ∷ rest) ≡ Refused 15 1) ⊎ (readFrom limits blank nothing 1 (p ∷ rest) ≡ readFrom wide blank nothing 1 (p ∷ rest))
+    by (inl e) = inl (first-line limits p rest ∙ ap (λ (k : Option ℕ). onFault k 1 (readFrom limits (begin p) nothing 2 rest)) e)
     by (inr e) = inr (first-line limits p rest ∙ (λ i. onFault (e i) 1 (same i)) ∙ sym (first-line wide p rest))
 
 raised-page : (limits : Limits) (most : ℕ) (text : List ℕ) → limits .iterations ≤ most → most ≤ 1000
@@ -209,10 +211,10 @@ unfolding readText
 raised-page limits most text h k = rw (le-leb (limits .iterations) 1000 (le-trans h k), le-leb most 1000 k) (two (isSide 512 (limits .side)))
   where
     X : Outcome Contents
-    X = readFrom limits blank (held [] []) 1 (split 10 text)
+    X = readFrom limits blank nothing 1 (split 10 text)
 
     Y : Outcome Contents
-    Y = readFrom (raisedTo limits most) blank (held [] []) 1 (split 10 text)
+    Y = readFrom (raisedTo limits most) blank nothing 1 (split 10 text)
 
     two : (b : Bool) → (cond (b && true) X (Refused 2 0) ≡ Refused 15 1) ⊎ (cond (b && true) X (Refused 2 0) ≡ cond (b && true) Y (Refused 2 0))
     two true = raised-from limits most h (split 10 text)

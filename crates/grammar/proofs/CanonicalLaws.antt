@@ -14,33 +14,34 @@ use Rattle.text.specs.declared.field.Rule.the-variants as rule
 use Rattle.text.specs.Pieces.{split}
 use Rattle.text.specs.Numbers.{numberAt}
 use Rattle.text.specs.Weights.{weightAt}
-use Rattle.text.specs.Fields.{fieldOf, faultIn}
-use Rattle.text.specs.Written.{levelText}
+use Rattle.text.specs.Fields.{fieldOf, faultIn, tablesIn}
 use Rattle.digits.specs.Written.{decimal, joined}
-use Rattle.text.proofs.GoodLaws.{quantiser-good, level-good}
+use Rattle.text.proofs.GoodLaws.{quantiser-good}
 use Rattle.text.proofs.JoinLaws.{ended-split}
 use Rattle.digits.proofs.Both.{both-left, both-right}
-use Rattle.text.proofs.SizeLaws.{tag-as, range-as, count-as, side-as, channels-as, letters-as, weight-as, quantiser-as, level-as}
+use Rattle.text.proofs.SizeLaws.{tag-as, range-as, count-as, side-as, channels-as, letters-as, weight-as, quantiser-as}
 use Rattle.contents.specs.declared.Limits.{Limits}
 use Rattle.contents.specs.declared.Header.{Header}
 use Rattle.contents.specs.declared.Channel.{Channel}
 use Rattle.contents.specs.declared.Settings.{Settings}
 use Rattle.contents.specs.declared.Sheet.{Sheet}
 use Rattle.sheet.specs.declared.state.State.{State}
 use Rattle.sheet.specs.declared.state.Taken.the-variants as taken
-use Rattle.sheet.specs.Lines.{headerRules, channelRules, blockRules, endRules, rulesOf, firstFault, lineLevels, lineTables, headerOf, channelOf, recordOf}
-use Rattle.contents.specs.Sheets.{Held, held, channelsOf}
+use Rattle.sheet.specs.Lines.{headerRules, channelRules, endRules, rulesOf, firstFault, lineAdds, headerOf, channelOf, recordOf}
+use Rattle.contents.specs.Sheets.{Lent, lent, Held, held, nothing, channelsOf}
 use Rattle.sheet.specs.Reading.{Contents, contents, headed, blank, lastSaid, lineTag, withSetting, settled, placed, opened, covers, takenOf, nothingLeft, onTaken, readFrom, allowed, readText}
 use Rattle.sheet.specs.Reading.Outcome.{Gives, Refused}
-use Rattle.sheet.specs.Written.{headerFields, channelFields, blockFields, endFields, settingLines, blockLines, channelLines, written}
-use Rattle.sheet.specs.Accepts.{Accepts}
-use Rattle.sheet.proofs.StateLaws.{SettingTag, Stands, stands, unbegun, first-tag}
+use Rattle.grammar.specs.Written.{headerFields, channelFields, blockFields, endFields, settingLines, blockLines, dropHeld, channelLines, written}
+use Rattle.grammar.specs.Accepts.{Accepts}
+use Rattle.grammar.specs.Equal.{EqualPairs}
+use Rattle.sheet.proofs.StateLaws.{SettingTag, BlockTag, Stands, stands, unbegun, first-tag}
 use Rattle.sheet.proofs.StateLaws.Stands.{Header-line, Setting-line, Block-line, Channel-line, End-line}
-use Rattle.sheet.proofs.GoodLines.{or-left, or-right, fault-at, fault-drop, tables-without, levels-without, channel-tables, block-levels, all-quantisers, all-levels, field-at, no-more, row-as}
-use Rattle.sheet.proofs.SettingLaws.{placeOf, Agree, linesAfter, now-said, none-after, one-line, one-kept}
-use Rattle.sheet.proofs.LegalLaws.{header-is-legal, channel-is-legal, few, blocks, line-is, setting-read, refusal, legal}
-use Rattle.sheet.proofs.RoundTrip.{during, placedAll, round-trip}
-use Rattle.sheet.proofs.PrefixLaws.{not-unended}
+use Rattle.sheet.proofs.GoodLines.{or-left, or-right, fault-at, fault-drop, holds-none, withTable, holds-table, all-quantisers, field-at, no-more, row-as}
+use Rattle.grammar.proofs.SettingLaws.{placeOf, Agree, linesAfter, now-said, none-after, one-line, one-kept}
+use Rattle.grammar.proofs.BlockLaws.{withBlock}
+use Rattle.grammar.proofs.LegalLaws.{header-is-legal, few, line-is, setting-read, lessBlock, block-read, refusal, legal, legal-blocks}
+use Rattle.grammar.proofs.RoundTrip.{during, joinHeld, placedAll, round-trip}
+use Rattle.grammar.proofs.PrefixLaws.{not-unended}
 
 -- Good lines are written so
 
@@ -67,7 +68,7 @@ header-as limits fs n e =
     at : (i : ℕ) → i < 16 → faultIn (fieldOf (getD (headerRules limits fs) i (rule.Tag 0)) (getD fs i [])) ≡ none
     at i h = fault-at (headerRules limits fs) fs i e h (omega arith)
 
-quantisers-as : (n : ℕ) (fs : List (List ℕ)) → length fs ≡ n → firstFault (replicate n rule.Quantiser) fs ≡ none → map decimal (lineTables (replicate n rule.Quantiser) fs) ≡ fs
+quantisers-as : (n : ℕ) (fs : List (List ℕ)) → length fs ≡ n → firstFault (replicate n rule.Quantiser) fs ≡ none → map decimal (lineAdds tablesIn (replicate n rule.Quantiser) fs) ≡ fs
 quantisers-as zero [] h e = refl
 quantisers-as zero (f ∷ fs) h e = let y : ⊥ = omega arith in absurd y
 quantisers-as (suc n) [] h e = let y : ⊥ = omega arith in absurd y
@@ -77,7 +78,7 @@ quantisers-as (suc n) (f ∷ fs) h e =
     let b = quantisers-as n fs (omega arith) (or-right (faultIn (fieldOf rule.Quantiser f)) (firstFault (replicate n rule.Quantiser) fs) e) in
     rw (g .1) (λ i. a i ∷ b i)
 
-channel-as : (fs : List (List ℕ)) → length fs ≡ 69 → firstFault channelRules fs ≡ none → channelFields (channelOf fs) (lineTables (replicate 64 rule.Quantiser) (drop 5 fs)) ≡ fs
+channel-as : (fs : List (List ℕ)) → length fs ≡ 69 → firstFault channelRules fs ≡ none → channelFields (channelOf fs) (lineAdds tablesIn (replicate 64 rule.Quantiser) (drop 5 fs)) ≡ fs
 unfolding channelOf numberAt
 channel-as fs n e =
     field-at fs 0 _ _ (omega arith) (tag-as (getD fs 0 []) 67 (at 0 (omega arith)))
@@ -90,55 +91,54 @@ channel-as fs n e =
     at : (i : ℕ) → i < 69 → faultIn (fieldOf (getD channelRules i (rule.Tag 0)) (getD fs i [])) ≡ none
     at i h = fault-at channelRules fs i e h (omega arith)
 
-levels-as : (n : ℕ) (fs : List (List ℕ)) → length fs ≡ n → firstFault (replicate n rule.Level) fs ≡ none → map levelText (lineLevels (replicate n rule.Level) fs) ≡ fs
-levels-as zero [] h e = refl
-levels-as zero (f ∷ fs) h e = let y : ⊥ = omega arith in absurd y
-levels-as (suc n) [] h e = let y : ⊥ = omega arith in absurd y
-levels-as (suc n) (f ∷ fs) h e =
-    let g = level-good f (or-left (faultIn (fieldOf rule.Level f)) (firstFault (replicate n rule.Level) fs) e) in
-    let a = level-as f (g .0) (g .1) in
-    let b = levels-as n fs (omega arith) (or-right (faultIn (fieldOf rule.Level f)) (firstFault (replicate n rule.Level) fs) e) in
-    rw (g .1) (λ i. a i ∷ b i)
-
-block-as : (fs : List (List ℕ)) → length fs ≡ 65 → firstFault blockRules fs ≡ none → blockFields (lineLevels (replicate 64 rule.Level) (drop 1 fs)) ≡ fs
-block-as fs n e =
-    field-at fs 0 _ _ (omega arith) (tag-as (getD fs 0 []) 66 (fault-at blockRules fs 0 e (omega arith) (omega arith)))
-    (levels-as 64 (drop 1 fs) (length-drop 1 fs ∙ omega arith) (fault-drop 1 blockRules fs e))
-
 end-as : (fs : List (List ℕ)) → length fs ≡ 1 → firstFault (rule.Tag 69 ∷ []) fs ≡ none → endFields ≡ fs
 end-as fs n e = field-at fs 0 _ _ (omega arith) (tag-as (getD fs 0 []) 69 (fault-at (rule.Tag 69 ∷ []) fs 0 e (omega arith) (omega arith))) (no-more fs 1 (omega arith))
 
--- The lines that are still to come: n blocks, then the channels cs, with these levels and tables
-abbrev rows : ℕ → List Channel → List ℤ → List ℕ → List (List ℕ)
-rows n cs zs us = blockLines n zs ++ (channelLines cs (held (drop (64 * n) zs) us) ++ joined endFields ∷ [] ∷ [])
+-- The lines that are still to come: n blocks, then the channels cs, with what they hold
+abbrev rows : ℕ → List Channel → Held → List (List ℕ)
+rows n cs K = blockLines (take n (K .ranged)) (K .lent .lows) (K .lent .highs) ++ (channelLines cs (dropHeld n 0 K) ++ joined endFields ∷ [] ∷ [])
 
-one-block : (n : ℕ) (cs : List Channel) (vs zs : List ℤ) (us : List ℕ) → length vs ≡ 64 → rows (suc n) cs (vs ++ zs) us ≡ joined (blockFields vs) ∷ rows n cs zs us
-one-block n cs vs zs us e =
-    let a : take 64 (vs ++ zs) ≡ vs = ap (λ (k : ℕ). take k (vs ++ zs)) (sym e) ∙ take-append-seam vs zs in
-    let b : drop 64 (vs ++ zs) ≡ zs = ap (λ (k : ℕ). drop k (vs ++ zs)) (sym e) ∙ drop-append-seam vs zs in
+-- a block before what is held, and a table
+abbrev blockBefore : Bool → List ℤ → List ℤ → Held → Held
+blockBefore r ls hs K = held (lent (ls ++ K .lent .lows) (hs ++ K .lent .highs) (K .lent .tables)) (r ∷ K .ranged)
+
+abbrev tableBefore : List ℕ → Held → Held
+tableBefore qs K = held (lent (K .lent .lows) (K .lent .highs) (qs ++ K .lent .tables)) (K .ranged)
+
+module _ {A : Type 0} (xs ys : List A) (n : ℕ) (e : length xs ≡ n) where
+  take-front : take n (xs ++ ys) ≡ xs
+  take-front = ap (λ (k : ℕ). take k (xs ++ ys)) (sym e) ∙ take-append-seam xs ys
+
+  drop-front : drop n (xs ++ ys) ≡ ys
+  drop-front = ap (λ (k : ℕ). drop k (xs ++ ys)) (sym e) ∙ drop-append-seam xs ys
+
+  drop-more : (m : ℕ) → drop (n + m) (xs ++ ys) ≡ drop m ys
+  drop-more m = sym (drop-drop m n (xs ++ ys)) ∙ ap (λ (l : List A). drop m l) drop-front
+
+one-block : (n : ℕ) (cs : List Channel) (r : Bool) (ls hs : List ℤ) (K : Held) → length ls ≡ 64 → length hs ≡ 64
+    → rows (suc n) cs (blockBefore r ls hs K) ≡ joined (blockFields r ls hs) ∷ rows n cs K
+one-block n cs r ls hs K e f =
+    let zs = K .lent .lows in
+    let ys = K .lent .highs in
     let m : 64 * suc n ≡ 64 + 64 * n = omega arith in
-    let d : drop (64 * suc n) (vs ++ zs) ≡ drop (64 * n) zs = ap (λ (k : ℕ). drop k (vs ++ zs)) m ∙ sym (drop-drop (64 * n) 64 (vs ++ zs)) ∙ ap (λ (l : List ℤ). drop (64 * n) l) b in
-    rw (d, a, b)
+    rw (m, drop-more ls zs 64 e (64 * n), drop-more hs ys 64 f (64 * n), take-front ls zs 64 e, take-front hs ys 64 f, drop-front ls zs 64 e, drop-front hs ys 64 f)
 
-one-channel : (c : Channel) (cs : List Channel) (zs : List ℤ) (qs us : List ℕ) → 64 * (c .width * c .height / 64) ≡ c .width * c .height → length qs ≡ 64
-    → rows 0 (c ∷ cs) zs (qs ++ us) ≡ joined (channelFields c qs) ∷ rows (c .width * c .height / 64) cs zs us
-one-channel c cs zs qs us w e =
-    let a : take 64 (qs ++ us) ≡ qs = ap (λ (k : ℕ). take k (qs ++ us)) (sym e) ∙ take-append-seam qs us in
-    let b : drop 64 (qs ++ us) ≡ us = ap (λ (k : ℕ). drop k (qs ++ us)) (sym e) ∙ drop-append-seam qs us in
-    rw (a, b, w)
+one-channel : (c : Channel) (cs : List Channel) (qs : List ℕ) (K : Held) → length qs ≡ 64
+    → rows 0 (c ∷ cs) (tableBefore qs K) ≡ joined (channelFields c qs) ∷ rows (c .width * c .height / 64) cs K
+one-channel c cs qs K e =
+    let n = c .width * c .height / 64 in
+    rw (take-front qs (K .lent .tables) 64 e, drop-front qs (K .lent .tables) 64 e)
     (ap (λ (l : List (List ℕ)). joined (channelFields c qs) ∷ l)
-    (append-assoc (blockLines (c .width * c .height / 64) zs) (channelLines cs (held (drop (c .width * c .height) zs) us)) (joined endFields ∷ [] ∷ [])))
+    (append-assoc (blockLines (take n (K .ranged)) (K .lent .lows) (K .lent .highs)) (channelLines cs (dropHeld n 0 K)) (joined endFields ∷ [] ∷ [])))
 
 -- What is left of an accepted text: the lines ps say the rest of the contents C after the state s with what it holds
 record Rest (s : State) (H : Held) (ps : List (List ℕ)) (C : Contents) : Type 0 where
   cs : List Channel
-  zs : List ℤ
-  us : List ℕ
-  lines : ps ≡ rows (s .left) cs zs us
+  K : Held
+  lines : ps ≡ rows (s .left) cs K
   sheet : placedAll (s .sheet) (s .read) cs ≡ C .sheet
   count : s .read + length cs ≡ s .sheet .header .channels
-  levels : H .levels ++ zs ≡ C .held .levels
-  tables : H .tables ++ us ≡ C .held .tables
+  held : joinHeld H K ≡ C .held
 
 record Under (s : State) : Type 0 where
   begun : s .begun ≡ true
@@ -149,62 +149,58 @@ module _ (limits : Limits) (p : List ℕ) (rest : List (List ℕ)) (C : Contents
   fs : List (List ℕ)
   fs = split 9 p
 
-  block-rest : 0 < s .read → 0 < s .left → lineTag s (split 9 p) ≡ 66 → readFrom limits s H k (p ∷ rest) ≡ Gives C → Rest s H (p ∷ rest) C
-  unfolding rulesOf takenOf recordOf fs
-  block-rest m u g e =
-      let l = line-is blockRules k p rest _ C (rw g at e) in
-      let vs = lineLevels (replicate 64 rule.Level) (drop 1 fs) in
-      let a = all-levels 64 (drop 1 fs) (length-drop 1 fs ∙ omega (arith, l .count)) (fault-drop 1 blockRules fs (l .fault)) in
-      let r =
-      ih (record { begun = s .begun; sheet = s .sheet; read = s .read; left = s .left - 1 }) (held (H .levels ++ vs) (H .tables)) (k + 1) (record { begun = b .begun; upto = b .upto }) m
-      (rw (block-levels fs, tables-without blockRules fs refl, append-nil (H .tables)) at (l .more)) in
+  block-rest : (r : Bool) → 0 < s .read → 0 < s .left → BlockTag r (lineTag s (split 9 p)) → readFrom limits s H k (p ∷ rest) ≡ Gives C → Rest s H (p ∷ rest) C
+  block-rest x m u g e =
+      let w = block-read limits s H k x p rest C g e in
+      let r = ih (lessBlock s) (withBlock H x (w .ls) (w .hs)) (k + 1) (record { begun = b .begun; upto = b .upto }) m (w .more) in
+      let K = r .K in
       let n : suc (s .left - 1) ≡ s .left = omega arith in
+      let lows = append-assoc (H .lent .lows) (w .ls) (K .lent .lows) in
+      let highs = append-assoc (H .lent .highs) (w .hs) (K .lent .highs) in
+      let kinds = append-assoc (H .ranged) (x ∷ []) (K .ranged) in
       record {
         cs = r .cs;
-        zs = vs ++ r .zs;
-        us = r .us;
+        K = blockBefore x (w .ls) (w .hs) K;
         lines =
-            (λ i. sym (row-as p (blockFields vs) (block-as fs (l .count) (l .fault))) i ∷ r .lines i)
-            ∙ sym (one-block (s .left - 1) (r .cs) vs (r .zs) (r .us) (a .1)) ∙ ap (λ (m : ℕ). rows m (r .cs) (vs ++ r .zs) (r .us)) n;
+            (λ i. sym (w .row) i ∷ r .lines i)
+            ∙ sym (one-block (s .left - 1) (r .cs) x (w .ls) (w .hs) K (w .block .low-count) (w .block .high-count)) ∙ ap (λ (m : ℕ). rows m (r .cs) (blockBefore x (w .ls) (w .hs) K)) n;
         sheet = r .sheet;
         count = r .count;
-        levels = sym (append-assoc (H .levels) vs (r .zs)) ∙ r .levels;
-        tables = r .tables;
+        held = (λ i. held (lent (sym lows i) (sym highs i) (H .lent .tables ++ K .lent .tables)) (sym kinds i)) ∙ r .held;
       }
 
   channel-rest : s .left ≤ 0 → s .read < s .sheet .header .channels → lineTag s (split 9 p) ≡ 67 → readFrom limits s H k (p ∷ rest) ≡ Gives C → Rest s H (p ∷ rest) C
   unfolding rulesOf takenOf recordOf fs
   channel-rest u v g e =
       let l = line-is channelRules k p rest _ C (rw g at e) in
-      covered (covers (s .sheet .header) (channelOf fs)) refl (l .count) (l .fault) (rw (channel-tables fs, levels-without channelRules fs refl, append-nil (H .levels)) at (l .more))
+      covered (covers (s .sheet .header) (channelOf fs)) refl (l .count) (l .fault) (rw (holds-table H fs) at (l .more))
     where
       c : Channel
       c = channelOf (split 9 p)
 
       qs : List ℕ
-      qs = lineTables (replicate 64 rule.Quantiser) (drop 5 (split 9 p))
+      qs = lineAdds tablesIn (replicate 64 rule.Quantiser) (drop 5 (split 9 p))
 
       covered : (x : Bool) → covers (s .sheet .header) c ≡ x → length (split 9 p) ≡ 69 → firstFault channelRules (split 9 p) ≡ none
-          → onTaken (cond x (taken.Good (opened s c)) (taken.Bad 2)) k (λ t. readFrom limits t (held (H .levels) (H .tables ++ qs)) (k + 1) rest) ≡ Gives C
+          → onTaken (cond x (taken.Good (opened s c)) (taken.Bad 2)) k (λ t. readFrom limits t (withTable H qs) (k + 1) rest) ≡ Gives C
           → Rest s H (p ∷ rest) C
       covered false i n f o = refusal 2 k C o
       covered true i n f o =
-          let good = channel-is-legal (s .sheet .header) (split 9 p) n f i in
           let a = all-quantisers 64 (drop 5 (split 9 p)) (length-drop 5 (split 9 p) ∙ omega arith) (fault-drop 5 channelRules (split 9 p) f) in
-          let r = ih (opened s c) (held (H .levels) (H .tables ++ qs)) (k + 1) (record { begun = refl; upto = omega arith }) (omega arith) o in
+          let r = ih (opened s c) (withTable H qs) (k + 1) (record { begun = refl; upto = omega arith }) (omega arith) o in
+          let K = r .K in
           let z : 0 ≡ s .left = omega arith in
+          let tables = append-assoc (H .lent .tables) qs (K .lent .tables) in
           record {
             cs = c ∷ r .cs;
-            zs = r .zs;
-            us = qs ++ r .us;
+            K = tableBefore qs K;
             lines =
                 (λ i. sym (row-as p (channelFields c qs) (channel-as (split 9 p) n f)) i ∷ r .lines i)
-                ∙ sym (one-channel c (r .cs) (r .zs) qs (r .us) (blocks (c .width) (c .height) (good .width .whole) (good .height .whole)) (a .1))
-                ∙ ap (λ (m : ℕ). rows m (c ∷ r .cs) (r .zs) (qs ++ r .us)) z;
+                ∙ sym (one-channel c (r .cs) qs K (a .1))
+                ∙ ap (λ (m : ℕ). rows m (c ∷ r .cs) (tableBefore qs K)) z;
             sheet = r .sheet;
             count = omega (arith, r .count);
-            levels = r .levels;
-            tables = sym (append-assoc (H .tables) qs (r .us)) ∙ r .tables;
+            held = (λ i. held (lent (H .lent .lows ++ K .lent .lows) (H .lent .highs ++ K .lent .highs) (sym tables i)) (H .ranged ++ K .ranged)) ∙ r .held;
           }
 
   end-rest : s .left ≤ 0 → s .sheet .header .channels ≤ s .read → lineTag s (split 9 p) ≡ 69 → readFrom limits s H k (p ∷ rest) ≡ Gives C → Rest s H (p ∷ rest) C
@@ -222,13 +218,11 @@ module _ (limits : Limits) (p : List ℕ) (rest : List (List ℕ)) (C : Contents
           let y : H ≡ C .held = cc in
           record {
             cs = [];
-            zs = [];
-            us = [];
-            lines = (λ i. sym f i ∷ q i) ∙ ap (λ (m : ℕ). rows m [] [] []) z;
+            K = nothing;
+            lines = (λ i. sym f i ∷ q i) ∙ ap (λ (m : ℕ). rows m [] nothing) z;
             sheet = x;
             count = omega (arith, b .upto);
-            levels = append-nil (H .levels) ∙ ap (λ (h : Held). h .levels) y;
-            tables = append-nil (H .tables) ∙ ap (λ (h : Held). h .tables) y;
+            held = rw (append-nil (H .lent .lows), append-nil (H .lent .highs), append-nil (H .lent .tables), append-nil (H .ranged)) y;
           }
       last ([] ∷ (r ∷ ps)) w o q f = refusal 7 (k + 1) C o
       last ((x ∷ r) ∷ ps) w o q f = refusal 7 (k + 1) C o
@@ -241,7 +235,7 @@ module _ (limits : Limits) (p : List ℕ) (rest : List (List ℕ)) (C : Contents
       by (Setting-line i q g) =
           let z : s .read ≡ 0 = eqb-true (s .read) 0 (both-left (eqb (s .read) 0) (ltb (lastSaid (s .sheet .settings)) i) (both-right (s .begun) (eqb (s .read) 0 && ltb (lastSaid (s .sheet .settings)) i) q)) in
           let y : ⊥ = omega arith in absurd y
-      by (Block-line q u g) = block-rest m u g e
+      by (Block-line r q u g) = block-rest r m u g e
       by (Channel-line q u v g) = channel-rest u v g e
       by (End-line q u v g) = end-rest u v g e
 
@@ -255,12 +249,12 @@ record Opening (t : Sheet) (ps : List (List ℕ)) (C : Contents) : Type 0 where
   later : List (List ℕ)
   lines : ps ≡ linesAfter (lastSaid (t .settings)) y ++ later
   agree : Agree (lastSaid (t .settings)) (t .settings) y
-  rest : Rest (during (settled t y) 0 0) (held [] []) later C
+  rest : Rest (during (settled t y) 0 0) nothing later C
 
 module _ (limits : Limits) (p : List ℕ) (rest : List (List ℕ)) (C : Contents)
-    (ih : (t : Sheet) (k : ℕ) → readFrom limits (during t 0 0) (held [] []) k rest ≡ Gives C → Opening t rest C) (t : Sheet) (k : ℕ)
-    (e : readFrom limits (during t 0 0) (held [] []) k (p ∷ rest) ≡ Gives C) where
-  no-setting : Rest (during t 0 0) (held [] []) (p ∷ rest) C → Opening t (p ∷ rest) C
+    (ih : (t : Sheet) (k : ℕ) → readFrom limits (during t 0 0) nothing k rest ≡ Gives C → Opening t rest C) (t : Sheet) (k : ℕ)
+    (e : readFrom limits (during t 0 0) nothing k (p ∷ rest) ≡ Gives C) where
+  no-setting : Rest (during t 0 0) nothing (p ∷ rest) C → Opening t (p ∷ rest) C
   no-setting r =
       record {
         y = t .settings;
@@ -273,7 +267,7 @@ module _ (limits : Limits) (p : List ℕ) (rest : List (List ℕ)) (C : Contents
   one-setting : (i : ℕ) → lastSaid (t .settings) < i → SettingTag i (lineTag (during t 0 0) (split 9 p)) → Opening t (p ∷ rest) C
   one-setting i h g =
       let x : Settings = t .settings in
-      let r = setting-read limits (during t 0 0) (held [] []) k i p rest C g e in
+      let r = setting-read limits (during t 0 0) nothing k i p rest C g e in
       let z = r .x in
       let u : lastSaid x < placeOf z = omega (arith, h, r .place) in
       let o = ih (settled t (withSetting x z)) (k + 1) (r .more) in
@@ -292,13 +286,13 @@ module _ (limits : Limits) (p : List ℕ) (rest : List (List ℕ)) (C : Contents
   opening-line : Stands (during t 0 0) (lineTag (during t 0 0) (split 9 p)) → Opening t (p ∷ rest) C
   opening-line (Header-line q g) = unbegun (during t 0 0) refl q
   opening-line (Setting-line i q g) = one-setting i (ltb-true (lastSaid (t .settings)) i q) g
-  opening-line (Block-line q v g) = let y : ⊥ = omega arith in absurd y
+  opening-line (Block-line r q v g) = let y : ⊥ = omega arith in absurd y
   opening-line (Channel-line q v w g) =
-      no-setting (channel-rest limits p rest C (rest-from limits rest C) (during t 0 0) (held [] []) k (record { begun = refl; upto = omega arith }) v w g e)
+      no-setting (channel-rest limits p rest C (rest-from limits rest C) (during t 0 0) nothing k (record { begun = refl; upto = omega arith }) v w g e)
   opening-line (End-line q v w g) =
-      no-setting (end-rest limits p rest C (rest-from limits rest C) (during t 0 0) (held [] []) k (record { begun = refl; upto = omega arith }) v w g e)
+      no-setting (end-rest limits p rest C (rest-from limits rest C) (during t 0 0) nothing k (record { begun = refl; upto = omega arith }) v w g e)
 
-opening : (limits : Limits) (ps : List (List ℕ)) (C : Contents) (t : Sheet) (k : ℕ) → readFrom limits (during t 0 0) (held [] []) k ps ≡ Gives C → Opening t ps C
+opening : (limits : Limits) (ps : List (List ℕ)) (C : Contents) (t : Sheet) (k : ℕ) → readFrom limits (during t 0 0) nothing k ps ≡ Gives C → Opening t ps C
 opening limits [] C t k e = refusal 7 k C e
 opening limits (p ∷ rest) C t k e = opening-line limits p rest C (opening limits rest C) t k e (stands (during t 0 0) (split 9 p) (lineTag (during t 0 0) (split 9 p)) refl)
 
@@ -323,20 +317,20 @@ in-use h r (a ∷ (b ∷ (c ∷ (d ∷ cs)))) e k = let y : ⊥ = omega arith in
 abbrev Pieces : Contents → List (List ℕ) → Type 0
 Pieces C ps = ps ≡ joined (headerFields (C .sheet .header)) ∷ (settingLines (C .sheet .settings) ++ (channelLines (channelsOf (C .sheet)) (C .held) ++ joined endFields ∷ [] ∷ []))
 
-pieces-are : (limits : Limits) (ps : List (List ℕ)) (C : Contents) → readFrom limits blank (held [] []) 1 ps ≡ Gives C → Pieces C ps
+pieces-are : (limits : Limits) (ps : List (List ℕ)) (C : Contents) → readFrom limits blank nothing 1 ps ≡ Gives C → Pieces C ps
 unfolding rulesOf takenOf recordOf
 pieces-are limits [] C e = refusal 7 1 C e
 pieces-are limits (p ∷ rest) C e =
     let l = line-is (headerRules limits (split 9 p)) 1 p rest _ C (rw (first-tag (split 9 p)) at e) in
     let fs = split 9 p in
     let h = headerOf fs in
-    let o = opening limits rest C (headed h) 2 (rw (levels-without (headerRules limits fs) fs refl, tables-without (headerRules limits fs) fs refl) at (l .more)) in
+    let o = opening limits rest C (headed h) 2 (rw (holds-none nothing 83 (headerRules limits fs) fs refl refl refl) at (l .more)) in
     let r = o .rest in
     let t = settled (headed h) (o .y) in
     let same : C .sheet .header ≡ h = ap (λ (s : Sheet). s .header) (sym (r .sheet)) ∙ header-kept t 0 (r .cs) in
     let set : C .sheet .settings ≡ o .y = ap (λ (s : Sheet). s .settings) (sym (r .sheet)) ∙ settings-kept t 0 (r .cs) in
     let used : channelsOf (C .sheet) ≡ r .cs = ap channelsOf (sym (r .sheet)) ∙ in-use h (o .y) (r .cs) (omega (arith, r .count)) (few limits h (header-is-legal limits fs (l .count) (l .fault))) in
-    let kept : C .held ≡ held (r .zs) (r .us) = λ i. held (sym (r .levels) i) (sym (r .tables) i) in
+    let kept : C .held ≡ r .K = sym (r .held) in
     (λ i. sym (row-as p (headerFields h) (header-as limits fs (l .count) (l .fault))) i ∷ (o .lines ∙ ap (λ (q : List (List ℕ)). settingLines (o .y) ++ q) (r .lines)) i)
     ∙ sym (λ i. joined (headerFields (same i)) ∷ (settingLines (set i) ++ (channelLines (used i) (kept i) ++ joined endFields ∷ [] ∷ [])))
 
@@ -345,7 +339,7 @@ pub canonical : (limits : Limits) (text : List ℕ) (s : Sheet) (H : Held) → r
 unfolding readText written
 canonical limits text s H e = two (allowed limits) e
   where
-    by : readFrom limits blank (held [] []) 1 (split 10 text) ≡ contents s H → text ≡ written s H
+    by : readFrom limits blank nothing 1 (split 10 text) ≡ contents s H → text ≡ written s H
     by o =
         let cs = channelLines (channelsOf s) H in
         sym (ended-split text (joined (headerFields (s .header)) ∷ (settingLines (s .settings) ++ (cs ++ joined endFields ∷ [])))
@@ -353,7 +347,7 @@ canonical limits text s H e = two (allowed limits) e
         ∙ ap (λ (q : List (List ℕ)). joined (headerFields (s .header)) ∷ q)
         (sym (append-assoc (settingLines (s .settings)) (cs ++ joined endFields ∷ []) ([] ∷ []) ∙ ap (λ (q : List (List ℕ)). settingLines (s .settings) ++ q) (append-assoc cs (joined endFields ∷ []) ([] ∷ []))))))
 
-    two : (b : Bool) → cond b (readFrom limits blank (held [] []) 1 (split 10 text)) (Refused 2 0) ≡ contents s H → text ≡ written s H
+    two : (b : Bool) → cond b (readFrom limits blank nothing 1 (split 10 text)) (Refused 2 0) ≡ contents s H → text ≡ written s H
     two true o = by o
     two false o = refusal 2 0 (record { sheet = s; held = H }) o
 
@@ -361,6 +355,10 @@ canonical limits text s H e = two (allowed limits) e
 pub accepts : (limits : Limits) (text : List ℕ) (s : Sheet) (H : Held) → Accepts limits text s H
 accepts limits text s H =
     record {
-      only = λ e. record { as-written = canonical limits text s H e; legal = legal limits text s H e };
-      all = λ t. ap (readText limits) (t .as-written) ∙ round-trip limits s H (t .legal);
+      only = λ e. record { as-written = canonical limits text s H e; legal = legal limits text s H e; blocks = legal-blocks limits text s H e };
+      all = λ t. ap (readText limits) (t .as-written) ∙ round-trip limits s H (t .legal) (t .blocks);
     }
+
+-- The kinds of its blocks' lines change nothing else of what a text gives
+pub equal-pairs : (limits : Limits) (text : List ℕ) (s : Sheet) (b : Lent) (one other : List Bool) → EqualPairs limits text s b one other
+equal-pairs limits text s b one other = record { same = λ e k. round-trip limits s (held b other) (legal limits text s (held b one) e) k }

@@ -1,7 +1,7 @@
 -- Every sheet that is read is legal.
 use Prim.Native.Nat.{ℕ, zero, suc, _+_, _-_, _*_, _/_, _%_, _<_, _≤_}
 use mathlib.Core.Path.{_≡_, refl, sym, ap, _∙_, subst}
-use mathlib.Core.List.{List, [], _∷_, _++_, append-nil}
+use mathlib.Core.List.{List, [], _∷_, _++_}
 use mathlib.Core.Bool.{Bool, true, false, cond}
 use mathlib.Core.Logic.{⊎-elim}
 use mathlib.Core.Option.{Option, none, some}
@@ -17,26 +17,28 @@ use Rattle.text.specs.declared.field.Rule.the-variants as rule
 use Rattle.text.specs.Pieces.{split}
 use Rattle.text.specs.Numbers.{numberAt}
 use Rattle.text.specs.Weights.{weightAt}
-use Rattle.text.specs.Fields.{isSide, fieldOf, faultIn}
-use Rattle.contents.specs.Legal.{Between, LegalSide, LegalLimits, LegalHeader, LegalChannel, LegalQuantisers, LegalLevels, LegalSheet}
+use Rattle.text.specs.Fields.{isSide, fieldOf, faultIn, tablesIn}
+use Rattle.contents.specs.Legal.{Between, LegalSide, LegalLimits, LegalHeader, LegalChannel, LegalQuantisers, LegalLevels, LegalRanges, LegalSheet, LegalBlocks}
+use Rattle.digits.specs.Written.{joined}
 use Rattle.text.proofs.GoodLaws.{side-is, range-good, count-good, side-good, channels-good, weight-good}
 use Rattle.digits.proofs.Both.{both-left, both-right}
 use Rattle.contents.specs.declared.Limits.{Limits}
 use Rattle.contents.specs.declared.Header.{Header}
 use Rattle.contents.specs.declared.Channel.{Channel}
 use Rattle.contents.specs.declared.Sheet.{Sheet}
 use Rattle.sheet.specs.declared.line.Setting.{Setting}
 use Rattle.sheet.specs.declared.state.State.{State}
 use Rattle.sheet.specs.declared.state.Taken.the-variants as taken
-use Rattle.sheet.specs.Lines.{headerRules, channelRules, blockRules, endRules, rulesOf, firstFault, fieldsFault, lineLevels, lineTables, holding, headerOf, channelOf, recordOf}
-use Rattle.contents.specs.Sheets.{Held, held, noChannel, channelAt, levelsTo}
+use Rattle.sheet.specs.Lines.{headerRules, channelRules, endRules, rulesOf, firstFault, fieldsFault, lineAdds, holding, headerOf, channelOf, recordOf}
+use Rattle.contents.specs.Sheets.{Held, nothing, noChannel, channelAt, levelsTo}
 use Rattle.sheet.specs.Reading.{Outcome, Contents, contents, headed, blank, lineTag, withSetting, settled, placed, opened, covers, takenOf, isLast, lineFault, nothingLeft, onFault, onTaken, readFrom, allowed, readText}
 use Rattle.sheet.specs.Reading.Outcome.{Gives, Refused}
-use Rattle.sheet.specs.Written.{settingLine}
-use Rattle.sheet.proofs.StateLaws.{SettingTag, Stands, stands, unbegun, first-tag}
+use Rattle.grammar.specs.Written.{settingLine, blockFields}
+use Rattle.sheet.proofs.StateLaws.{SettingTag, BlockTag, Stands, stands, unbegun, first-tag}
 use Rattle.sheet.proofs.StateLaws.Stands.{Header-line, Setting-line, Block-line, Channel-line, End-line}
-use Rattle.sheet.proofs.GoodLines.{fault-at, fault-drop, tables-without, levels-without, channel-tables, block-levels, all-quantisers, all-levels}
-use Rattle.sheet.proofs.SettingLaws.{placeOf, Said, said-line, no-end}
+use Rattle.sheet.proofs.GoodLines.{fault-at, fault-drop, holds-none, withTable, holds-table, all-quantisers}
+use Rattle.grammar.proofs.SettingLaws.{placeOf, Said, said-line, no-end}
+use Rattle.grammar.proofs.BlockLaws.{Block, withBlock, BlockSaid, said-block, block-no-end, block-record, more-levels, more-ranges, more-kinds}
 
 -- Good lines
 
@@ -101,10 +103,6 @@ more-quantisers : (xs ys : List ℕ) → LegalQuantisers xs → LegalQuantisers 
 more-quantisers [] ys a b = b
 more-quantisers (q ∷ xs) ys a b = (a .0, more-quantisers xs ys (a .1) b)
 
-more-levels : (xs ys : List ℤ) → LegalLevels xs → LegalLevels ys → LegalLevels (xs ++ ys)
-more-levels [] ys a b = b
-more-levels (z ∷ xs) ys a b = (a .0, more-levels xs ys (a .1) b)
-
 -- The sheet so far
 
 record Begun (limits : Limits) (s : State) (H : Held) : Type 0 where
@@ -113,10 +111,14 @@ record Begun (limits : Limits) (s : State) (H : Held) : Type 0 where
   upto : s .read ≤ s .sheet .header .channels
   channel : (j : ℕ) → j < s .read → LegalChannel (s .sheet .header) (channelAt (s .sheet) j)
   spare : (j : ℕ) → s .read ≤ j → j < 3 → channelAt (s .sheet) j ≡ noChannel
-  levels-count : length (H .levels) + 64 * s .left ≡ levelsTo (s .sheet) (s .read)
-  tables-count : length (H .tables) ≡ 64 * s .read
-  levels : LegalLevels (H .levels)
-  tables : LegalQuantisers (H .tables)
+  lows-count : length (H .lent .lows) + 64 * s .left ≡ levelsTo (s .sheet) (s .read)
+  highs-count : length (H .lent .highs) + 64 * s .left ≡ levelsTo (s .sheet) (s .read)
+  tables-count : length (H .lent .tables) ≡ 64 * s .read
+  lows : LegalLevels (H .lent .lows)
+  highs : LegalLevels (H .lent .highs)
+  ranges : LegalRanges (H .lent .lows) (H .lent .highs)
+  tables : LegalQuantisers (H .lent .tables)
+  kinds : LegalBlocks H
 
 pub few : (limits : Limits) (h : Header) → LegalHeader limits h → h .channels ≤ 3
 few limits h l = ⊎-elim (λ e. omega arith) (λ e. omega arith) (l .channels)
@@ -199,43 +201,82 @@ setting-read limits s H k i p rest C g e =
     rs : List Rule
     rs = rulesOf (lineTag s (split 9 p)) limits (s .sheet .header) (split 9 p)
 
-    by : Said i rs p (recordOf (lineTag s (split 9 p)) (split 9 p))
+    by : Said i (lineTag s (split 9 p)) rs p (recordOf (lineTag s (split 9 p)) (split 9 p))
         → cond (eqb (lineTag s (split 9 p)) 69) (cond (nothingLeft rest) (contents (s .sheet) H) (Refused 7 (k + 1)))
-        (onTaken (takenOf s (recordOf (lineTag s (split 9 p)) (split 9 p))) k (λ t. readFrom limits t (holding H rs (split 9 p)) (k + 1) rest)) ≡ Gives C
+        (onTaken (takenOf s (recordOf (lineTag s (split 9 p)) (split 9 p))) k (λ t. readFrom limits t (holding H (lineTag s (split 9 p)) rs (split 9 p)) (k + 1) rest)) ≡ Gives C
         → SettingRead limits s H k i p rest C
     by w o =
         record {
           x = w .x;
           place = w .place;
           row = w .row;
-          more = rw (no-end i (lineTag s (split 9 p)) g, w .says, w .levels, w .tables, append-nil (H .levels), append-nil (H .tables)) at o;
+          more = rw (no-end i (lineTag s (split 9 p)) g, w .says, w .holds H) at o;
+        }
+
+-- A block's line that is no refusal, likewise
+
+abbrev pub lessBlock : State → State
+lessBlock s = record { begun = s .begun; sheet = s .sheet; read = s .read; left = s .left - 1 }
+
+pub record BlockRead (limits : Limits) (s : State) (H : Held) (k : ℕ) (r : Bool) (p : List ℕ) (rest : List (List ℕ)) (C : Contents) : Type 0 where
+  pub ls : List ℤ
+  pub hs : List ℤ
+  pub block : Block r ls hs
+  pub row : joined (blockFields r ls hs) ≡ p
+  pub more : readFrom limits (lessBlock s) (withBlock H r ls hs) (k + 1) rest ≡ Gives C
+
+pub block-read : (limits : Limits) (s : State) (H : Held) (k : ℕ) (r : Bool) (p : List ℕ) (rest : List (List ℕ)) (C : Contents)
+    → BlockTag r (lineTag s (split 9 p)) → readFrom limits s H k (p ∷ rest) ≡ Gives C → BlockRead limits s H k r p rest C
+unfolding takenOf
+block-read limits s H k r p rest C g e =
+    let l = line-is rs k p rest _ C e in
+    by (said-block r (lineTag s (split 9 p)) limits (s .sheet .header) p g (l .count) (l .fault)) (l .more)
+  where
+    rs : List Rule
+    rs = rulesOf (lineTag s (split 9 p)) limits (s .sheet .header) (split 9 p)
+
+    by : BlockSaid r (lineTag s (split 9 p)) rs p
+        → cond (eqb (lineTag s (split 9 p)) 69) (cond (nothingLeft rest) (contents (s .sheet) H) (Refused 7 (k + 1)))
+        (onTaken (takenOf s (recordOf (lineTag s (split 9 p)) (split 9 p))) k (λ t. readFrom limits t (holding H (lineTag s (split 9 p)) rs (split 9 p)) (k + 1) rest)) ≡ Gives C
+        → BlockRead limits s H k r p rest C
+    by w o =
+        record {
+          ls = w .ls;
+          hs = w .hs;
+          block = w .block;
+          row = w .row;
+          more = rw (block-no-end r (lineTag s (split 9 p)) g, block-record r (lineTag s (split 9 p)) (split 9 p) g, w .holds H) at o;
         }
 
 -- One line, then the others
 
 abbrev LegalContents : Limits → Contents → Type 0
-LegalContents limits c = LegalSheet limits (c .sheet) (c .held)
+LegalContents limits c = LegalSheet limits (c .sheet) (c .held .lent) × LegalBlocks (c .held)
 
 module _ (limits : Limits) (most : LegalLimits limits) (p : List ℕ) (rest : List (List ℕ)) (C : Contents)
     (ih : (s : State) (H : Held) (k : ℕ) → Begun limits s H → readFrom limits s H k rest ≡ Gives C → LegalContents limits C) where
-  first-line : (k : ℕ) → readFrom limits blank (held [] []) k (p ∷ rest) ≡ Gives C → LegalContents limits C
+  first-line : (k : ℕ) → readFrom limits blank nothing k (p ∷ rest) ≡ Gives C → LegalContents limits C
   unfolding rulesOf takenOf recordOf
   first-line k e =
       let l = line-is (headerRules limits (split 9 p)) k p rest _ C (rw (first-tag (split 9 p)) at e) in
       let fs = split 9 p in
-      ih (record { begun = true; sheet = headed (headerOf fs); read = 0; left = 0 }) (held [] []) (k + 1)
+      ih (record { begun = true; sheet = headed (headerOf fs); read = 0; left = 0 }) nothing (k + 1)
       (record {
         begun = refl;
         header = header-is-legal limits fs (l .count) (l .fault);
         upto = omega arith;
         channel = λ j h. let y : ⊥ = omega arith in absurd y;
         spare = λ j h. none-yet j (headerOf fs);
-        levels-count = omega arith;
+        lows-count = omega arith;
+        highs-count = omega arith;
         tables-count = omega arith;
-        levels = tt;
+        lows = tt;
+        highs = tt;
+        ranges = tt;
         tables = tt;
+        kinds = record { kinds-count = refl; kinds = tt };
       })
-      (rw (levels-without (headerRules limits fs) fs refl, tables-without (headerRules limits fs) fs refl) at (l .more))
+      (rw (holds-none nothing 83 (headerRules limits fs) fs refl refl refl) at (l .more))
     where
       none-yet : (j : ℕ) (h : Header) → j < 3 → channelAt (headed h) j ≡ noChannel
       none-yet zero h k = refl
@@ -244,26 +285,36 @@ module _ (limits : Limits) (most : LegalLimits limits) (p : List ℕ) (rest : Li
       none-yet (suc (suc (suc j))) h k = let y : ⊥ = omega arith in absurd y
 
   module _ (s : State) (H : Held) (k : ℕ) (b : Begun limits s H) where
-    block-line : 0 < s .left → lineTag s (split 9 p) ≡ 66 → readFrom limits s H k (p ∷ rest) ≡ Gives C → LegalContents limits C
-    unfolding rulesOf takenOf recordOf
-    block-line u g e =
-        let l = line-is blockRules k p rest _ C (rw g at e) in
-        let fs = split 9 p in
-        let a = all-levels 64 (drop 1 fs) (length-drop 1 fs ∙ omega (arith, l .count)) (fault-drop 1 blockRules fs (l .fault)) in
-        let vs = lineLevels (replicate 64 rule.Level) (drop 1 fs) in
-        ih (record { begun = s .begun; sheet = s .sheet; read = s .read; left = s .left - 1 }) (held (H .levels ++ vs) (H .tables)) (k + 1)
+    block-line : (r : Bool) → 0 < s .left → BlockTag r (lineTag s (split 9 p)) → readFrom limits s H k (p ∷ rest) ≡ Gives C → LegalContents limits C
+    block-line r u g e =
+        let w = block-read limits s H k r p rest C g e in
+        let x = w .block in
+        let ls = H .lent .lows in
+        let hs = H .lent .highs in
+        let rs = H .ranged in
+        let n : length ls ≡ 64 * length rs = sym (b .kinds .kinds-count) in
+        let m : length hs ≡ 64 * length rs = omega (arith, b .lows-count, b .highs-count, b .kinds .kinds-count) in
+        ih (lessBlock s) (withBlock H r (w .ls) (w .hs)) (k + 1)
         (record {
           begun = b .begun;
           header = b .header;
           upto = b .upto;
           channel = b .channel;
           spare = b .spare;
-          levels-count = rw (length-append (H .levels) vs) (omega (arith, a .1, b .levels-count));
+          lows-count = rw (length-append ls (w .ls)) (omega (arith, x .low-count, b .lows-count));
+          highs-count = rw (length-append hs (w .hs)) (omega (arith, x .high-count, b .highs-count));
           tables-count = b .tables-count;
-          levels = more-levels (H .levels) vs (b .levels) (a .0);
+          lows = more-levels ls (w .ls) (b .lows) (x .lows);
+          highs = more-levels hs (w .hs) (b .highs) (x .highs);
+          ranges = more-ranges ls hs (w .ls) (w .hs) (n ∙ sym m) (b .ranges) (x .ranges);
           tables = b .tables;
+          kinds =
+              record {
+                kinds-count = rw (length-append ls (w .ls), length-append rs (r ∷ [])) (omega (arith, x .low-count, b .kinds .kinds-count));
+                kinds = more-kinds rs ls hs r (w .ls) (w .hs) n m (b .kinds .kinds) (x .alike);
+              };
         })
-        (rw (block-levels fs, tables-without blockRules fs refl, append-nil (H .tables)) at (l .more))
+        (w .more)
 
     setting-line : (i : ℕ) → SettingTag i (lineTag s (split 9 p)) → readFrom limits s H k (p ∷ rest) ≡ Gives C → LegalContents limits C
     setting-line i g e =
@@ -276,10 +327,14 @@ module _ (limits : Limits) (most : LegalLimits limits) (p : List ℕ) (rest : Li
           upto = b .upto;
           channel = b .channel;
           spare = b .spare;
-          levels-count = b .levels-count ∙ sym (levels-same (s .sheet) t (s .read) (λ j h. refl));
+          lows-count = b .lows-count ∙ sym (levels-same (s .sheet) t (s .read) (λ j h. refl));
+          highs-count = b .highs-count ∙ sym (levels-same (s .sheet) t (s .read) (λ j h. refl));
           tables-count = b .tables-count;
-          levels = b .levels;
+          lows = b .lows;
+          highs = b .highs;
+          ranges = b .ranges;
           tables = b .tables;
+          kinds = b .kinds;
         })
         (r .more)
 
@@ -288,7 +343,7 @@ module _ (limits : Limits) (most : LegalLimits limits) (p : List ℕ) (rest : Li
     channel-line u v g e =
         let l = line-is channelRules k p rest _ C (rw g at e) in
         let fs = split 9 p in
-        covered (covers (s .sheet .header) (channelOf fs)) refl (l .count) (l .fault) (rw (channel-tables fs, levels-without channelRules fs refl, append-nil (H .levels)) at (l .more))
+        covered (covers (s .sheet .header) (channelOf fs)) refl (l .count) (l .fault) (rw (holds-table H fs) at (l .more))
       where
         fs : List (List ℕ)
         fs = split 9 p
@@ -297,10 +352,10 @@ module _ (limits : Limits) (most : LegalLimits limits) (p : List ℕ) (rest : Li
         c = channelOf fs
 
         qs : List ℕ
-        qs = lineTables (replicate 64 rule.Quantiser) (drop 5 fs)
+        qs = lineAdds tablesIn (replicate 64 rule.Quantiser) (drop 5 fs)
 
         covered : (x : Bool) → covers (s .sheet .header) c ≡ x → length fs ≡ 69 → firstFault channelRules fs ≡ none
-            → onTaken (cond x (taken.Good (opened s c)) (taken.Bad 2)) k (λ t. readFrom limits t (held (H .levels) (H .tables ++ qs)) (k + 1) rest) ≡ Gives C
+            → onTaken (cond x (taken.Good (opened s c)) (taken.Bad 2)) k (λ t. readFrom limits t (withTable H qs) (k + 1) rest) ≡ Gives C
             → LegalContents limits C
         covered false i n f o = let z : _≡_ {A = ℕ} 0 1 = cc in let y : ⊥ = omega arith in absurd y
         covered true i n f o =
@@ -313,19 +368,25 @@ module _ (limits : Limits) (most : LegalLimits limits) (p : List ℕ) (rest : Li
             ∙ ap (λ (n : ℕ). n + channelAt (t .sheet) (s .read) .width * channelAt (t .sheet) (s .read) .height)
             (levels-same (s .sheet) (t .sheet) (s .read) (λ q h. placed-other (s .sheet) (s .read) c q (λ w. omega arith) (omega arith)))
             ∙ ap (λ (d : Channel). levelsTo (s .sheet) (s .read) + d .width * d .height) (placed-there (s .sheet) (s .read) c (omega arith)) in
-            let kept : length (H .levels) + 64 * (c .width * c .height / 64) ≡ levelsTo (s .sheet) (s .read) + c .width * c .height =
-            omega (arith, blocks (c .width) (c .height) (good .width .whole) (good .height .whole), b .levels-count, u) in
-            ih t (held (H .levels) (H .tables ++ qs)) (k + 1)
+            let kept : length (H .lent .lows) + 64 * (c .width * c .height / 64) ≡ levelsTo (s .sheet) (s .read) + c .width * c .height =
+            omega (arith, blocks (c .width) (c .height) (good .width .whole) (good .height .whole), b .lows-count, u) in
+            let too : length (H .lent .highs) + 64 * (c .width * c .height / 64) ≡ levelsTo (s .sheet) (s .read) + c .width * c .height =
+            omega (arith, blocks (c .width) (c .height) (good .width .whole) (good .height .whole), b .highs-count, u) in
+            ih t (withTable H qs) (k + 1)
             (record {
               begun = refl;
               header = b .header;
               upto = omega (arith, v);
               channel = λ q h. which q r good (eqb q (s .read)) refl (omega arith);
               spare = λ q h w. placed-other (s .sheet) (s .read) c q (λ x. omega arith) w ∙ b .spare q (omega arith) w;
-              levels-count = kept ∙ sym all;
-              tables-count = rw (length-append (H .tables) qs) (omega (arith, a .1, b .tables-count));
-              levels = b .levels;
-              tables = more-quantisers (H .tables) qs (b .tables) (a .0);
+              lows-count = kept ∙ sym all;
+              highs-count = too ∙ sym all;
+              tables-count = rw (length-append (H .lent .tables) qs) (omega (arith, a .1, b .tables-count));
+              lows = b .lows;
+              highs = b .highs;
+              ranges = b .ranges;
+              tables = more-quantisers (H .lent .tables) qs (b .tables) (a .0);
+              kinds = record { kinds-count = b .kinds .kinds-count; kinds = b .kinds .kinds };
             })
             o
           where
@@ -346,19 +407,23 @@ module _ (limits : Limits) (most : LegalLimits limits) (p : List ℕ) (rest : Li
         ended false o = let z : _≡_ {A = ℕ} 0 1 = cc in let y : ⊥ = omega arith in absurd y
         ended true o =
             let x : s .read ≡ s .sheet .header .channels = omega (arith, b .upto, v) in
-            let all : length (H .levels) ≡ levelsTo (s .sheet) (s .read) = omega (arith, b .levels-count, u) in
-            let r : LegalContents limits (record { sheet = s .sheet; held = H }) =
+            let all : length (H .lent .lows) ≡ levelsTo (s .sheet) (s .read) = omega (arith, b .lows-count, u) in
+            let too : length (H .lent .highs) ≡ levelsTo (s .sheet) (s .read) = omega (arith, b .highs-count, u) in
+            let r : LegalSheet limits (s .sheet) (H .lent) =
             record {
               limits-legal = most;
               header = b .header;
               channel = λ j h. b .channel j (omega arith);
               spare = λ j h w. b .spare j (omega arith) w;
-              levels-count = all ∙ ap (λ (n : ℕ). levelsTo (s .sheet) n) x;
+              lows-count = all ∙ ap (λ (n : ℕ). levelsTo (s .sheet) n) x;
+              highs-count = too ∙ ap (λ (n : ℕ). levelsTo (s .sheet) n) x;
               tables-count = b .tables-count ∙ ap (λ (n : ℕ). 64 * n) x;
-              levels = b .levels;
+              lows = b .lows;
+              highs = b .highs;
+              ranges = b .ranges;
               tables = b .tables;
             } in
-            subst (LegalContents limits) (same (record { sheet = s .sheet; held = H }) C o) r
+            subst (LegalContents limits) (same (record { sheet = s .sheet; held = H }) C o) (r, b .kinds)
           where
             same : (A B : Contents) → Gives A ≡ Gives B → A ≡ B
             same A B q = cc
@@ -369,7 +434,7 @@ module _ (limits : Limits) (most : LegalLimits limits) (p : List ℕ) (rest : Li
         by : Stands s (lineTag s (split 9 p)) → LegalContents limits C
         by (Header-line q g) = unbegun s (b .begun) q
         by (Setting-line i q g) = setting-line i g e
-        by (Block-line q u g) = block-line u g e
+        by (Block-line r q u g) = block-line r u g e
         by (Channel-line q u v g) = channel-line u v g e
         by (End-line q u v g) = end-line u v g e
 
@@ -381,18 +446,24 @@ legal-from : (limits : Limits) → LegalLimits limits → (ps : List (List ℕ))
 legal-from limits m [] C s H k b e = refusal 7 k C e
 legal-from limits m (p ∷ rest) C s H k b e = any-line limits m p rest C (legal-from limits m rest C) s H k b e
 
--- Every sheet that is read is legal
-pub legal : (limits : Limits) (text : List ℕ) (s : Sheet) (H : Held) → readText limits text ≡ contents s H → LegalSheet limits s H
+both-legal : (limits : Limits) (text : List ℕ) (s : Sheet) (H : Held) → readText limits text ≡ contents s H → LegalSheet limits s (H .lent) × LegalBlocks H
 unfolding readText
-legal limits text s H e = two (allowed limits) refl e
+both-legal limits text s H e = two (allowed limits) refl e
   where
     C : Contents
     C = record { sheet = s; held = H }
 
-    by : LegalLimits limits → (ps : List (List ℕ)) → readFrom limits blank (held [] []) 1 ps ≡ Gives C → LegalSheet limits s H
+    by : LegalLimits limits → (ps : List (List ℕ)) → readFrom limits blank nothing 1 ps ≡ Gives C → LegalContents limits C
     by m [] o = refusal 7 1 C o
     by m (p ∷ rest) o = first-line limits m p rest C (legal-from limits m rest C) 1 o
 
-    two : (b : Bool) → allowed limits ≡ b → cond b (readFrom limits blank (held [] []) 1 (split 10 text)) (Refused 2 0) ≡ Gives C → LegalSheet limits s H
+    two : (b : Bool) → allowed limits ≡ b → cond b (readFrom limits blank nothing 1 (split 10 text)) (Refused 2 0) ≡ Gives C → LegalContents limits C
     two true p o = by (allowed-is limits p) (split 10 text) o
     two false p o = refusal 2 0 C o
+
+-- Every sheet that is read is legal, and so are the kinds of its blocks
+pub legal : (limits : Limits) (text : List ℕ) (s : Sheet) (H : Held) → readText limits text ≡ contents s H → LegalSheet limits s (H .lent)
+legal limits text s H e = both-legal limits text s H e .0
+
+pub legal-blocks : (limits : Limits) (text : List ℕ) (s : Sheet) (H : Held) → readText limits text ≡ contents s H → LegalBlocks H
+legal-blocks limits text s H e = both-legal limits text s H e .1

@@ -6,14 +6,15 @@ use mathlib.Core.List.{List}
 use Rattle.contents.specs.declared.Limits.{Limits}
 use Rattle.contents.specs.declared.Sheet.{Sheet}
 use Rattle.contents.specs.Sheets.{Held}
 use Rattle.sheet.specs.Reading.{contents, readText}
-use Rattle.contents.specs.Legal.{LegalSheet}
-use Rattle.sheet.specs.Written.{written}
+use Rattle.contents.specs.Legal.{LegalSheet, LegalBlocks}
+use Rattle.grammar.specs.Written.{written}
 
 -- The text of a sheet with what it holds, within the caller's limits
 pub record TextOf (limits : Limits) (s : Sheet) (h : Held) (text : List ℕ) : Type 0 where
   pub as-written : text ≡ written s h
-  pub legal : LegalSheet limits s h
+  pub legal : LegalSheet limits s (h .lent)
+  pub blocks : LegalBlocks h
 
 -- A text is accepted with these contents exactly when it is their text
 pub record Accepts (limits : Limits) (text : List ℕ) (s : Sheet) (h : Held) : Type 0 where

@@ -1,7 +1,7 @@
 -- A sheet written as text: the text that reads as it, for every legal sheet (proofs/RoundTrip.antt).
-use Prim.Native.Nat.{ℕ, zero, suc, _*_, _/_}
+use Prim.Native.Nat.{ℕ, _*_, _/_}
 use mathlib.Core.List.{List, [], _∷_, _++_, map}
-use mathlib.Core.Bool.{cond}
+use mathlib.Core.Bool.{Bool, true, false, cond}
 use lib.ListN.{take, drop}
 use lib.IntN.{ℤ}
 use Rattle.text.specs.Written.{weightText, levelText}
@@ -12,9 +12,9 @@ use Rattle.contents.specs.declared.Header.{Header}
 use Rattle.contents.specs.declared.Settings.{Settings}
 use Rattle.contents.specs.declared.Channel.{Channel}
 use Rattle.contents.specs.declared.Sheet.{Sheet}
-use Rattle.contents.specs.Sheets.{Held, held, channelsOf}
+use Rattle.contents.specs.Sheets.{lent, Held, held, channelsOf}
 use Rattle.sheet.specs.declared.line.Setting.{Setting}
 use Rattle.sheet.specs.declared.line.Setting.the-variants as setting
 
 -- The fields of each line
 abbrev pub headerFields : Header → List (List ℕ)
@@ -31,8 +31,16 @@ headerFields h =
 abbrev pub channelFields : Channel → List ℕ → List (List ℕ)
 channelFields c qs = (67 ∷ []) ∷ decimal (c .width) ∷ decimal (c .height) ∷ decimal (c .across) ∷ decimal (c .down) ∷ map decimal qs
 
-abbrev pub blockFields : List ℤ → List (List ℕ)
-blockFields zs = (66 ∷ []) ∷ map levelText zs
+-- "64 pairs, low then high"
+abbrev pub pairTexts : List ℤ → List ℤ → List (List ℕ)
+pairTexts [] hs = []
+pairTexts (l ∷ ls) [] = []
+pairTexts (l ∷ ls) (h ∷ hs) = levelText l ∷ levelText h ∷ pairTexts ls hs
+
+-- a block, ranged or not
+abbrev pub blockFields : Bool → List ℤ → List ℤ → List (List ℕ)
+blockFields false ls hs = (66 ∷ []) ∷ map levelText ls
+blockFields true ls hs = (71 ∷ []) ∷ pairTexts ls hs
 
 abbrev pub endFields : List (List ℕ)
 endFields = (69 ∷ []) ∷ []
@@ -51,17 +59,23 @@ settingLine (setting.Start a) = choiceLines 65 109 111 a
 abbrev pub settingLines : Settings → List (List ℕ)
 settingLines x = settingLine (setting.Rounding (x .rounding)) ++ settingLine (setting.Start (x .start))
 
--- n blocks, one after the other
-abbrev pub blockLines : ℕ → List ℤ → List (List ℕ)
-blockLines zero zs = []
-blockLines (suc n) zs = joined (blockFields (take 64 zs)) ∷ blockLines n (drop 64 zs)
+-- blocks of these kinds, one after the other
+abbrev pub blockLines : List Bool → List ℤ → List ℤ → List (List ℕ)
+blockLines [] ls hs = []
+blockLines (r ∷ rs) ls hs = joined (blockFields r (take 64 ls) (take 64 hs)) ∷ blockLines rs (drop 64 ls) (drop 64 hs)
+
+-- what is left after n blocks and m quantisers
+abbrev pub dropHeld : ℕ → ℕ → Held → Held
+dropHeld n m h =
+    held (lent (drop (64 * n) (h .lent .lows)) (drop (64 * n) (h .lent .highs)) (drop m (h .lent .tables))) (drop n (h .ranged))
 
 -- the channels with their tables and levels, one after the other
 abbrev pub channelLines : List Channel → Held → List (List ℕ)
 channelLines [] h = []
 channelLines (c ∷ cs) h =
-    joined (channelFields c (take 64 (h .tables)))
-    ∷ (blockLines (c .width * c .height / 64) (h .levels) ++ channelLines cs (held (drop (c .width * c .height) (h .levels)) (drop 64 (h .tables))))
+    let n = c .width * c .height / 64 in
+    joined (channelFields c (take 64 (h .lent .tables)))
+    ∷ (blockLines (take n (h .ranged)) (h .lent .lows) (h .lent .highs) ++ channelLines cs (dropHeld n 64 h))
 
 unfoldable pub written : Sheet → Held → List ℕ
 unfolding decimal weightText levelText

@@ -1,0 +1,10 @@
+-- `sheet::state::is_range` meets its contract.
+use borrow.Author.Needs.{needs}
+use Rattle.sheet.proofs.StateLaws.{nexts}
+use Rattle.sheet.proofs.state.is_range.Statement.{statement}
+use Rattle.sheet.proofs.state.is_range.Tie as tie
+
+pub is-range-spec : {M : Type 1} → statement M
+is-range-spec =
+    tie.close
+    (tie.spec (λ c κs. search needs) (λ c. search nexts) (λ c. search nexts) (λ c. search nexts))

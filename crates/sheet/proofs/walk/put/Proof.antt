@@ -1,0 +1,10 @@
+-- `sheet::walk::put` meets its contract.
+use borrow.Author.Needs.{needs}
+use Rattle.sheet.proofs.StoreLaws.{stores}
+use Rattle.sheet.proofs.walk.put.Statement.{statement}
+use Rattle.sheet.proofs.walk.put.Tie as tie
+
+pub put-spec : {M : Type 1} → statement M
+put-spec =
+    tie.close
+    (tie.spec (λ c. search needs) (λ c. search stores) (λ c. search needs) (λ c. search needs) (λ c. search needs) (λ c. search needs) (λ c. search stores))

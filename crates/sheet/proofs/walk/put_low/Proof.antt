@@ -1,0 +1,10 @@
+-- `sheet::walk::put_low` meets its contract.
+use borrow.Author.Needs.{needs}
+use Rattle.sheet.proofs.StoreLaws.{stores}
+use Rattle.sheet.proofs.walk.put_low.Statement.{statement}
+use Rattle.sheet.proofs.walk.put_low.Tie as tie
+
+pub put-low-spec : {M : Type 1} → statement M
+put-low-spec =
+    tie.close
+    (tie.spec (λ c. search needs) (λ c κs. search needs) (λ c. search needs) (λ c κs. search needs) (λ c. search stores) (λ c. search stores) (λ c. search stores) (λ c. search stores) (λ c. search stores))
