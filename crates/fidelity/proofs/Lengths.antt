@@ -21,7 +21,7 @@ spread-length o W alpha v cy cx g = change-length (fused alpha v) o W cy cx g
 gradientBlock-length : (C : Coef) (W : ℕ) (alpha : Float) (cos : List Float) (by bx : ℕ) (g : List Float) → length (gradientBlock C W alpha cos by bx g) ≡ length g
 unfolding gradientBlock spreadBlock
 gradientBlock-length C W alpha cos by bx g =
-    let cosbs = cosbsOf (C .levels) (C .table) cos _ in
+    let cosbs = cosbsOf (C .middle) (C .table) cos _ in
     upto-keeps length (cellRow (C .own) W alpha cosbs by bx) (λ y a. upto-keeps length (cellAt (C .own) W alpha cosbs by bx y) (λ x b. spread-length (C .own) W alpha _ _ _ b) 8 a) 8 g
 
 pub dctGradient-length : (C : Coef) (W : ℕ) (alpha : Float) (cos g : List Float) → length (dctGradient C W alpha cos g) ≡ length g

@@ -3,28 +3,26 @@ use mathlib.Core.Bool.{cond}
 use mathlib.Core.List.{List}
 use Prim.Native.Nat.{ℕ, _+_, _*_}
 use lib.ListN.{replicate, set}
-use lib.IntN.{ℤ}
 use lib.Ieee.{Float, neg, ne}
 use Rattle.fold.specs.Fold.{upto}
 use Rattle.fold.specs.Part.{part}
 use Rattle.float.specs.Ops.{fused, square}
 use Rattle.float.specs.Names.{_⊘_, f0, float, val}
 use Rattle.utils.specs.Dct.{idct8x8}
-use Rattle.interval.specs.Interval.{whole}
 use Rattle.steps.specs.Step.{dataAlpha}
 use Rattle.start.specs.declared.coef.Own.{Own}
-use Rattle.start.specs.Coef.{Coef, blockW, blockH, levelAt, quantAt, change}
+use Rattle.start.specs.Coef.{Coef, blockW, blockH, quantAt, change}
 
 -- cosb = level.mul_add(-quantiser, cosb); cosb /= quantiser.powi(2)
-unfoldable pub cosbOf : ℤ → ℕ → Float → Float
-cosbOf level q cosb = fused (whole level) (neg (float q)) cosb ⊘ square (float q)
+unfoldable pub cosbOf : Float → ℕ → Float → Float
+cosbOf level q cosb = fused level (neg (float q)) cosb ⊘ square (float q)
 
-abbrev pub cosbAt : List ℤ → List ℕ → ℕ → ℕ → List Float → List Float
-cosbAt levels table i j cosbs = set cosbs j (cosbOf (levelAt levels (i * 64 + j)) (quantAt table j) (val cosbs j))
+abbrev pub cosbAt : (ℕ → Float) → List ℕ → ℕ → ℕ → List Float → List Float
+cosbAt middle table i j cosbs = set cosbs j (cosbOf (middle (i * 64 + j)) (quantAt table j) (val cosbs j))
 
 -- block i of the saved coefficients (cos), copied, differenced and transformed
-unfoldable pub cosbsOf : List ℤ → List ℕ → List Float → ℕ → List Float
-cosbsOf levels table cos i = idct8x8 (upto (cosbAt levels table i) 64 (part cos (i * 64) (i * 64 + 64)))
+unfoldable pub cosbsOf : (ℕ → Float) → List ℕ → List Float → ℕ → List Float
+cosbsOf middle table cos i = idct8x8 (upto (cosbAt middle table i) 64 (part cos (i * 64) (i * 64 + 64)))
 
 -- gradient[spot] = alpha.mul_add(v, gradient[spot]), for each sx, for each sy
 unfoldable pub spread : Own → ℕ → Float → Float → ℕ → ℕ → List Float → List Float
@@ -44,7 +42,7 @@ spreadBlock o W alpha cosbs by bx g = upto (cellRow o W alpha cosbs by bx) 8 g
 unfoldable pub gradientBlock : Coef → ℕ → Float → List Float → ℕ → ℕ → List Float → List Float
 gradientBlock C W alpha cos by bx g =
     let i = by * blockW (C .own) + bx in
-    spreadBlock (C .own) W alpha (cosbsOf (C .levels) (C .table) cos i) by bx g
+    spreadBlock (C .own) W alpha (cosbsOf (C .middle) (C .table) cos i) by bx g
 
 abbrev pub gradientLine : Coef → ℕ → Float → List Float → ℕ → List Float → List Float
 gradientLine C W alpha cos by g = upto (gradientBlock C W alpha cos by) (blockW (C .own)) g

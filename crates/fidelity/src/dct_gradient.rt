@@ -3,29 +3,31 @@ use start::coef::Own;
 ghost use mathlib.Core.Path.{_≡_};
 ghost use Prim.Native.Nat.{_+_, _*_, _/_, _≤_, _<_, _^_};
 ghost use lib.ListN.{length};
-ghost use Rattle.start.specs.Coef.{Covers, Eights, Lent, coef};
+ghost use Rattle.start.specs.Coef.{Covers, Eights, Lent, coef, midAt, pairs};
+ghost use Rattle.interval.specs.Interval.{mid};
 ghost use Rattle.fidelity.specs.DctGradient.{cosbOf, cosbsOf, spread, spreadBlock, dctGradient, dataGradient};
 
-// A coefficient's difference from level × quantiser, over the quantiser's square.
-fn cosb_of(level: i16, q: u16, cosb: f32) -> f32
-    ensures { λ r. ⌜ r ≡ cosbOf level q cosb ⌝ }
+// A coefficient's difference from half sum × quantiser, over the quantiser's square.
+fn cosb_of(low: i16, high: i16, q: u16, cosb: f32) -> f32
+    ensures { λ r. ⌜ r ≡ cosbOf (mid low high) q cosb ⌝ }
 {
     let quant = q as f32;
-    float::mul_add(interval::whole(level), -quant, cosb) / float::powi2(quant)
+    float::mul_add(interval::mid(low, high), -quant, cosb) / float::powi2(quant)
 }
 
 // A copy of block i of the saved coefficients, differenced and transformed.
-fn cosbs_of(cos: &[f32], levels: &[i16], table: &[u16], i: usize) -> [f32; 64]
-    requires { ⌜ (i * 64 + 64 ≤ length (now cos)) × (i * 64 + 64 ≤ length (now levels)) × (length (now table) ≡ 64) ⌝ }
-    ensures { λ r. ⌜ r ≡ cosbsOf (now (levels .entry)) (now (table .entry)) (now (cos .entry)) i ⌝ }
+fn cosbs_of(cos: &[f32], lows: &[i16], highs: &[i16], table: &[u16], i: usize) -> [f32; 64]
+    requires { ⌜ (i * 64 + 64 ≤ length (now cos)) × (i * 64 + 64 ≤ length (now lows)) × (i * 64 + 64 ≤ length (now highs)) × (length (now table) ≡ 64) ⌝ }
+    ensures { λ r. ⌜ r ≡ cosbsOf (midAt (pairs (now (lows .entry)) (now (highs .entry)))) (now (table .entry)) (now (cos .entry)) i ⌝ }
 {
     let at = i * 64;
     let end = at + 64;
     let mut cosbs = [0.0f32; 64];
     utils::slices::copy(&cos[at..end], &mut cosbs);
     for j in 0..64 {
-        let level = levels[at + j];
-        cosbs[j] = cosb_of(level, table[j], cosbs[j]);
+        let low = lows[at + j];
+        let high = highs[at + j];
+        cosbs[j] = cosb_of(low, high, table[j], cosbs[j]);
     }
     utils::dct::idct8x8(&mut cosbs);
     cosbs
@@ -103,18 +105,19 @@ pub fn dct_gradient(
     w: usize,
     h: usize,
     alpha: f32,
-    levels: &[i16],
+    lows: &[i16],
+    highs: &[i16],
     table: &[u16],
 )
-    requires { ⌜ Covers o w h × Lent o (now levels) (now table) × (length (now cos) ≡ w * h) × (length (now gradient) ≡ w * h) ⌝ }
-    ensures { λ _. ⌜ now (gradient .exit) ≡ dctGradient (coef o (now (levels .entry)) (now (table .entry))) w alpha (now (cos .entry)) (now (gradient .entry)) ⌝ }
+    requires { ⌜ Covers o w h × Lent o (pairs (now lows) (now highs)) (now table) × (length (now cos) ≡ w * h) × (length (now gradient) ≡ w * h) ⌝ }
+    ensures { λ _. ⌜ now (gradient .exit) ≡ dctGradient (coef o (pairs (now (lows .entry)) (now (highs .entry))) (now (table .entry))) w alpha (now (cos .entry)) (now (gradient .entry)) ⌝ }
 {
     let bw = o.width / 8;
     let bh = o.height / 8;
     for by in 0..bh {
         for bx in 0..bw {
             let i = block_index(o, by, bx);
-            let cosbs = cosbs_of(cos, levels, table, i);
+            let cosbs = cosbs_of(cos, lows, highs, table, i);
             spread_block(gradient, o, w, h, alpha, &cosbs, by, bx);
         }
     }
@@ -129,15 +132,16 @@ pub fn data(
     w: usize,
     h: usize,
     weight: f32,
-    levels: &[i16],
+    lows: &[i16],
+    highs: &[i16],
     table: &[u16],
 )
-    requires { ⌜ Covers o w h × Lent o (now levels) (now table) × (length (now saved) ≡ w * h) × (length (now gradient) ≡ w * h) ⌝ }
-    ensures { λ _. ⌜ now (gradient .exit) ≡ dataGradient (coef o (now (levels .entry)) (now (table .entry))) w h weight (now (saved .entry)) ⌝ }
+    requires { ⌜ Covers o w h × Lent o (pairs (now lows) (now highs)) (now table) × (length (now saved) ≡ w * h) × (length (now gradient) ≡ w * h) ⌝ }
+    ensures { λ _. ⌜ now (gradient .exit) ≡ dataGradient (coef o (pairs (now (lows .entry)) (now (highs .entry))) (now (table .entry))) w h weight (now (saved .entry)) ⌝ }
 {
     start::auxiliary::zeros(gradient, w * h);
     if weight != 0.0 {
         let alpha = steps::step::data_alpha(weight);
-        dct_gradient(saved, gradient, o, w, h, alpha, levels, table);
+        dct_gradient(saved, gradient, o, w, h, alpha, lows, highs, table);
     }
 }

@@ -1,4 +1,4 @@
--- What is clamped to an interval is in it, unless it is a NaN; and so is level × quantiser. Assumes nothing.
+-- What is clamped to an interval is in it, unless it is a NaN. Assumes nothing.
 use mathlib.Core.Path.{_≡_, refl, sym, ap, _∙_, subst}
 use Prim.Native.Nat.{ℕ, zero, suc, _+_, _-_, _*_, _/_, _^_, _≤_, _<_}
 use native.Mathlib.Nat.{le-div-iff-mul-le, div-mul-le-self, le-of-mul-le-mul-right, mul-le-mul-right, le-antisymm, le-trans}
@@ -12,10 +12,10 @@ use lib.Ieee.{Float, nan, inf, fin, up, down, below, binary32, fits, lt}
 use lib.Ieee.Fits.{down-pos}
 use Rattle.fold.proofs.Choice.{neither}
 use Rattle.float.specs.Nearest.{signed}
-use Rattle.interval.specs.Interval.{lowEnd, highEnd, InInterval, lowest, highest, dequantised, outside}
+use Rattle.interval.specs.Interval.{lowEnd, highEnd, InInterval, lowest, highest, outside}
 use Rattle.float.specs.Ops.{atLeast, clamp}
 use Rattle.float.proofs.Scaled.{scaled-exact}
-use Rattle.interval.proofs.Ends.{Halves, finite-with, isNeg, lowSign, lowSize, highSize, low-halves, high-halves, dequantised-halves}
+use Rattle.interval.proofs.Ends.{Halves, finite-with, isNeg, lowSign, lowSize, highSize, low-halves, high-halves}
 
 -- ---- numbers with a sign: ±a ≤ ±b
 abbrev pub Below : Bool → ℕ → Bool → ℕ → Type 0
@@ -167,18 +167,8 @@ ends-ordered (negsuc n) (negsuc m) q w h =
     let l : m ≤ n = leb→le m n (h .le) in
     mul-le-mul-right w (mul-le-mul-right q (omega arith))
 
--- level × quantiser is between the ends
-product-above : (d : ℤ) (q w : ℕ) → Below (lowSign d) (lowSize d * q * w) (isNeg d) (natAbs d * 2 * q * w)
-product-above (pos zero) q w = tt
-product-above (pos (suc n)) q w = mul-le-mul-right w (mul-le-mul-right q (omega arith))
-product-above (negsuc n) q w = mul-le-mul-right w (mul-le-mul-right q (omega arith))
-
-product-below : (d : ℤ) (q w : ℕ) → Below (isNeg d) (natAbs d * 2 * q * w) (isNeg d) (highSize d * q * w)
-product-below (pos n) q w = mul-le-mul-right w (mul-le-mul-right q (omega arith))
-product-below (negsuc n) q w = mul-le-mul-right w (mul-le-mul-right q (omega arith))
-
 -- a value ±a / 2 between the ends
-halves-in : (low high : ℤ) (q : ℕ) (x : Float) (s : Bool) (a : ℕ) → Halves x s a
+pub halves-in : (low high : ℤ) (q : ℕ) (x : Float) (s : Bool) (a : ℕ) → Halves x s a
     → Below (lowSign low) (lowSize low * q * u) s (a * u) → Below s (a * u) (isNeg high) (highSize high * q * u) → InInterval low high q x
 unfolding InSizes
 halves-in low high q x s a v l r =
@@ -244,11 +234,6 @@ module _ (low high : ℤ) (q : ℕ) (order : low ≤ℤ high) (low-ok : natAbs l
   pub clamp-nan : clamp nan (lowest low q) (highest high q) ≡ nan
   unfolding clamp lt
   clamp-nan = finite-with (highest high q) (isNeg high) (highSize high * q) (λ y. cond (lt y nan) y nan ≡ nan) (high-halves high q high-ok table-ok) (λ n d g. refl)
-
--- Level × quantiser is in the level's interval.
-pub product-in : (d : ℤ) (q : ℕ) → natAbs d ≤ 2047 → q ≤ 255 → InInterval d d q (dequantised d q)
-product-in d q h g =
-    halves-in d d q (dequantised d q) (isNeg d) (natAbs d * 2 * q) (dequantised-halves d q h g) (product-above d q u) (product-below d q u)
 
 -- ---- M-104: which values are moved
 

@@ -1,4 +1,4 @@
--- The ends of an interval, and level × quantiser, are computed without rounding: each step's exact result is k / 2 with k below 2 ^ 24. Assumes nothing.
+-- The ends of an interval are computed without rounding: each step's exact result is k / 2 with k below 2 ^ 24. Assumes nothing.
 use mathlib.Core.Path.{_≡_, refl, sym, ap, _∙_, subst}
 use Prim.Native.Nat.{ℕ, zero, suc, _+_, _-_, _*_, _^_, _≤_, _<_}
 use native.Mathlib.Nat.{mul-assoc, mul-right-comm, mul-pos, eq-of-mul-eq-mul-right, lt-trans, mul-le-mul-right, mul-le-mul-left}
@@ -11,7 +11,7 @@ use lib.Pow.{shl-lt}
 use lib.Ieee.{Float, nan, inf, fin, up, down, unlike, binary32, round, neg, sum, add, sub, mul, ofInt}
 use lib.Ieee.Fits.{down-pos}
 use lib.Ieee.Exact.{HasValue, round-exact}
-use Rattle.interval.specs.Interval.{f½, lowest, highest, dequantised}
+use Rattle.interval.specs.Interval.{f½, lowest, highest}
 
 -- x is ±k / 2
 abbrev pub Halves : Float → Bool → ℕ → Type 0
@@ -54,13 +54,13 @@ finite-with nan s k P v h = absurd v
 finite-with (inf t) s k P v h = absurd v
 finite-with (fin t m e) s k P v h = subst (λ (r : Bool). P (fin r m e)) (sym (v .0)) (h m e (v .1))
 
-sum-same : (s : Bool) (a b c k : ℕ) → 0 < c → k < 2 ^ 24 → (a + b) * 2 ≡ k * c → Halves (sum binary32 s a s b c) s k
+pub sum-same : (s : Bool) (a b c k : ℕ) → 0 < c → k < 2 ^ 24 → (a + b) * 2 ≡ k * c → Halves (sum binary32 s a s b c) s k
 unfolding sum
 sum-same true a b c k p small h = exact-f½ true (a + b) c k p small h
 sum-same false a b c k p small h = exact-f½ false (a + b) c k p small h
 
 -- of two signs, that of the larger
-sum-larger : (s : Bool) (a b c k : ℕ) → 0 < c → k < 2 ^ 24 → b < a → (a - b) * 2 ≡ k * c → Halves (sum binary32 s a (not s) b c) s k
+pub sum-larger : (s : Bool) (a b c k : ℕ) → 0 < c → k < 2 ^ 24 → b < a → (a - b) * 2 ≡ k * c → Halves (sum binary32 s a (not s) b c) s k
 unfolding sum
 sum-larger true a b c k p small l h =
     subst (λ (t : Bool). Halves (cond t (round binary32 false (b - a) c) (round binary32 (true && ltb b a) (a - b) c)) true k) (sym (le-ltb a b (omega arith)))
@@ -69,7 +69,7 @@ sum-larger false a b c k p small l h =
     subst (λ (t : Bool). Halves (cond t (round binary32 true (b - a) c) (round binary32 false (a - b) c)) false k) (sym (le-ltb a b (omega arith)))
     (exact-f½ false (a - b) c k p small h)
 
-sum-smaller : (s : Bool) (a b c k : ℕ) → 0 < c → k < 2 ^ 24 → a < b → (b - a) * 2 ≡ k * c → Halves (sum binary32 s a (not s) b c) (not s) k
+pub sum-smaller : (s : Bool) (a b c k : ℕ) → 0 < c → k < 2 ^ 24 → a < b → (b - a) * 2 ≡ k * c → Halves (sum binary32 s a (not s) b c) (not s) k
 unfolding sum
 sum-smaller true a b c k p small l h =
     subst (λ (t : Bool). Halves (cond t (round binary32 false (b - a) c) (round binary32 (true && ltb b a) (a - b) c)) false k) (sym (lt-ltb a b l))
@@ -104,7 +104,7 @@ add-zero x s v =
 
 -- ---- times the quantiser
 
-unlike-false : (s : Bool) → unlike s false ≡ s
+pub unlike-false : (s : Bool) → unlike s false ≡ s
 unlike-false true = refl
 unlike-false false = refl
 
@@ -124,7 +124,7 @@ mul-halves x y s k q v w small =
     subst (λ (t : Bool). Halves (round binary32 (unlike s false) (m * up e * (n * up d)) (down e * down d)) t (k * q)) (unlike-false s)
     (exact-f½ (unlike s false) (m * up e * (n * up d)) (down e * down d) (k * q) (mul-pos (down-pos e) (down-pos d)) small product)))
 
-small : (a q : ℕ) → a ≤ 4095 → q ≤ 255 → a * q < 2 ^ 24
+pub small : (a q : ℕ) → a ≤ 4095 → q ≤ 255 → a * q < 2 ^ 24
 small a q h g = omega (arith, mul-le-mul-right q h, mul-le-mul-left 4095 g)
 
 -- ---- the ends: sign and size of 2 low − 1 and of 2 high + 1
@@ -181,9 +181,3 @@ module _ (d : ℤ) (q : ℕ) (level-ok : natAbs d ≤ 2047) (table-ok : q ≤ 25
   high-halves =
       mul-halves (add binary32 (ofInt binary32 d) f½) (ofInt binary32 (pos q)) (isNeg d) (highSize d) q (plus-f½ d level-ok) q-halves
       (small (highSize d) q (high-small d level-ok) table-ok)
-
-  pub dequantised-halves : Halves (dequantised d q) (isNeg d) (natAbs d * 2 * q)
-  unfolding dequantised
-  dequantised-halves =
-      mul-halves (ofInt binary32 d) (ofInt binary32 (pos q)) (isNeg d) (natAbs d * 2) q (int-halves d level-ok) q-halves
-      (small (natAbs d * 2) q (omega arith) table-ok)

@@ -2,3 +2,4 @@
 pub mod Ends
 pub mod Clamp
 pub mod Examples
+pub mod HalfSum

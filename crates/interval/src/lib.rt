@@ -1,7 +1,7 @@
 // A coefficient's interval: its ends, and the value of a level.
 use fold::flags::either;
 ghost use mathlib.Core.Path.{_≡_};
-ghost use Rattle.interval.specs.Interval.{whole, lowest, highest, dequantised, clampTo, outside};
+ghost use Rattle.interval.specs.Interval.{whole, lowest, highest, dequantised, clampTo, outside, mid};
 
 // A level as f32.
 pub fn whole(level: i16) -> f32
@@ -24,11 +24,18 @@ fn highest(high: i16, q: u16) -> f32
     (whole(high) + 0.5) * (q as f32)
 }
 
-// Level × quantiser.
-pub fn dequantised(level: i16, q: u16) -> f32
-    ensures { λ r. ⌜ r ≡ dequantised level q ⌝ }
+// The half sum of a pair of levels. Rules out: a half sum cut to a whole number, and the low level for both.
+pub fn mid(low: i16, high: i16) -> f32
+    ensures { λ r. ⌜ r ≡ mid low high ⌝ }
 {
-    whole(level) * (q as f32)
+    (whole(low) + whole(high)) * 0.5
+}
+
+// Half sum × quantiser. Rules out: the value of the low level alone, and the quantiser added.
+pub fn dequantised(low: i16, high: i16, q: u16) -> f32
+    ensures { λ r. ⌜ r ≡ dequantised (mid low high) q ⌝ }
+{
+    mid(low, high) * (q as f32)
 }
 
 // A clamped value, and whether the clamp moved it.

@@ -3,7 +3,6 @@ use mathlib.Core.Path.{_≡_, _∙_}
 use mathlib.Core.Bool.{Bool, true, false, cond}
 use mathlib.Core.List.{List}
 use Prim.Native.Nat.{ℕ}
-use lib.IntN.{ℤ}
 use lib.ListN.{length, length-set}
 use lib.Ieee.{Float}
 use Rattle.fold.specs.Fold.{upto}
@@ -14,7 +13,7 @@ use Rattle.utils.specs.Dct.{dct8x8, idct8x8}
 use Rattle.utils.proofs.Lengths.{blocks-length, dct-length, fromBlocks-length, idct-length, toBlocks-length}
 use Rattle.start.specs.declared.coef.Own.{Own}
 use Rattle.start.proofs.Lengths.{change-length}
-use Rattle.start.specs.Coef.{Coef, blockCount, blockH, blockW, pxCount}
+use Rattle.start.specs.Coef.{Coef, Levels, blockCount, blockH, blockW, pxCount}
 use Rattle.projection.specs.Projection.{Box, Boxed, Split, back, backAt, backRow, clampAt, clampBlock, clamped, keep, keepAt, ontoBox, projectFull, projectMeans, projectOntoBox, resample, split, splitAt, splitRow}
 
 split-keeps : (f : Split → ℕ) (o : Own) (W : ℕ) → ((cy cx : ℕ) (s : Split) → f (splitAt o W cy cx s) ≡ f s) → (s : Split) → f (split o W s) ≡ f s
@@ -29,7 +28,7 @@ split-down-length : (o : Own) (W : ℕ) (s : Split) → length (split o W s .dow
 unfolding splitAt
 split-down-length o W s = split-keeps (λ s. length (s .down)) o W (λ cy cx t. simp length-set) s
 
-clampBlock-length : (levels : List ℤ) (table : List ℕ) (i : ℕ) (x : List Float) → length (clampBlock levels table i x) ≡ length x
+clampBlock-length : (levels : Levels) (table : List ℕ) (i : ℕ) (x : List Float) → length (clampBlock levels table i x) ≡ length x
 unfolding clampBlock clampAt
 clampBlock-length levels table i x = upto-keeps length (clampAt levels table i) (λ j b. simp length-set) 64 x
 

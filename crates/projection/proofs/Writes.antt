@@ -4,7 +4,6 @@ use mathlib.Core.Bool.{Bool, true, false, cond}
 use mathlib.Core.List.{List}
 use Prim.Native.Nat.{ℕ, zero, suc, _+_, _*_, _%_, _<_, _≤_}
 use native.Mathlib.Omega.{arith}
-use lib.IntN.{ℤ}
 use lib.ListN.{length, set}
 use lib.Seq.{getD-set-other}
 use lib.Ieee.{Float, nan}
@@ -17,13 +16,13 @@ use Rattle.utils.specs.Blocks.{onBlock, toBlocks}
 use Rattle.utils.specs.Dct.{dct8x8}
 use Rattle.utils.proofs.Lengths.{toBlocks-length}
 use Rattle.interval.specs.Interval.{clampTo, outside}
-use Rattle.start.specs.Coef.{Coef, Eights, blockCount, blockH, blockW, levelAt, pxCount, quantAt}
+use Rattle.start.specs.Coef.{Coef, Eights, blockCount, blockH, blockW, Levels, lowAt, highAt, pxCount, quantAt}
 use Rattle.projection.specs.Projection.{Box, Boxed, clampAt, clampBlock, clamped, clipped, clippedAt, clippedBlock, countAt, keep, ontoBox, projectFull, projectMeans, projectOntoBox, resample, split, tally, transformed}
 use Rattle.start.proofs.Cover.{blocks-fill}
 use Rattle.projection.proofs.Lengths.{dcts-length}
 
-abbrev clampValue : List ℤ → List ℕ → ℕ → Float → Float
-clampValue levels table k x = clampTo (levelAt levels k) (levelAt levels k) (quantAt table (k % 64)) x
+abbrev clampValue : Levels → List ℕ → ℕ → Float → Float
+clampValue levels table k x = clampTo (lowAt levels k) (highAt levels k) (quantAt table (k % 64)) x
 
 clamps-at : (C : Coef) (x : List Float) → blockCount (C .own) * 64 ≤ length x → (k : ℕ) → k < blockCount (C .own) * 64
     → val (upto (clampBlock (C .levels) (C .table)) (blockCount (C .own)) x) k ≡ clampValue (C .levels) (C .table) k (val x k)
@@ -34,7 +33,7 @@ clamps-at C x h k l =
     (upto-ext (clampBlock (C .levels) (C .table)) (λ i t. upto (λ j. turnAt nan v (i * 64 + j)) 64 t) (blockCount (C .own)) x
     (λ i t b. upto-ext (clampAt (C .levels) (C .table) i) (λ j. turnAt nan v (i * 64 + j)) 64 t
     (λ j s m.
-    ap (λ (q : ℕ). set s (i * 64 + j) (clampTo (levelAt (C .levels) (i * 64 + j)) (levelAt (C .levels) (i * 64 + j)) (quantAt (C .table) q) (val s (i * 64 + j))))
+    ap (λ (q : ℕ). set s (i * 64 + j) (clampTo (lowAt (C .levels) (i * 64 + j)) (highAt (C .levels) (i * 64 + j)) (quantAt (C .table) q) (val s (i * 64 + j))))
     (sym (column-of i 64 j m))))
     ∙ upto-nest (turnAt nan v) 64 (blockCount (C .own)) x)
     ∙ turned-at nan v x (blockCount (C .own) * 64) h k l
@@ -74,7 +73,7 @@ module _ (C : Coef) (e : Eights (C .own)) (W H : ℕ) (b : Box) where
 
   pub projected-saved : pxCount (C .own) ≤ length (b .across) → pxCount (C .own) ≤ length (b .saved) → (k : ℕ) → k < pxCount (C .own)
       → val (projectOntoBox C W H b .saved) k
-      ≡ clampTo (levelAt (C .levels) k) (levelAt (C .levels) k) (quantAt (C .table) (k % 64)) (val (transformed C W H b) k)
+      ≡ clampTo (lowAt (C .levels) k) (highAt (C .levels) k) (quantAt (C .table) (k % 64)) (val (transformed C W H b) k)
   unfolding projectOntoBox transformed
   projected-saved h g k l = split-place (resample (C .own) W H) k h g l
 
@@ -88,24 +87,24 @@ module _ (C : Coef) (e : Eights (C .own)) (W H : ℕ) (b : Box) where
   projected-saved-above k l = above (resample (C .own) W H) k l
 
 -- places that the clamping has not reached
-pub clamp-ahead : (levels : List ℤ) (table : List ℕ) (i n : ℕ) (x : List Float) (p : ℕ) → i * 64 + n ≤ p → val (upto (clampAt levels table i) n x) p ≡ val x p
+pub clamp-ahead : (levels : Levels) (table : List ℕ) (i n : ℕ) (x : List Float) (p : ℕ) → i * 64 + n ≤ p → val (upto (clampAt levels table i) n x) p ≡ val x p
 unfolding upto clampAt
 clamp-ahead levels table i zero x p h = refl
 clamp-ahead levels table i (suc n) x p h =
     let y = upto (clampAt levels table i) n x in
-    getD-set-other y (i * 64 + n) p (clampTo (levelAt levels (i * 64 + n)) (levelAt levels (i * 64 + n)) (quantAt table n) (val y (i * 64 + n))) nan (λ e. omega arith) ∙ clamp-ahead levels table i n x p (omega arith)
+    getD-set-other y (i * 64 + n) p (clampTo (lowAt levels (i * 64 + n)) (highAt levels (i * 64 + n)) (quantAt table n) (val y (i * 64 + n))) nan (λ e. omega arith) ∙ clamp-ahead levels table i n x p (omega arith)
 
-blocks-ahead : (levels : List ℤ) (table : List ℕ) (n : ℕ) (x : List Float) (p : ℕ) → n * 64 ≤ p → val (upto (clampBlock levels table) n x) p ≡ val x p
+blocks-ahead : (levels : Levels) (table : List ℕ) (n : ℕ) (x : List Float) (p : ℕ) → n * 64 ≤ p → val (upto (clampBlock levels table) n x) p ≡ val x p
 unfolding upto clampBlock
 blocks-ahead levels table zero x p h = refl
 blocks-ahead levels table (suc n) x p h = clamp-ahead levels table n 64 (upto (clampBlock levels table) n x) p (omega arith) ∙ blocks-ahead levels table n x p (omega arith)
 
-pub clipped-ahead : (levels : List ℤ) (table : List ℕ) (x : List Float) (i n : ℕ) → clippedBlock levels table (upto (clampBlock levels table) i x) i n ≡ clippedBlock levels table x i n
+pub clipped-ahead : (levels : Levels) (table : List ℕ) (x : List Float) (i n : ℕ) → clippedBlock levels table (upto (clampBlock levels table) i x) i n ≡ clippedBlock levels table x i n
 unfolding clippedBlock
 clipped-ahead levels table x i n =
     upto-ext (clippedAt levels table (upto (clampBlock levels table) i x) i) (clippedAt levels table x i) 64 n
     (λ j t l.
-    ap (λ (v : Float). tally (outside (levelAt levels (i * 64 + j)) (levelAt levels (i * 64 + j)) (quantAt table j) v) t)
+    ap (λ (v : Float). tally (outside (lowAt levels (i * 64 + j)) (highAt levels (i * 64 + j)) (quantAt table j) v) t)
     (blocks-ahead levels table i x (i * 64 + j) (omega arith)))
 
 pub clipped-blocks : (C : Coef) → Eights (C .own) → (x : List Float) → upto (clippedBlock (C .levels) (C .table) x) (blockCount (C .own)) 0 ≡ clipped C x
@@ -114,7 +113,7 @@ clipped-blocks C e x =
     upto-ext (clippedBlock (C .levels) (C .table) x) (λ i t. upto (λ j. countAt C x (i * 64 + j)) 64 t) (blockCount (C .own)) 0
     (λ i t b. upto-ext (clippedAt (C .levels) (C .table) x i) (λ j. countAt C x (i * 64 + j)) 64 t
     (λ j s m.
-    ap (λ (q : ℕ). tally (outside (levelAt (C .levels) (i * 64 + j)) (levelAt (C .levels) (i * 64 + j)) (quantAt (C .table) q) (val x (i * 64 + j))) s)
+    ap (λ (q : ℕ). tally (outside (lowAt (C .levels) (i * 64 + j)) (highAt (C .levels) (i * 64 + j)) (quantAt (C .table) q) (val x (i * 64 + j))) s)
     (sym (column-of i 64 j m))))
     ∙ upto-nest (countAt C x) 64 (blockCount (C .own)) 0
     ∙ ap (λ (n : ℕ). upto (countAt C x) n 0) (blocks-fill (C .own .width) (C .own .height) (e .0) (e .1))
@@ -127,7 +126,7 @@ tally-most false n = omega arith
 count-most : (C : Coef) (x : List Float) (n : ℕ) → upto (countAt C x) n 0 ≤ n
 unfolding upto
 count-most C x zero = omega arith
-count-most C x (suc n) = omega (arith, tally-most (outside (levelAt (C .levels) n) (levelAt (C .levels) n) (quantAt (C .table) (n % 64)) (val x n)) (upto (countAt C x) n 0), count-most C x n)
+count-most C x (suc n) = omega (arith, tally-most (outside (lowAt (C .levels) n) (highAt (C .levels) n) (quantAt (C .table) (n % 64)) (val x n)) (upto (countAt C x) n 0), count-most C x n)
 
 pub clipped-most : (C : Coef) (x : List Float) → clipped C x ≤ pxCount (C .own)
 unfolding clipped

@@ -3,7 +3,6 @@ use mathlib.Core.Bool.{Bool, cond, not, _||_}
 use mathlib.Core.List.{List}
 use Prim.Native.Nat.{ℕ, _+_, _*_, _%_}
 use lib.Dec.{eqb}
-use lib.IntN.{ℤ}
 use lib.ListN.{set}
 use lib.Ieee.{Float}
 use Rattle.fold.specs.Fold.{upto}
@@ -12,7 +11,7 @@ use Rattle.utils.specs.Blocks.{fromBlocks, onBlock, toBlocks}
 use Rattle.utils.specs.Dct.{dct8x8, idct8x8}
 use Rattle.interval.specs.Interval.{clampTo, outside}
 use Rattle.start.specs.declared.coef.Own.{Own}
-use Rattle.start.specs.Coef.{Coef, blockW, blockH, blockCount, pxCount, levelAt, quantAt, spot, change}
+use Rattle.start.specs.Coef.{Coef, blockW, blockH, blockCount, pxCount, Levels, lowAt, highAt, quantAt, spot, change}
 
 -- what project works on: plane (fdata), across (pixel_diff.x), down (pixel_diff.y) and saved (cos)
 pub record Box : Type 0 where
@@ -62,13 +61,13 @@ split o W s = upto (splitRow o W) (o .height) s
 
 -- ---- transform, clamp, and keep a copy
 
--- place j of block i: min = (level - 0.5) * quantiser, max = (level + 0.5) * quantiser. Low and high level are the one level.
-unfoldable pub clampAt : List ℤ → List ℕ → ℕ → ℕ → List Float → List Float
+-- place j of block i: min = (level - 0.5) * quantiser, max = (level + 0.5) * quantiser, of the low and the high level
+unfoldable pub clampAt : Levels → List ℕ → ℕ → ℕ → List Float → List Float
 clampAt levels table i j x =
     let k = i * 64 + j in
-    set x k (clampTo (levelAt levels k) (levelAt levels k) (quantAt table j) (val x k))
+    set x k (clampTo (lowAt levels k) (highAt levels k) (quantAt table j) (val x k))
 
-unfoldable pub clampBlock : List ℤ → List ℕ → ℕ → List Float → List Float
+unfoldable pub clampBlock : Levels → List ℕ → ℕ → List Float → List Float
 clampBlock levels table i x = upto (clampAt levels table i) 64 x
 
 -- the blocks' coefficients, clamped
@@ -145,17 +144,17 @@ tally more n = cond more (n + 1) n
 
 -- place k, if its value in x lies outside its interval
 abbrev pub countAt : Coef → List Float → ℕ → ℕ → ℕ
-countAt C x k n = tally (outside (levelAt (C .levels) k) (levelAt (C .levels) k) (quantAt (C .table) (k % 64)) (val x k)) n
+countAt C x k n = tally (outside (lowAt (C .levels) k) (highAt (C .levels) k) (quantAt (C .table) (k % 64)) (val x k)) n
 
 -- the number of the places k < w × h whose value in x lies outside its interval
 unfoldable pub clipped : Coef → List Float → ℕ
 clipped C x = upto (countAt C x) (pxCount (C .own)) 0
 
 -- the same block by block, on from n: place j of block i
-abbrev pub clippedAt : List ℤ → List ℕ → List Float → ℕ → ℕ → ℕ → ℕ
+abbrev pub clippedAt : Levels → List ℕ → List Float → ℕ → ℕ → ℕ → ℕ
 clippedAt levels table x i j n =
     let k = i * 64 + j in
-    tally (outside (levelAt levels k) (levelAt levels k) (quantAt table j) (val x k)) n
+    tally (outside (lowAt levels k) (highAt levels k) (quantAt table j) (val x k)) n
 
-unfoldable pub clippedBlock : List ℤ → List ℕ → List Float → ℕ → ℕ → ℕ
+unfoldable pub clippedBlock : Levels → List ℕ → List Float → ℕ → ℕ → ℕ
 clippedBlock levels table x i n = upto (clippedAt levels table x i) 64 n

@@ -6,7 +6,7 @@ ghost use mathlib.Core.List.{List};
 ghost use lib.ListN.{length};
 ghost use lib.Ieee.{Float};
 ghost use Rattle.float.specs.Names.{_⊕_, float};
-ghost use Rattle.start.specs.Coef.{Covers, Eights, Lent, blockCount, blockH, blockW, coef, change};
+ghost use Rattle.start.specs.Coef.{Covers, Eights, Lent, blockCount, blockH, blockW, coef, change, pairs};
 ghost use Rattle.fold.specs.Fold.{upto};
 ghost use Rattle.utils.specs.Blocks.{onBlock, toBlocks};
 ghost use Rattle.utils.specs.Dct.{dct8x8};
@@ -124,16 +124,24 @@ fn tally(more: bool, n: usize) -> usize
 
 // The 64 coefficients of block i, each clamped to its interval. Gives n and, on top of it, how many that moved.
 // Rules out: a value at an end that counts.
-fn clamp_block(x: &mut [f32], levels: &[i16], table: &[u16], i: usize, n: usize) -> usize
-    requires { ⌜ (i * 64 + 64 ≤ length (now levels)) × (length (now table) ≡ 64) × (i * 64 + 64 ≤ length (now x)) × (n ≤ i * 64) ⌝ }
-    ensures { λ r. ⌜ (now (x .exit) ≡ clampBlock (now (levels .entry)) (now (table .entry)) i (now (x .entry)))
-        × (r ≡ clippedBlock (now (levels .entry)) (now (table .entry)) (now (x .entry)) i n) × (r ≤ i * 64 + 64) ⌝ }
+fn clamp_block(
+    x: &mut [f32],
+    lows: &[i16],
+    highs: &[i16],
+    table: &[u16],
+    i: usize,
+    n: usize,
+) -> usize
+    requires { ⌜ (i * 64 + 64 ≤ length (now lows)) × (i * 64 + 64 ≤ length (now highs)) × (length (now table) ≡ 64) × (i * 64 + 64 ≤ length (now x)) × (n ≤ i * 64) ⌝ }
+    ensures { λ r. ⌜ (now (x .exit) ≡ clampBlock (pairs (now (lows .entry)) (now (highs .entry))) (now (table .entry)) i (now (x .entry)))
+        × (r ≡ clippedBlock (pairs (now (lows .entry)) (now (highs .entry))) (now (table .entry)) (now (x .entry)) i n) × (r ≤ i * 64 + 64) ⌝ }
 {
     let mut moved = n;
     for j in 0..64 {
         let k = i * 64 + j;
-        let level = levels[k];
-        let c = interval::clamp_to(level, level, table[j], x[k]);
+        let low = lows[k];
+        let high = highs[k];
+        let c = interval::clamp_to(low, high, table[j], x[k]);
         x[k] = c.value;
         moved = tally(c.moved, moved);
     }
@@ -141,16 +149,16 @@ fn clamp_block(x: &mut [f32], levels: &[i16], table: &[u16], i: usize, n: usize)
 }
 
 // The coefficients of every block, clamped. Gives how many that moved.
-fn clamped(x: &mut [f32], o: Own, levels: &[i16], table: &[u16]) -> usize
-    requires { ⌜ Eights o × Lent o (now levels) (now table) × (o .width * o .height ≤ length (now x)) ⌝ }
-    ensures { λ r. ⌜ (now (x .exit) ≡ clamped (coef o (now (levels .entry)) (now (table .entry))) (now (x .entry)))
-        × (r ≡ clipped (coef o (now (levels .entry)) (now (table .entry))) (upto (onBlock dct8x8) (blockCount o) (now (x .entry)))) ⌝ }
+fn clamped(x: &mut [f32], o: Own, lows: &[i16], highs: &[i16], table: &[u16]) -> usize
+    requires { ⌜ Eights o × Lent o (pairs (now lows) (now highs)) (now table) × (o .width * o .height ≤ length (now x)) ⌝ }
+    ensures { λ r. ⌜ (now (x .exit) ≡ clamped (coef o (pairs (now (lows .entry)) (now (highs .entry))) (now (table .entry))) (now (x .entry)))
+        × (r ≡ clipped (coef o (pairs (now (lows .entry)) (now (highs .entry))) (now (table .entry))) (upto (onBlock dct8x8) (blockCount o) (now (x .entry)))) ⌝ }
 {
     let n = start::coef::block_count(o);
     utils::dct::dct_blocks(x, n);
     let mut moved = 0;
     for i in 0..n {
-        moved = clamp_block(x, levels, table, i, moved);
+        moved = clamp_block(x, lows, highs, table, i, moved);
     }
     moved
 }
@@ -172,17 +180,18 @@ fn onto_box(
     o: Own,
     w: usize,
     h: usize,
-    levels: &[i16],
+    lows: &[i16],
+    highs: &[i16],
     table: &[u16],
 ) -> usize
-    requires { ⌜ Covers o w h × Lent o (now levels) (now table) × (length (now across) ≡ w * h) × (length (now saved) ≡ w * h) ⌝ }
+    requires { ⌜ Covers o w h × Lent o (pairs (now lows) (now highs)) (now table) × (length (now across) ≡ w * h) × (length (now saved) ≡ w * h) ⌝ }
     ensures { λ r. ⌜ (record { across = now (across .exit); saved = now (saved .exit) }
-        ≡ ontoBox (coef o (now (levels .entry)) (now (table .entry))) (record { across = now (across .entry); saved = now (saved .entry) }))
-        × (r ≡ clipped (coef o (now (levels .entry)) (now (table .entry))) (upto (onBlock dct8x8) (blockCount o) (now (across .entry)))) ⌝ }
+        ≡ ontoBox (coef o (pairs (now (lows .entry)) (now (highs .entry))) (now (table .entry))) (record { across = now (across .entry); saved = now (saved .entry) }))
+        × (r ≡ clipped (coef o (pairs (now (lows .entry)) (now (highs .entry))) (now (table .entry))) (upto (onBlock dct8x8) (blockCount o) (now (across .entry)))) ⌝ }
 {
     let count = start::coef::px_count(o, w, h);
     let n = start::coef::block_count(o);
-    let moved = clamped(across, o, levels, table);
+    let moved = clamped(across, o, lows, highs, table);
     keep(saved, &across[..], count);
     utils::dct::idct_blocks(across, n);
     moved
@@ -196,14 +205,15 @@ fn project_full(
     o: Own,
     w: usize,
     h: usize,
-    levels: &[i16],
+    lows: &[i16],
+    highs: &[i16],
     table: &[u16],
 ) -> usize
-    requires { ⌜ Covers o w h × Lent o (now levels) (now table) × (length (now plane) ≡ w * h) × (length (now across) ≡ w * h) × (length (now saved) ≡ w * h) ⌝ }
+    requires { ⌜ Covers o w h × Lent o (pairs (now lows) (now highs)) (now table) × (length (now plane) ≡ w * h) × (length (now across) ≡ w * h) × (length (now saved) ≡ w * h) ⌝ }
     ensures { λ r. ⌜ ((down : List Float) → record { plane = now (plane .exit); across = now (across .exit); down = down; saved = now (saved .exit) }
-        ≡ projectFull (coef o (now (levels .entry)) (now (table .entry)))
+        ≡ projectFull (coef o (pairs (now (lows .entry)) (now (highs .entry))) (now (table .entry)))
         (record { plane = now (plane .entry); across = now (across .entry); down = down; saved = now (saved .entry) }))
-        × (r ≡ clipped (coef o (now (levels .entry)) (now (table .entry)))
+        × (r ≡ clipped (coef o (pairs (now (lows .entry)) (now (highs .entry))) (now (table .entry)))
         (upto (onBlock dct8x8) (blockCount o) (toBlocks (o .width) (blockW o) (blockH o) (now (plane .entry)) (now (across .entry))))) ⌝ }
 {
     let width = o.width;
@@ -211,7 +221,7 @@ fn project_full(
     let bw = width / 8;
     let bh = height / 8;
     utils::blocks::to_blocks(&plane[..], across, width, height, bw, bh);
-    let moved = onto_box(across, saved, o, w, h, levels, table);
+    let moved = onto_box(across, saved, o, w, h, lows, highs, table);
     utils::blocks::from_blocks(&across[..], plane, width, height, bw, bh);
     moved
 }
@@ -225,15 +235,16 @@ fn project_means(
     o: Own,
     w: usize,
     h: usize,
-    levels: &[i16],
+    lows: &[i16],
+    highs: &[i16],
     table: &[u16],
 ) -> usize
-    requires { ⌜ Covers o w h × Lent o (now levels) (now table) × (length (now plane) ≡ w * h) × (length (now across) ≡ w * h)
+    requires { ⌜ Covers o w h × Lent o (pairs (now lows) (now highs)) (now table) × (length (now plane) ≡ w * h) × (length (now across) ≡ w * h)
         × (length (now down) ≡ w * h) × (length (now saved) ≡ w * h) ⌝ }
     ensures { λ r. ⌜ (record { plane = now (plane .exit); across = now (across .exit); down = now (down .exit); saved = now (saved .exit) }
-        ≡ projectMeans (coef o (now (levels .entry)) (now (table .entry))) w
+        ≡ projectMeans (coef o (pairs (now (lows .entry)) (now (highs .entry))) (now (table .entry))) w
         (record { plane = now (plane .entry); across = now (across .entry); down = now (down .entry); saved = now (saved .entry) }))
-        × (r ≡ clipped (coef o (now (levels .entry)) (now (table .entry)))
+        × (r ≡ clipped (coef o (pairs (now (lows .entry)) (now (highs .entry))) (now (table .entry)))
         (upto (onBlock dct8x8) (blockCount o) (toBlocks (o .width) (blockW o) (blockH o)
         (split o w (record { plane = now (plane .entry); down = now (down .entry) }) .down) (now (across .entry))))) ⌝ }
 {
@@ -243,7 +254,7 @@ fn project_means(
     let bh = height / 8;
     split(plane, down, o, w, h);
     utils::blocks::to_blocks(&down[..], across, width, height, bw, bh);
-    let moved = onto_box(across, saved, o, w, h, levels, table);
+    let moved = onto_box(across, saved, o, w, h, lows, highs, table);
     utils::blocks::from_blocks(&across[..], down, width, height, bw, bh);
     back(plane, &down[..], o, w, h);
     moved
@@ -259,19 +270,20 @@ pub fn project_onto_box(
     o: Own,
     w: usize,
     h: usize,
-    levels: &[i16],
+    lows: &[i16],
+    highs: &[i16],
     table: &[u16],
 ) -> usize
-    requires { ⌜ Covers o w h × Lent o (now levels) (now table) × (length (now plane) ≡ w * h) × (length (now across) ≡ w * h)
+    requires { ⌜ Covers o w h × Lent o (pairs (now lows) (now highs)) (now table) × (length (now plane) ≡ w * h) × (length (now across) ≡ w * h)
         × (length (now down) ≡ w * h) × (length (now saved) ≡ w * h) ⌝ }
     ensures { λ r. ⌜ (record { plane = now (plane .exit); across = now (across .exit); down = now (down .exit); saved = now (saved .exit) }
-        ≡ projectOntoBox (coef o (now (levels .entry)) (now (table .entry))) w h
+        ≡ projectOntoBox (coef o (pairs (now (lows .entry)) (now (highs .entry))) (now (table .entry))) w h
         (record { plane = now (plane .entry); across = now (across .entry); down = now (down .entry); saved = now (saved .entry) }))
-        × (r ≡ clipped (coef o (now (levels .entry)) (now (table .entry))) (transformed (coef o (now (levels .entry)) (now (table .entry))) w h
+        × (r ≡ clipped (coef o (pairs (now (lows .entry)) (now (highs .entry))) (now (table .entry))) (transformed (coef o (pairs (now (lows .entry)) (now (highs .entry))) (now (table .entry))) w h
         (record { plane = now (plane .entry); across = now (across .entry); down = now (down .entry); saved = now (saved .entry) }))) ⌝ }
 {
     if resample(o, w, h) {
-        return project_means(plane, across, down, saved, o, w, h, levels, table);
+        return project_means(plane, across, down, saved, o, w, h, lows, highs, table);
     }
-    project_full(plane, across, saved, o, w, h, levels, table)
+    project_full(plane, across, saved, o, w, h, lows, highs, table)
 }

@@ -2,7 +2,6 @@
 use mathlib.Core.Path.{_≡_, _∙_}
 use mathlib.Core.List.{List}
 use Prim.Native.Nat.{ℕ, _*_}
-use lib.IntN.{ℤ}
 use lib.ListN.{length, replicate, length-set, length-replicate}
 use lib.Ieee.{Float}
 use Rattle.fold.proofs.Loops.{upto-keeps}
@@ -12,13 +11,13 @@ use Rattle.start.specs.declared.coef.Own.{Own}
 use Rattle.start.specs.Coef.{Coef, blockCount, dequantise, dequantiseAt, initDctTarget, change, changeAt, changeRow}
 use Rattle.start.specs.Auxiliary.{initPixels}
 
-pub dequantise-length : (levels : List ℤ) (table : List ℕ) (i : ℕ) (out : List Float) → length (dequantise levels table i out) ≡ length out
+pub dequantise-length : (middle : ℕ → Float) (table : List ℕ) (i : ℕ) (out : List Float) → length (dequantise middle table i out) ≡ length out
 unfolding dequantise
-dequantise-length levels table i out = upto-keeps length (dequantiseAt levels table i) (λ k a. simp length-set) 64 out
+dequantise-length middle table i out = upto-keeps length (dequantiseAt middle table i) (λ k a. simp length-set) 64 out
 
 pub initDctTarget-length : (C : Coef) (out : List Float) → length (initDctTarget C out) ≡ length out
 unfolding initDctTarget
-initDctTarget-length C out = upto-keeps length (dequantise (C .levels) (C .table)) (dequantise-length (C .levels) (C .table)) (blockCount (C .own)) out
+initDctTarget-length C out = upto-keeps length (dequantise (C .middle) (C .table)) (dequantise-length (C .middle) (C .table)) (blockCount (C .own)) out
 
 pub initPixels-length : (image : List Float) (o : Own) (W H : ℕ) → length (initPixels image o W H) ≡ W * H
 unfolding initPixels

@@ -4,3 +4,4 @@ pub mod Lengths
 pub mod Writes
 pub mod Examples
 pub mod Once
+pub mod Equal

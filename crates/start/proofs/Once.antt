@@ -21,7 +21,7 @@ use Rattle.utils.proofs.Moves.{from-at, from-one}
 use Rattle.fold.proofs.Scatter.{sent-at, sent-length, sent-other}
 use Rattle.interval.specs.Interval.{dequantised}
 use Rattle.start.specs.declared.coef.Reorder.the-variants.{Each, Once}
-use Rattle.start.specs.Coef.{Coef, Eights, Placement, blockCount, blockH, blockValues, blockW, dequantise, imageBlock, imageData, imageOnce, initDctTarget, levelAt, pxCount, quantAt}
+use Rattle.start.specs.Coef.{Coef, Eights, Placement, blockCount, blockH, blockValues, blockW, dequantise, imageBlock, imageData, imageOnce, initDctTarget, pxCount, quantAt}
 use Rattle.start.specs.Auxiliary.{auxInit, initPixels}
 use Rattle.start.proofs.Cover.{block-in, blocks-fill}
 use Rattle.start.proofs.Lengths.{dequantise-length, initDctTarget-length}
@@ -46,7 +46,7 @@ same-blocks x y n a b e =
 
 module _ (C : Coef) where
   abbrev value : ℕ → ℕ → Float
-  value i j = dequantised (levelAt (C .levels) (i * 64 + j)) (quantAt (C .table) j)
+  value i j = dequantised (C .middle (i * 64 + j)) (quantAt (C .table) j)
 
   values-length : (i : ℕ) → length (blockValues C i) ≡ 64
   unfolding blockValues
@@ -59,17 +59,17 @@ module _ (C : Coef) where
       sent-at nan (value i) (λ j. j) 64 (replicate 64 f0) (λ k m. omega arith) (λ k m a b e. e) j l
 
   -- dequantising block i, and the blocks before it
-  dequantised-block : (i : ℕ) (x : List Float) → i * 64 + 64 ≤ length x → blockOf (dequantise (C .levels) (C .table) i x) i ≡ blockValues C i
+  dequantised-block : (i : ℕ) (x : List Float) → i * 64 + 64 ≤ length x → blockOf (dequantise (C .middle) (C .table) i x) i ≡ blockValues C i
   unfolding dequantise
   dequantised-block i x h =
-      same-block (dequantise (C .levels) (C .table) i x) (blockValues C i) i (omega (arith, dequantise-length (C .levels) (C .table) i x)) (values-length i)
+      same-block (dequantise (C .middle) (C .table) i x) (blockValues C i) i (omega (arith, dequantise-length (C .middle) (C .table) i x)) (values-length i)
       (λ j l. sent-at nan (value i) (λ j. i * 64 + j) 64 x (λ k m. omega arith) (λ k m a b e. omega arith) j l ∙ sym (values-at i j l))
 
-  earlier-block : (i k : ℕ) (x : List Float) → k < i → i * 64 + 64 ≤ length x → blockOf (dequantise (C .levels) (C .table) i x) k ≡ blockOf x k
+  earlier-block : (i k : ℕ) (x : List Float) → k < i → i * 64 + 64 ≤ length x → blockOf (dequantise (C .middle) (C .table) i x) k ≡ blockOf x k
   unfolding dequantise
   earlier-block i k x l h =
       let n = part-length x (k * 64) (k * 64 + 64) (omega arith) (omega arith) in
-      same-block (dequantise (C .levels) (C .table) i x) (blockOf x k) k (omega (arith, dequantise-length (C .levels) (C .table) i x)) (omega arith)
+      same-block (dequantise (C .middle) (C .table) i x) (blockOf x k) k (omega (arith, dequantise-length (C .middle) (C .table) i x)) (omega arith)
       (λ j m. sent-other nan (value i) (λ j. i * 64 + j) 64 x (k * 64 + j) (λ t b e. omega arith)
       ∙ sym (part-at x (k * 64) (k * 64 + 64) (omega arith) (omega arith) j nan (omega arith)))
 
@@ -99,7 +99,7 @@ module _ (C : Coef) where
         ∙ ap idct8x8 (same-block t (blockValues C i) i (omega arith) (values-length i)
         (λ j m.
         initDctTarget-at C e zeros (omega (arith, length-replicate (pxCount (C .own)) f0)) (i * 64 + j) (omega arith)
-        ∙ ap (λ (q : ℕ). dequantised (levelAt (C .levels) (i * 64 + j)) (quantAt (C .table) q)) (column-of i 64 j m) ∙ sym (values-at i j m)))
+        ∙ ap (λ (q : ℕ). dequantised (C .middle (i * 64 + j)) (quantAt (C .table) q)) (column-of i 64 j m) ∙ sym (values-at i j m)))
 
     -- T.81's placement, whatever the own sides
     pub once-placed : Placement C (imageOnce C)
@@ -132,23 +132,23 @@ module _ (C : Coef) where
       each-length n =
           upto-keeps length (imageBlock C)
           (λ i x. fromBlocks-length (C .own .width) (blockW (C .own)) (blockH (C .own)) _ _
-          ∙ onBlock-length idct8x8 idct-length i (dequantise (C .levels) (C .table) i x) ∙ dequantise-length (C .levels) (C .table) i x) n zeros
+          ∙ onBlock-length idct8x8 idct-length i (dequantise (C .middle) (C .table) i x) ∙ dequantise-length (C .middle) (C .table) i x) n zeros
           ∙ length-replicate (pxCount (C .own)) f0
 
-      turn : (i : ℕ) (x : List Float) → length x ≡ pxCount (C .own) → imageBlock C i x ≡ onBlock idct8x8 i (dequantise (C .levels) (C .table) i x)
+      turn : (i : ℕ) (x : List Float) → length x ≡ pxCount (C .own) → imageBlock C i x ≡ onBlock idct8x8 i (dequantise (C .middle) (C .table) i x)
       unfolding imageBlock
       turn i x n =
-          none (onBlock idct8x8 i (dequantise (C .levels) (C .table) i x))
-          (onBlock-length idct8x8 idct-length i (dequantise (C .levels) (C .table) i x) ∙ dequantise-length (C .levels) (C .table) i x ∙ n)
+          none (onBlock idct8x8 i (dequantise (C .middle) (C .table) i x))
+          (onBlock-length idct8x8 idct-length i (dequantise (C .middle) (C .table) i x) ∙ dequantise-length (C .middle) (C .table) i x ∙ n)
 
       each-block : (n : ℕ) → n * 64 ≤ pxCount (C .own) → (k : ℕ) → k < n → blockOf (upto (imageBlock C) n zeros) k ≡ idct8x8 (blockValues C k)
       unfolding upto
       each-block zero h k l = absurd (not-suc-le-zero l)
       each-block (suc n) h k l =
           let x = upto (imageBlock C) n zeros in
-          let y = dequantise (C .levels) (C .table) n x in
+          let y = dequantise (C .middle) (C .table) n x in
           let lx = each-length n in
-          let ly = dequantise-length (C .levels) (C .table) n x in
+          let ly = dequantise-length (C .middle) (C .table) n x in
           let new : length (idct8x8 (blockOf y n)) ≡ n * 64 + 64 - n * 64 = idct-length (blockOf y n) ∙ part-length y (n * 64) (n * 64 + 64) (omega arith) (omega arith) in
           ap (λ (s : List Float). blockOf s k) (turn n x lx)
           ∙ ⊎-elim

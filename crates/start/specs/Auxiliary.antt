@@ -1,5 +1,5 @@
 -- auxiliary.rs, `Aux::init`: a channel's buffers at the start. Document 01: plane and prior are the upsampled start, saved is
--- level × quantiser over its first w × h places, other values are 0.
+-- level × quantiser over its first w × h places, of a pair of levels its half sum, other values are 0.
 use mathlib.Core.List.{List}
 use Prim.Native.Nat.{ℕ, _*_}
 use lib.ListN.{replicate}

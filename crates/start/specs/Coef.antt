@@ -2,27 +2,58 @@
 use mathlib.Core.Path.{_≡_}
 use mathlib.Core.List.{List}
 use Prim.Native.Nat.{ℕ, _+_, _*_, _/_, _%_, _<_, _≤_}
-use lib.IntN.{ℤ, pos}
+use lib.IntN.{ℤ, pos, natAbs}
 use lib.ListN.{length, getD, set, replicate}
 use lib.Ieee.{Float}
 use Rattle.fold.specs.Fold.{upto}
 use Rattle.float.specs.Names.{f0, val}
 use Rattle.utils.specs.Blocks.{fromBlocks, onBlock}
 use Rattle.utils.specs.Dct.{idct8x8}
-use Rattle.interval.specs.Interval.{dequantised}
+use Rattle.interval.specs.Interval.{dequantised, mid, whole}
 use Rattle.start.specs.declared.coef.Own.{Own}
 use Rattle.start.specs.declared.coef.Reorder.{Reorder}
 use Rattle.start.specs.declared.coef.Reorder.the-variants.{Each, Once}
 
--- ScalarCoef: own sides (rounded_px_w, rounded_px_h) and factors (horizontal, vertical), levels (dct_coefs) and quantisers (quant_table) as
--- whole numbers
+-- M-105, levels as they are lent: "a lowest and a highest level for each place"
+pub record Levels : Type 0 where
+  pub lows : List ℤ
+  pub highs : List ℤ
+
+abbrev pub pairs : List ℤ → List ℤ → Levels
+pairs lows highs = record { lows = lows; highs = highs }
+
+abbrev pub levelAt : List ℤ → ℕ → ℤ
+levelAt levels k = getD levels k (pos 0)
+
+abbrev pub lowAt : Levels → ℕ → ℤ
+lowAt levels k = levelAt (levels .lows) k
+
+abbrev pub highAt : Levels → ℕ → ℤ
+highAt levels k = levelAt (levels .highs) k
+
+-- "Start and data gradient use the exact half sum of the pair"
+abbrev pub midAt : Levels → ℕ → Float
+midAt levels k = mid (lowAt levels k) (highAt levels k)
+
+-- ScalarCoef: own sides (rounded_px_w, rounded_px_h) and factors (horizontal, vertical), levels (dct_coefs) and quantisers (quant_table). Levels and
+-- quantisers are whole numbers; `middle` is the level of each place as the f32 that start and data compute with.
 pub record Coef : Type 0 where
   pub own : Own
-  pub levels : List ℤ
+  pub levels : Levels
+  pub middle : ℕ → Float
   pub table : List ℕ
 
-abbrev pub coef : Own → List ℤ → List ℕ → Coef
-coef o levels table = record { own = o; levels = levels; table = table }
+abbrev pub coef : Own → Levels → List ℕ → Coef
+coef o levels table = record { own = o; levels = levels; middle = midAt levels; table = table }
+
+-- "a `B` level stands in both", and is itself the f32, as in the Rust
+abbrev pub single : Own → List ℤ → List ℕ → Coef
+single o levels table = record { own = o; levels = pairs levels levels; middle = λ k. whole (levelAt levels k); table = table }
+
+-- "Equal pairs must give the planes of the `B` line": with legal levels both are the same coefficients, and every job is a function of these. A theorem,
+-- `equal-levels` of proofs/Equal.antt.
+abbrev pub EqualLevels : Type 0
+EqualLevels = (o : Own) (levels : List ℤ) (table : List ℕ) → ((k : ℕ) → natAbs (levelAt levels k) ≤ 2047) → coef o (pairs levels levels) table ≡ single o levels table
 
 -- block_w, block_h, block_count, rounded_px_count
 abbrev pub blockW : Own → ℕ
@@ -37,23 +68,20 @@ blockCount o = blockW o * blockH o
 abbrev pub pxCount : Own → ℕ
 pxCount o = o .width * o .height
 
-abbrev pub levelAt : List ℤ → ℕ → ℤ
-levelAt levels k = getD levels k (pos 0)
-
 abbrev pub quantAt : List ℕ → ℕ → ℕ
 quantAt table j = getD table j 0
 
 -- out[i * 64 + j] = dct_coefs[i * 64 + j] * quant_table[j], for each j
-abbrev pub dequantiseAt : List ℤ → List ℕ → ℕ → ℕ → List Float → List Float
-dequantiseAt levels table i j out = set out (i * 64 + j) (dequantised (levelAt levels (i * 64 + j)) (quantAt table j))
+abbrev pub dequantiseAt : (ℕ → Float) → List ℕ → ℕ → ℕ → List Float → List Float
+dequantiseAt middle table i j out = set out (i * 64 + j) (dequantised (middle (i * 64 + j)) (quantAt table j))
 
-unfoldable pub dequantise : List ℤ → List ℕ → ℕ → List Float → List Float
-dequantise levels table i out = upto (dequantiseAt levels table i) 64 out
+unfoldable pub dequantise : (ℕ → Float) → List ℕ → ℕ → List Float → List Float
+dequantise middle table i out = upto (dequantiseAt middle table i) 64 out
 
 -- From<Coefficient>, block i: dequantised, transformed, and then the whole plane is reordered
 unfoldable pub imageBlock : Coef → ℕ → List Float → List Float
 imageBlock C i image =
-    let x = onBlock idct8x8 i (dequantise (C .levels) (C .table) i image) in
+    let x = onBlock idct8x8 i (dequantise (C .middle) (C .table) i image) in
     fromBlocks (C .own .width) (blockW (C .own)) (blockH (C .own)) x x
 
 unfoldable pub imageData : Coef → List Float
@@ -61,7 +89,7 @@ imageData C = upto (imageBlock C) (blockCount (C .own)) (replicate (pxCount (C .
 
 -- init_dct_target_into
 unfoldable pub initDctTarget : Coef → List Float → List Float
-initDctTarget C out = upto (dequantise (C .levels) (C .table)) (blockCount (C .own)) out
+initDctTarget C out = upto (dequantise (C .middle) (C .table)) (blockCount (C .own)) out
 
 -- M-102's start: all blocks dequantised and transformed, and then the plane is reordered once
 unfoldable pub imageOnce : Coef → List Float
@@ -79,7 +107,7 @@ imageOf Once C = imageOnce C
 
 -- the values of the levels of block i
 unfoldable pub blockValues : Coef → ℕ → List Float
-blockValues C i = upto (λ j out. set out j (dequantised (levelAt (C .levels) (i * 64 + j)) (quantAt (C .table) j))) 64 (replicate 64 f0)
+blockValues C i = upto (λ j out. set out j (dequantised (C .middle (i * 64 + j)) (quantAt (C .table) j))) 64 (replicate 64 f0)
 
 -- T.81's placement with `idct8x8` as its transform: row 8 by + r, column 8 bx + k of the own plane holds value 8 r + k of block by × (w / 8) + bx
 pub record Placement (C : Coef) (image : List Float) : Type 0 where
@@ -107,9 +135,13 @@ change f o W cy cx plane = upto (changeRow f o W cy cx) (o .vertical) plane
 abbrev pub Eights : Own → Type 0
 Eights o = (o .width % 8 ≡ 0) × (o .height % 8 ≡ 0)
 
+-- levels of n places: "two buffers of the old length each"
+abbrev pub Long : Levels → ℕ → Type 0
+Long levels n = (length (levels .lows) ≡ n) × (length (levels .highs) ≡ n)
+
 -- the channel's levels, and its 64 quantisers
-abbrev pub Lent : Own → List ℤ → List ℕ → Type 0
-Lent o levels table = (length levels ≡ o .width * o .height) × (length table ≡ 64)
+abbrev pub Lent : Own → Levels → List ℕ → Type 0
+Lent o levels table = Long levels (o .width * o .height) × (length table ≡ 64)
 
 -- factors 1 to 4, and cover of full sides W and H up to 512
 pub record Covers (o : Own) (W H : ℕ) : Type 0 where

@@ -6,7 +6,7 @@ ghost use mathlib.Core.Path.{_≡_};
 ghost use Prim.Native.Nat.{_*_};
 ghost use lib.ListN.{length, replicate};
 ghost use Rattle.float.specs.Names.{f0};
-ghost use Rattle.start.specs.Coef.{Covers, Lent, coef, imageOf, initDctTarget};
+ghost use Rattle.start.specs.Coef.{Covers, Lent, coef, imageOf, initDctTarget, pairs};
 ghost use Rattle.start.specs.Auxiliary.{initPixels, auxInit};
 
 // AlignedF32::zeros(n).
@@ -27,14 +27,15 @@ fn init_pixels(
     w: usize,
     h: usize,
     reorder: Reorder,
-    levels: &[i16],
+    lows: &[i16],
+    highs: &[i16],
     table: &[u16],
 )
-    requires { ⌜ Covers o w h × Lent o (now levels) (now table) × (length (now plane) ≡ w * h)
+    requires { ⌜ Covers o w h × Lent o (pairs (now lows) (now highs)) (now table) × (length (now plane) ≡ w * h)
         × (length (now image) ≡ o .width * o .height) × (length (now scratch) ≡ o .width * o .height) ⌝ }
-    ensures { λ _. ⌜ now (plane .exit) ≡ initPixels (imageOf reorder (coef o (now (levels .entry)) (now (table .entry)))) o w h ⌝ }
+    ensures { λ _. ⌜ now (plane .exit) ≡ initPixels (imageOf reorder (coef o (pairs (now (lows .entry)) (now (highs .entry))) (now (table .entry)))) o w h ⌝ }
 {
-    coef::image_of(image, scratch, o, reorder, levels, table);
+    coef::image_of(image, scratch, o, reorder, lows, highs, table);
     zeros(plane, w * h);
     utils::auxiliary::upsample_pixels(
         &image[..],
@@ -48,13 +49,21 @@ fn init_pixels(
     );
 }
 
-// The saved coefficients: level × quantiser, and 0 past them.
-fn init_saved(saved: &mut [f32], o: Own, w: usize, h: usize, levels: &[i16], table: &[u16])
-    requires { ⌜ Covers o w h × Lent o (now levels) (now table) × (length (now saved) ≡ w * h) ⌝ }
-    ensures { λ _. ⌜ now (saved .exit) ≡ initDctTarget (coef o (now (levels .entry)) (now (table .entry))) (replicate (w * h) f0) ⌝ }
+// The saved coefficients: half sum × quantiser, and 0 past them.
+fn init_saved(
+    saved: &mut [f32],
+    o: Own,
+    w: usize,
+    h: usize,
+    lows: &[i16],
+    highs: &[i16],
+    table: &[u16],
+)
+    requires { ⌜ Covers o w h × Lent o (pairs (now lows) (now highs)) (now table) × (length (now saved) ≡ w * h) ⌝ }
+    ensures { λ _. ⌜ now (saved .exit) ≡ initDctTarget (coef o (pairs (now (lows .entry)) (now (highs .entry))) (now (table .entry))) (replicate (w * h) f0) ⌝ }
 {
     zeros(saved, w * h);
-    coef::init_dct_target(saved, o, levels, table);
+    coef::init_dct_target(saved, o, lows, highs, table);
 }
 
 // Plane and prior at the start. Across and down are scratch for the image before they are 0.
@@ -67,12 +76,13 @@ fn init_planes(
     w: usize,
     h: usize,
     reorder: Reorder,
-    levels: &[i16],
+    lows: &[i16],
+    highs: &[i16],
     table: &[u16],
 )
-    requires { ⌜ Covers o w h × Lent o (now levels) (now table) × (length (now plane) ≡ w * h) × (length (now prior) ≡ w * h)
+    requires { ⌜ Covers o w h × Lent o (pairs (now lows) (now highs)) (now table) × (length (now plane) ≡ w * h) × (length (now prior) ≡ w * h)
         × (length (now across) ≡ w * h) × (length (now down) ≡ w * h) ⌝ }
-    ensures { λ _. ⌜ (now (plane .exit) ≡ initPixels (imageOf reorder (coef o (now (levels .entry)) (now (table .entry)))) o w h)
+    ensures { λ _. ⌜ (now (plane .exit) ≡ initPixels (imageOf reorder (coef o (pairs (now (lows .entry)) (now (highs .entry))) (now (table .entry)))) o w h)
         × (now (prior .exit) ≡ now (plane .exit)) × (now (across .exit) ≡ replicate (w * h) f0) × (now (down .exit) ≡ replicate (w * h) f0) ⌝ }
 {
     let area = w * h;
@@ -85,7 +95,8 @@ fn init_planes(
         w,
         h,
         reorder,
-        levels,
+        lows,
+        highs,
         table,
     );
     zeros(across, area);
@@ -106,10 +117,11 @@ pub fn start(
     w: usize,
     h: usize,
     reorder: Reorder,
-    levels: &[i16],
+    lows: &[i16],
+    highs: &[i16],
     table: &[u16],
 )
-    requires { ⌜ Covers o w h × Lent o (now levels) (now table) × (length (now plane) ≡ w * h) × (length (now prior) ≡ w * h)
+    requires { ⌜ Covers o w h × Lent o (pairs (now lows) (now highs)) (now table) × (length (now plane) ≡ w * h) × (length (now prior) ≡ w * h)
         × (length (now gradient) ≡ w * h) × (length (now across) ≡ w * h) × (length (now down) ≡ w * h) × (length (now saved) ≡ w * h) ⌝ }
     ensures { λ _. ⌜ record {
       plane = now (plane .exit);
@@ -119,9 +131,21 @@ pub fn start(
       down = now (down .exit);
       saved = now (saved .exit);
     }
-        ≡ auxInit reorder (coef o (now (levels .entry)) (now (table .entry))) w h ⌝ }
+        ≡ auxInit reorder (coef o (pairs (now (lows .entry)) (now (highs .entry))) (now (table .entry))) w h ⌝ }
 {
-    init_saved(saved, o, w, h, levels, table);
+    init_saved(saved, o, w, h, lows, highs, table);
     zeros(gradient, w * h);
-    init_planes(plane, prior, across, down, o, w, h, reorder, levels, table);
+    init_planes(
+        plane,
+        prior,
+        across,
+        down,
+        o,
+        w,
+        h,
+        reorder,
+        lows,
+        highs,
+        table,
+    );
 }

@@ -2,7 +2,7 @@
 ghost use mathlib.Core.Path.{_≡_};
 ghost use Prim.Native.Nat.{_+_, _*_, _/_, _^_, _<_, _≤_};
 ghost use lib.ListN.{length};
-ghost use Rattle.start.specs.Coef.{Covers, Eights, Lent, coef, dequantise, imageBlock, imageData, imageOnce, imageOf, initDctTarget, spot};
+ghost use Rattle.start.specs.Coef.{Covers, Eights, Lent, coef, dequantise, midAt, pairs, imageBlock, imageData, imageOnce, imageOf, initDctTarget, spot};
 
 // A channel's own sides and its factors.
 pub struct Own {
@@ -40,15 +40,16 @@ pub fn px_count(o: Own, w: usize, h: usize) -> usize
     width * height
 }
 
-// The values of the levels of block i.
-fn dequantise(out: &mut [f32], levels: &[i16], table: &[u16], i: usize)
-    requires { ⌜ (i * 64 + 64 ≤ length (now levels)) × (length (now table) ≡ 64) × (i * 64 + 64 ≤ length (now out)) ⌝ }
-    ensures { λ _. ⌜ now (out .exit) ≡ dequantise (now (levels .entry)) (now (table .entry)) i (now (out .entry)) ⌝ }
+// The values of the levels of block i: half sum × quantiser.
+fn dequantise(out: &mut [f32], lows: &[i16], highs: &[i16], table: &[u16], i: usize)
+    requires { ⌜ (i * 64 + 64 ≤ length (now lows)) × (i * 64 + 64 ≤ length (now highs)) × (length (now table) ≡ 64) × (i * 64 + 64 ≤ length (now out)) ⌝ }
+    ensures { λ _. ⌜ now (out .exit) ≡ dequantise (midAt (pairs (now (lows .entry)) (now (highs .entry)))) (now (table .entry)) i (now (out .entry)) ⌝ }
 {
     for j in 0..64 {
         let k = i * 64 + j;
-        let level = levels[k];
-        out[k] = interval::dequantised(level, table[j]);
+        let low = lows[k];
+        let high = highs[k];
+        out[k] = interval::dequantised(low, high, table[j]);
     }
 }
 
@@ -57,17 +58,18 @@ fn image_block(
     image: &mut [f32],
     scratch: &mut [f32],
     o: Own,
-    levels: &[i16],
+    lows: &[i16],
+    highs: &[i16],
     table: &[u16],
     i: usize,
 )
-    requires { ⌜ Eights o × Lent o (now levels) (now table) × (i < o .width / 8 * (o .height / 8))
+    requires { ⌜ Eights o × Lent o (pairs (now lows) (now highs)) (now table) × (i < o .width / 8 * (o .height / 8))
         × (length (now image) ≡ o .width * o .height) × (length (now scratch) ≡ o .width * o .height) ⌝ }
-    ensures { λ _. ⌜ now (image .exit) ≡ imageBlock (coef o (now (levels .entry)) (now (table .entry))) i (now (image .entry)) ⌝ }
+    ensures { λ _. ⌜ now (image .exit) ≡ imageBlock (coef o (pairs (now (lows .entry)) (now (highs .entry))) (now (table .entry))) i (now (image .entry)) ⌝ }
 {
     let w = o.width;
     let h = o.height;
-    dequantise(image, levels, table, i);
+    dequantise(image, lows, highs, table, i);
     utils::dct::idct_block(image, i);
     utils::slices::copy(&image[..], scratch);
     utils::blocks::from_blocks(&scratch[..], image, w, h, w / 8, h / 8);
@@ -75,41 +77,55 @@ fn image_block(
 
 // The channel's pixels in its own sides. Above width 8 the image is reordered after each block.
 // Rules out: the image reordered once, after the last block, and values that `image` held before.
-fn image_data(image: &mut [f32], scratch: &mut [f32], o: Own, levels: &[i16], table: &[u16])
-    requires { ⌜ Eights o × Lent o (now levels) (now table)
+fn image_data(
+    image: &mut [f32],
+    scratch: &mut [f32],
+    o: Own,
+    lows: &[i16],
+    highs: &[i16],
+    table: &[u16],
+)
+    requires { ⌜ Eights o × Lent o (pairs (now lows) (now highs)) (now table)
         × (length (now image) ≡ o .width * o .height) × (length (now scratch) ≡ o .width * o .height) ⌝ }
-    ensures { λ _. ⌜ now (image .exit) ≡ imageData (coef o (now (levels .entry)) (now (table .entry))) ⌝ }
+    ensures { λ _. ⌜ now (image .exit) ≡ imageData (coef o (pairs (now (lows .entry)) (now (highs .entry))) (now (table .entry))) ⌝ }
 {
     let n = block_count(o);
     utils::slices::zero(image);
     for i in 0..n {
-        image_block(image, scratch, o, levels, table, i);
+        image_block(image, scratch, o, lows, highs, table, i);
     }
 }
 
-// The saved coefficients at the start: level × quantiser.
+// The saved coefficients at the start: half sum × quantiser.
 // Rules out: the inverse transform of those values, and a value changed past the channel's own.
-pub fn init_dct_target(out: &mut [f32], o: Own, levels: &[i16], table: &[u16])
-    requires { ⌜ Eights o × Lent o (now levels) (now table) × (o .width * o .height ≤ length (now out)) ⌝ }
-    ensures { λ _. ⌜ now (out .exit) ≡ initDctTarget (coef o (now (levels .entry)) (now (table .entry))) (now (out .entry)) ⌝ }
+pub fn init_dct_target(out: &mut [f32], o: Own, lows: &[i16], highs: &[i16], table: &[u16])
+    requires { ⌜ Eights o × Lent o (pairs (now lows) (now highs)) (now table) × (o .width * o .height ≤ length (now out)) ⌝ }
+    ensures { λ _. ⌜ now (out .exit) ≡ initDctTarget (coef o (pairs (now (lows .entry)) (now (highs .entry))) (now (table .entry))) (now (out .entry)) ⌝ }
 {
     let n = block_count(o);
     for i in 0..n {
-        dequantise(out, levels, table, i);
+        dequantise(out, lows, highs, table, i);
     }
 }
 
 // The channel's pixels in its own sides, reordered once: T.81's placement.
-fn image_once(image: &mut [f32], scratch: &mut [f32], o: Own, levels: &[i16], table: &[u16])
-    requires { ⌜ Eights o × Lent o (now levels) (now table)
+fn image_once(
+    image: &mut [f32],
+    scratch: &mut [f32],
+    o: Own,
+    lows: &[i16],
+    highs: &[i16],
+    table: &[u16],
+)
+    requires { ⌜ Eights o × Lent o (pairs (now lows) (now highs)) (now table)
         × (length (now image) ≡ o .width * o .height) × (length (now scratch) ≡ o .width * o .height) ⌝ }
-    ensures { λ _. ⌜ now (image .exit) ≡ imageOnce (coef o (now (levels .entry)) (now (table .entry))) ⌝ }
+    ensures { λ _. ⌜ now (image .exit) ≡ imageOnce (coef o (pairs (now (lows .entry)) (now (highs .entry))) (now (table .entry))) ⌝ }
 {
     let w = o.width;
     let h = o.height;
     let n = block_count(o);
     utils::slices::zero(image);
-    init_dct_target(image, o, levels, table);
+    init_dct_target(image, o, lows, highs, table);
     utils::dct::idct_blocks(image, n);
     utils::slices::copy(&image[..], scratch);
     utils::blocks::from_blocks(&scratch[..], image, w, h, w / 8, h / 8);
@@ -121,16 +137,17 @@ pub fn image_of(
     scratch: &mut [f32],
     o: Own,
     reorder: Reorder,
-    levels: &[i16],
+    lows: &[i16],
+    highs: &[i16],
     table: &[u16],
 )
-    requires { ⌜ Eights o × Lent o (now levels) (now table)
+    requires { ⌜ Eights o × Lent o (pairs (now lows) (now highs)) (now table)
         × (length (now image) ≡ o .width * o .height) × (length (now scratch) ≡ o .width * o .height) ⌝ }
-    ensures { λ _. ⌜ now (image .exit) ≡ imageOf reorder (coef o (now (levels .entry)) (now (table .entry))) ⌝ }
+    ensures { λ _. ⌜ now (image .exit) ≡ imageOf reorder (coef o (pairs (now (lows .entry)) (now (highs .entry))) (now (table .entry))) ⌝ }
 {
     match reorder {
-        Reorder::Each => image_data(image, scratch, o, levels, table),
-        Reorder::Once => image_once(image, scratch, o, levels, table),
+        Reorder::Each => image_data(image, scratch, o, lows, highs, table),
+        Reorder::Once => image_once(image, scratch, o, lows, highs, table),
     }
 }
 

@@ -4,19 +4,19 @@ use mathlib.Core.Path.{_≡_, refl, sym, ap, _∙_, subst}
 use mathlib.Core.Bool.{false, true≢false}
 use Prim.Native.Nat.{ℕ, _*_, _%_, _<_, _≤_}
 use native.Mathlib.Omega.{arith}
-use lib.Signed.{≤ℤ-refl}
 use lib.ListN.{length, replicate, length-replicate}
 use lib.Ieee.{Float, nan}
 use Rattle.float.specs.Names.{f0, val}
-use Rattle.interval.specs.Interval.{InInterval, clampTo}
-use Rattle.interval.proofs.Clamp.{clamp-in, clamp-nan, product-in}
+use Rattle.interval.specs.Interval.{InInterval, clampTo, dequantised}
+use Rattle.interval.proofs.Clamp.{clamp-in, clamp-nan}
+use Rattle.interval.proofs.HalfSum.{mid-in}
 use Rattle.steps.specs.declared.solve.Constants.{Constants}
 use Rattle.steps.proofs.Laws.{moved-length, push-plane-length, push-prior-length}
 use Rattle.gradients.specs.Tv.{Terms}
 use Rattle.gradients.proofs.Laws.{blended-across-length, blended-down-length, blended-gradient-length}
 use Rattle.start.specs.declared.coef.Reorder.{Reorder}
 use Rattle.start.specs.Buffers.{Buffers}
-use Rattle.start.specs.Coef.{Coef, Covers, imageOf, levelAt, pxCount, quantAt}
+use Rattle.start.specs.Coef.{Coef, Covers, imageOf, lowAt, highAt, pxCount, quantAt}
 use Rattle.start.specs.Auxiliary.{auxInit}
 use Rattle.projection.specs.Projection.{projectOntoBox, transformed}
 use Rattle.projection.specs.Blown.{bad}
@@ -125,15 +125,17 @@ module _ (C : Coef) (W H : ℕ) (cover : Covers (C .own) W H) (legal : Legal C) 
   unfolding auxInit
   starting-in R k l =
       let zeros = replicate (W * H) f0 in
-      let d = levelAt (C .levels) k in
+      let d = lowAt (C .levels) k in
+      let e = highAt (C .levels) k in
       let q = quantAt (C .table) (k % 64) in
       let fits : pxCount (C .own) ≤ length zeros = omega (arith, own-fits (C .own) W H cover, length-replicate (W * H) f0) in
-      subst (InInterval d d q) (sym (initDctTarget-at C (cover .eights) zeros fits k l)) (product-in d q (legal .levels-ok k) (legal .table-ok (k % 64)))
+      subst (InInterval d e q) (sym (initDctTarget-at C (cover .eights) zeros fits k l ∙ ap (λ (m : Float). dequantised m q) (legal .middle-is k)))
+      (mid-in d e q (legal .order k) (legal .lows-ok k) (legal .highs-ok k) (legal .table-ok (k % 64)))
 
   -- saved after project is the clamp of the transformed value
   pub projecting-saved : (b : Buffers) → Sized (W * H) b → (k : ℕ) → k < pxCount (C .own)
       → val (projecting C W H b .saved) k
-      ≡ clampTo (levelAt (C .levels) k) (levelAt (C .levels) k) (quantAt (C .table) (k % 64)) (val (transformed C W H (boxOf b)) k)
+      ≡ clampTo (lowAt (C .levels) k) (highAt (C .levels) k) (quantAt (C .table) (k % 64)) (val (transformed C W H (boxOf b)) k)
   unfolding projecting
   projecting-saved b z k l =
       let f = own-fits (C .own) W H cover in
@@ -143,14 +145,17 @@ module _ (C : Coef) (W H : ℕ) (cover : Covers (C .own) W H) (legal : Legal C) 
   pub projecting-in : (b : Buffers) → Sized (W * H) b → (k : ℕ) → k < pxCount (C .own)
       → bad (val (projecting C W H b .saved) k) ≡ false → CoefIn C k (projecting C W H b)
   projecting-in b z k l f =
-      let d = levelAt (C .levels) k in
+      let d = lowAt (C .levels) k in
+      let e = highAt (C .levels) k in
       let q = quantAt (C .table) (k % 64) in
       let v = val (transformed C W H (boxOf b)) k in
-      let e = projecting-saved b z k l in
-      let lo = legal .levels-ok k in
+      let is = projecting-saved b z k l in
+      let lo = legal .lows-ok k in
+      let hi = legal .highs-ok k in
+      let le = legal .order k in
       let qo = legal .table-ok (k % 64) in
-      let number : v ≡ nan → ⊥ = λ n. true≢false (sym (ap bad (e ∙ ap (clampTo d d q) n ∙ clamp-nan d d q (≤ℤ-refl d) lo lo qo)) ∙ f) in
-      subst (InInterval d d q) (sym e) (clamp-in d d q (≤ℤ-refl d) lo lo qo v number)
+      let number : v ≡ nan → ⊥ = λ n. true≢false (sym (ap bad (is ∙ ap (clampTo d e q) n ∙ clamp-nan d e q le lo hi qo)) ∙ f) in
+      subst (InInterval d e q) (sym is) (clamp-in d e q le lo hi qo v number)
 
 -- ---- M-104: project moves no more coefficients than the own plane has places
 pub clipping-most : (C : Coef) (W H : ℕ) (b : Buffers) → clipping C W H b ≤ pxCount (C .own)

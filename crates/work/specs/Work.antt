@@ -1,6 +1,8 @@
 -- The jobs of document 01, "Jobs and positions", over the definitions of the Rust's files. A buffer that a job does not name is as it was.
+use mathlib.Core.Path.{_≡_}
 use Prim.Native.Nat.{ℕ, _%_, _<_, _≤_}
 use lib.IntN.{natAbs}
+use lib.Signed.{_≤ℤ_}
 use lib.Ieee.{Float}
 use Rattle.float.specs.Names.{val}
 use Rattle.interval.specs.Interval.{InInterval}
@@ -11,7 +13,7 @@ use Rattle.gradients.specs.declared.Totals.{Totals}
 use Rattle.gradients.specs.Blend.{blended, totals}
 use Rattle.start.specs.declared.coef.Reorder.{Reorder}
 use Rattle.start.specs.Buffers.{Buffers}
-use Rattle.start.specs.Coef.{Coef, levelAt, pxCount, quantAt}
+use Rattle.start.specs.Coef.{Coef, lowAt, highAt, midAt, pxCount, quantAt}
 use Rattle.start.specs.Auxiliary.{auxInit}
 use Rattle.fidelity.specs.DctGradient.{dataGradient}
 use Rattle.projection.specs.Projection.{Box, clipped, projectOntoBox, transformed}
@@ -63,14 +65,17 @@ clipping C W H b = clipped C (transformed C W H (boxOf b))
 
 -- ---- what the laws speak of
 
--- levels within ±2,047 and quantisers up to 255
+-- levels within ±2,047, the lowest not above the highest, of which start and data take the half sum; and quantisers up to 255
 pub record Legal (C : Coef) : Type 0 where
-  pub levels-ok : (k : ℕ) → natAbs (levelAt (C .levels) k) ≤ 2047
+  pub lows-ok : (k : ℕ) → natAbs (lowAt (C .levels) k) ≤ 2047
+  pub highs-ok : (k : ℕ) → natAbs (highAt (C .levels) k) ≤ 2047
+  pub order : (k : ℕ) → lowAt (C .levels) k ≤ℤ highAt (C .levels) k
+  pub middle-is : (k : ℕ) → C .middle k ≡ midAt (C .levels) k
   pub table-ok : (j : ℕ) → quantAt (C .table) j ≤ 255
 
--- saved coefficient k of a channel with the coefficients C is in the interval of its level and quantiser; and so is every one
+-- saved coefficient k of a channel with the coefficients C is in the interval of its levels and quantiser; and so is every one
 abbrev pub CoefIn : Coef → ℕ → Buffers → Type 0
-CoefIn C k b = InInterval (levelAt (C .levels) k) (levelAt (C .levels) k) (quantAt (C .table) (k % 64)) (val (b .saved) k)
+CoefIn C k b = InInterval (lowAt (C .levels) k) (highAt (C .levels) k) (quantAt (C .table) (k % 64)) (val (b .saved) k)
 
 abbrev pub CoefsIn : Coef → Buffers → Type 0
 CoefsIn C b = (k : ℕ) → k < pxCount (C .own) → CoefIn C k b

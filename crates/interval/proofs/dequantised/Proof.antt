@@ -1,13 +1,15 @@
 use mir.Syntax.{w16}
 use mir.ValLaws.{toZ-ofZ}
-use Rattle.interval.specs.Interval.{dequantised}
 use borrow.Author.Needs.{needs}
+use Rattle.interval.specs.Interval.{dequantised}
 use Rattle.interval.proofs.dequantised.Statement.{statement}
 use Rattle.interval.proofs.dequantised.Tie as tie
 
 returns : tie.Need-returns
 unfolding dequantised
-returns c = rw (c .before .whole .ensures, toZ-ofZ w16 (c .before .before .args .level) (c .before .before .fits .level))
+returns c =
+    let s = c .before .before in
+    rw (c .before .mid .ensures, toZ-ofZ w16 (s .args .low) (s .fits .low), toZ-ofZ w16 (s .args .high) (s .fits .high))
 
 pub dequantised-spec : {M : Type 1} → statement M
 dequantised-spec = tie.close

@@ -7,7 +7,7 @@ use Rattle.fidelity.proofs.dct_gradient.cosb_of.Tie as tie
 
 returns : tie.Need-returns
 unfolding cosbOf
-returns c = rw (c .before .mul-add .ensures, c .before .before .whole .ensures, c .powi2 .ensures, toZ-ofZ w16 (c .before .before .before .before .args .level) (c .before .before .before .before .fits .level))
+returns c = rw (c .before .mul-add .ensures, c .before .before .mid .ensures, c .powi2 .ensures, toZ-ofZ w16 (c .before .before .before .before .args .low) (c .before .before .before .before .fits .low), toZ-ofZ w16 (c .before .before .before .before .args .high) (c .before .before .before .before .fits .high))
 
 pub cosb-of-spec : {M : Type 1} → statement M
 cosb-of-spec =

@@ -6,22 +6,22 @@ use native.Mathlib.Omega.{arith}
 use Rattle.fold.proofs.Loops.{upto-call, upto-end}
 use Rattle.fold.specs.Fold.{upto}
 use Rattle.start.proofs.Cover.{own-fits}
-use Rattle.start.specs.Coef.{coef}
+use Rattle.start.specs.Coef.{coef, pairs}
 use Rattle.fidelity.specs.DctGradient.{dctGradient, gradientBlock, gradientLine}
 use Rattle.fidelity.proofs.dct_gradient.dct_gradient.Statement.{statement}
 use Rattle.fidelity.proofs.dct_gradient.dct_gradient.Tie as tie
 
 abbrev Inv-loop2 : tie.InvT-loop2
-Inv-loop2 cos gradient₀ o w h alpha levels table bw bh by bx₀ gradient bx = (bx ≤ bw) × (length gradient ≡ length gradient₀) × (gradient ≡ upto (gradientBlock (coef o levels table) w alpha cos by) bx gradient₀)
+Inv-loop2 cos gradient₀ o w h alpha lows highs table bw bh by bx₀ gradient bx = (bx ≤ bw) × (length gradient ≡ length gradient₀) × (gradient ≡ upto (gradientBlock (coef o (pairs lows highs) table) w alpha cos by) bx gradient₀)
 
 abbrev μ-loop2 : tie.MeasureT-loop2
-μ-loop2 cos gradient₀ o w h alpha levels table bw bh by bx₀ gradient bx = bw - bx
+μ-loop2 cos gradient₀ o w h alpha lows highs table bw bh by bx₀ gradient bx = bw - bx
 
 abbrev Inv-loop : tie.InvT-loop
-Inv-loop cos gradient₀ o w h alpha levels table bw bh by₀ gradient by = (by ≤ bh) × (length gradient ≡ length gradient₀) × (gradient ≡ upto (gradientLine (coef o levels table) w alpha cos) by gradient₀)
+Inv-loop cos gradient₀ o w h alpha lows highs table bw bh by₀ gradient by = (by ≤ bh) × (length gradient ≡ length gradient₀) × (gradient ≡ upto (gradientLine (coef o (pairs lows highs) table) w alpha cos) by gradient₀)
 
 abbrev μ-loop : tie.MeasureT-loop
-μ-loop cos gradient₀ o w h alpha levels table bw bh by₀ gradient by = bh - by
+μ-loop cos gradient₀ o w h alpha lows highs table bw bh by₀ gradient by = bh - by
 
 loop-holds : tie.Need-loop-holds Inv-loop2 μ-loop2 Inv-loop μ-loop
 unfolding upto

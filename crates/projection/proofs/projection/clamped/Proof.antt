@@ -6,18 +6,18 @@ use mathlib.Core.Path.{_≡_, _∙_}
 use native.Mathlib.Omega.{arith}
 use Rattle.fold.proofs.Loops.{upto-call, upto-end}
 use Rattle.fold.specs.Fold.{upto}
-use Rattle.start.specs.Coef.{coef}
+use Rattle.start.specs.Coef.{coef, pairs}
 use Rattle.projection.specs.Projection.{clampBlock, clamped, clippedBlock}
 use Rattle.projection.proofs.Writes.{clipped-ahead, clipped-blocks}
 use Rattle.projection.proofs.projection.clamped.Statement.{statement}
 use Rattle.projection.proofs.projection.clamped.Tie as tie
 
 abbrev Inv-loop : tie.InvT-loop
-Inv-loop x₀ levels table n moved₀ i₀ x moved i =
-    (i ≤ n) × (length x ≡ length x₀) × (moved ≤ i * 64) × (x ≡ upto (clampBlock levels table) i x₀) × (moved ≡ upto (clippedBlock levels table x₀) i 0)
+Inv-loop x₀ lows highs table n moved₀ i₀ x moved i =
+    (i ≤ n) × (length x ≡ length x₀) × (moved ≤ i * 64) × (x ≡ upto (clampBlock (pairs lows highs) table) i x₀) × (moved ≡ upto (clippedBlock (pairs lows highs) table x₀) i 0)
 
 abbrev μ-loop : tie.MeasureT-loop
-μ-loop x₀ levels table n moved₀ i₀ x moved i = n - i
+μ-loop x₀ lows highs table n moved₀ i₀ x moved i = n - i
 
 loop-holds : tie.Need-loop-holds Inv-loop μ-loop
 unfolding upto
@@ -32,7 +32,7 @@ loop-again c =
       search needs,
       omega arith,
       upto-call _ _ _ (v .3) (k .0),
-      upto-call _ _ _ (v .4) (k .1 ∙ rw (v .3) (clipped-ahead (now (a .levels)) (now (a .table)) _ (c .before .before .before .before .before .loop .i) (c .before .before .before .before .before .loop .moved))),
+      upto-call _ _ _ (v .4) (k .1 ∙ rw (v .3) (clipped-ahead (pairs (now (a .lows)) (now (a .highs))) (now (a .table)) _ (c .before .before .before .before .before .loop .i) (c .before .before .before .before .before .loop .moved))),
     )
 
 returns : tie.Need-returns Inv-loop μ-loop
@@ -41,7 +41,7 @@ returns c =
     let v = c .before .loop .inv in
     let a = c .before .before .before .before .before .before .before .before .before .args in
     rw (← c .before .before .before .before .before .before .block-count .ensures .0, ← c .before .before .before .before .dct-blocks .ensures)
-    (upto-end _ _ _ _ (v .3) (omega arith), upto-end _ _ _ _ (v .4) (omega arith ∙ c .before .before .before .before .before .before .block-count .ensures .0) ∙ clipped-blocks (coef (a .o) (now (a .levels)) (now (a .table))) (c .before .before .before .before .before .before .before .before .before .pre .0) _)
+    (upto-end _ _ _ _ (v .3) (omega arith), upto-end _ _ _ _ (v .4) (omega arith ∙ c .before .before .before .before .before .before .block-count .ensures .0) ∙ clipped-blocks (coef (a .o) (pairs (now (a .lows)) (now (a .highs))) (now (a .table))) (c .before .before .before .before .before .before .before .before .before .pre .0) _)
 
 pub clamped-spec : {M : Type 1} → statement M
 clamped-spec =

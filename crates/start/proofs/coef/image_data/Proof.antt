@@ -5,15 +5,15 @@ use mathlib.Core.Path.{_≡_}
 use native.Mathlib.Omega.{arith}
 use Rattle.fold.proofs.Loops.{upto-call, upto-end}
 use Rattle.fold.specs.Fold.{upto}
-use Rattle.start.specs.Coef.{coef, imageBlock, imageData}
+use Rattle.start.specs.Coef.{coef, imageBlock, imageData, pairs}
 use Rattle.start.proofs.coef.image_data.Statement.{statement}
 use Rattle.start.proofs.coef.image_data.Tie as tie
 
 abbrev Inv-loop : tie.InvT-loop
-Inv-loop image₀ scratch₀ o levels table n i₀ image scratch i = (i ≤ n) × (length image ≡ length image₀) × (length scratch ≡ length scratch₀) × (image ≡ upto (imageBlock (coef o levels table)) i image₀)
+Inv-loop image₀ scratch₀ o lows highs table n i₀ image scratch i = (i ≤ n) × (length image ≡ length image₀) × (length scratch ≡ length scratch₀) × (image ≡ upto (imageBlock (coef o (pairs lows highs) table)) i image₀)
 
 abbrev μ-loop : tie.MeasureT-loop
-μ-loop image₀ scratch₀ o levels table n i₀ image scratch i = n - i
+μ-loop image₀ scratch₀ o lows highs table n i₀ image scratch i = n - i
 
 loop-holds : tie.Need-loop-holds Inv-loop μ-loop
 unfolding upto

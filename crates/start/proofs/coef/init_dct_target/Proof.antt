@@ -5,15 +5,15 @@ use mathlib.Core.Path.{_≡_}
 use native.Mathlib.Omega.{arith}
 use Rattle.fold.proofs.Loops.{upto-call, upto-end}
 use Rattle.fold.specs.Fold.{upto}
-use Rattle.start.specs.Coef.{dequantise, initDctTarget}
+use Rattle.start.specs.Coef.{dequantise, initDctTarget, midAt, pairs}
 use Rattle.start.proofs.coef.init_dct_target.Statement.{statement}
 use Rattle.start.proofs.coef.init_dct_target.Tie as tie
 
 abbrev Inv-loop : tie.InvT-loop
-Inv-loop out₀ levels table n i₀ out i = (i ≤ n) × (length out ≡ length out₀) × (out ≡ upto (dequantise levels table) i out₀)
+Inv-loop out₀ lows highs table n i₀ out i = (i ≤ n) × (length out ≡ length out₀) × (out ≡ upto (dequantise (midAt (pairs lows highs)) table) i out₀)
 
 abbrev μ-loop : tie.MeasureT-loop
-μ-loop out₀ levels table n i₀ out i = n - i
+μ-loop out₀ lows highs table n i₀ out i = n - i
 
 loop-holds : tie.Need-loop-holds Inv-loop μ-loop
 unfolding upto
