@@ -3,10 +3,11 @@ use mathlib.Core.Path.{_≡_, refl}
 use mathlib.Core.Bool.{true, false}
 use mathlib.Core.List.{List, [], _∷_, _++_}
 use Prim.Native.Nat.{ℕ}
-use lib.IntN.{pos}
+use lib.IntN.{ℤ, pos, negsuc}
 use lib.ListN.{replicate}
 use lib.Ieee.{Float, nan, fin}
 use Rattle.start.specs.declared.coef.Reorder.the-variants.{Each}
+use Rattle.start.specs.Coef.{pairs}
 use Rattle.projection.specs.Blown.{isBlown}
 use Rattle.calls.specs.Run.{Sheet, Place, Given, weight, ownOk, headerOk, sheetOk, placeOk, placesOk}
 use Rattle.calls.specs.Buffers.{make, channel, joined}
@@ -68,11 +69,11 @@ one-blown = refl
 pub one-ended : turn-refusal 3 1 (at 5 ∷ at 3 ∷ at 3 ∷ []) blend ≡ 11
 one-ended = refl
 
--- ---- 13, 8, 4, 5: start's, of one channel whose levels and quantisers are all alike
+-- ---- 13, 8, 4, 5, 14: start's, of one channel whose levels and quantisers are all alike
 
 abbrev start-refusal : Place → ℕ → ℕ → ℕ → ℕ
 start-refusal p level quantiser length =
-    startRefusal (record { sheet = sheet 1 1; levels = replicate 64 (pos level); tables = replicate 64 quantiser }) (p ∷ []) (replicate 6 length)
+    startRefusal (record { sheet = sheet 1 1; levels = pairs (replicate 64 (pos level)) (replicate 64 (pos level)); tables = replicate 64 quantiser }) (p ∷ []) (replicate 6 length)
 
 -- a mark at a position that is no multiple of 5, and buffers that are too short
 pub illegal : start-refusal (marked 4) 2048 0 63 ≡ 13
@@ -108,6 +109,26 @@ pub accepted : start-refusal (at 4) 2047 255 64 ≡ 0
 unfolding startRefusal sheetOk headerOk ownOk placesOk placeOk weight
 accepted = refl
 
+-- M-105, of one channel whose first levels are these pairs: "checked after 5 on the same pair and before the next pair"
+abbrev range-refusal : List ℤ → List ℤ → ℕ
+range-refusal lows highs =
+    startRefusal
+    (record { sheet = sheet 1 1; levels = pairs (lows ++ replicate 62 (pos 0)) (highs ++ replicate 62 (pos 0)); tables = replicate 64 1 }) (at 4 ∷ [])
+    (replicate 6 64)
+
+-- (2, 1) before (2048, 2048); (2048, 0) before (2, 1); (5, −2048); and (−3, 3), (3, 3)
+pub ranges : (range-refusal (pos 2 ∷ pos 2048 ∷ []) (pos 1 ∷ pos 2048 ∷ []) ≡ 14)
+    × (range-refusal (pos 2048 ∷ pos 2 ∷ []) (pos 0 ∷ pos 1 ∷ []) ≡ 5)
+    × (range-refusal (pos 5 ∷ pos 0 ∷ []) (negsuc 2047 ∷ pos 0 ∷ []) ≡ 5)
+    × (range-refusal (negsuc 2 ∷ pos 3 ∷ []) (pos 3 ∷ pos 3 ∷ []) ≡ 0)
+unfolding startRefusal sheetOk headerOk ownOk placesOk placeOk weight
+ranges = (refl, refl, refl, refl)
+
+-- 8 looks at the lows and at the highs
+pub one-short : (range-refusal (pos 0 ∷ []) (pos 0 ∷ pos 0 ∷ []) ≡ 8) × (range-refusal (pos 0 ∷ pos 0 ∷ []) (pos 0 ∷ []) ≡ 8)
+unfolding startRefusal sheetOk headerOk ownOk placesOk placeOk weight
+one-short = (refl, refl)
+
 -- ---- the plain run of a channel whose plane holds one value, and stays as it was; every project clips 7 coefficients
 
 abbrev still : Float → Jobs
@@ -121,7 +142,7 @@ still v =
     }
 
 abbrev two-steps : Given
-two-steps = record { sheet = sheet 1 2; levels = []; tables = [] }
+two-steps = record { sheet = sheet 1 2; levels = pairs [] []; tables = [] }
 
 abbrev step : List Call
 step = on push 0 ∷ on fidelity 0 ∷ blend ∷ on move 0 ∷ on project 0 ∷ on push 0 ∷ []

@@ -1,24 +1,27 @@
 -- What the tests of a call tell: of each channel, and of refusals that were not given.
 use mathlib.Core.Path.{_≡_, refl, sym, ap, _∙_, subst}
 use mathlib.Core.Logic.{_≢_, _⊎_, inl, inr}
-use Prim.Native.Nat.{ℕ, zero, suc, _+_, _-_, _*_, _<_}
+use Prim.Native.Nat.{ℕ, zero, suc, _+_, _-_, _*_, _≤_, _<_}
 use native.Mathlib.Nat.{le-of-suc-le-suc, not-suc-le-zero, eq-or-lt-of-le}
 use native.Mathlib.Omega.{arith}
 use native.Mathlib.Numerals.{add-one}
 use native.Mathlib.Decide.{ℕ-discrete}
 use mathlib.Core.Bool.{Bool, true, false, not, _&&_, _||_, cond}
 use mathlib.Core.List.{List, [], _∷_, _++_, map}
-use lib.Dec.{T, eqb, eqb→eq}
-use lib.IntN.{ℤ}
+use lib.Dec.{T, eqb, eqb→eq, leb→le, ltb}
+use borrow.Author.Tests.{ltb-false, ltb-true}
+use lib.IntN.{ℤ, pos, natAbs}
+use lib.Signed.{_≤ℤ_, leZ, leZ-yes}
 use lib.Ieee.Fits.{and-l, and-r, and-i, eq→eqb}
 use lib.ListN.{length, getD, take, drop}
-use lib.Seq.{drop-cons}
+use lib.Seq.{drop-cons, getD-take, getD-drop}
 use Rattle.fold.specs.Part.{part}
-use Rattle.calls.specs.Run.{Place, Given, every, among, legal, count, levelsBefore}
+use Rattle.calls.specs.Run.{Place, Given, every, among, legal, count, levelsBefore, levelsPart}
 use Rattle.start.specs.Buffers.{Buffers}
+use Rattle.start.specs.Coef.{Levels, Long, levelAt, lowAt, highAt, pairs}
 use Rattle.calls.specs.Buffers.{Name, Plane, Prior, Gradient, Across, Down, Saved, get, Sized}
 use Rattle.calls.specs.Jobs.{Call}
-use Rattle.calls.specs.Calls.{Tests, first, test, all, allSix, lengths, levelOk, levelFault, levelsFault, tableOk, buffersLong, valuesLong, turnTests, lendTests, lentLevels, refusal}
+use Rattle.calls.specs.Calls.{Tests, first, test, all, allSix, lengths, levelOk, pairFault, pairFaults, levelsFault, levelsLong, tableOk, buffersLong, valuesLong, turnTests, lendTests, lentLevels, refusal}
 pub use Rattle.answers.proofs.Tests.{Passed, passed-of, first-one}
 
 pub never : {X : Type 0} (b : Bool) → b ≡ false → b ≡ true → X
@@ -147,34 +150,87 @@ stops [] us n = absurd (n refl)
 stops (zero ∷ ts) us n = stops ts us n
 stops (suc t ∷ ts) us n = refl
 
--- ---- a list looked at value by value, from place k on: one that has a fault, and one that has none
+-- ---- tests looked at one by one, from place k on: one that gives a number, and one that gives none
 
-module _ {A : Type 0} (f : A → ℕ) (d : A) (xs : List A) (k : ℕ) (h : k < length xs) where
-  from-here : first (map f (drop k xs)) ≡ first (f (getD xs k d) ∷ map f (drop (suc k) xs))
-  from-here = ap (λ (ys : List A). first (map f ys)) (drop-cons xs k d h)
+module _ (ts : Tests) (k : ℕ) (h : k < length ts) where
+  from-here : first (drop k ts) ≡ first (getD ts k 0 ∷ drop (suc k) ts)
+  from-here = ap first (drop-cons ts k 0 h)
 
-  pub fault-here : f (getD xs k d) ≢ 0 → first (map f (drop k xs)) ≡ f (getD xs k d)
-  fault-here n = from-here ∙ go (f (getD xs k d)) n
+  pub fault-here : getD ts k 0 ≢ 0 → first (drop k ts) ≡ getD ts k 0
+  fault-here n = from-here ∙ go (getD ts k 0) n
     where
-      go : (t : ℕ) → t ≢ 0 → first (t ∷ map f (drop (suc k) xs)) ≡ t
+      go : (t : ℕ) → t ≢ 0 → first (t ∷ drop (suc k) ts) ≡ t
       go zero n = absurd (n refl)
       go (suc t) n = refl
 
   -- at the code's `k + 1`
-  pub none-here : f (getD xs k d) ≡ 0 → first (map f (drop k xs)) ≡ first (map f (drop (k + 1) xs))
-  none-here e = from-here ∙ ap (λ (n : ℕ). first (n ∷ map f (drop (suc k) xs))) e ∙ ap (λ (n : ℕ). first (map f (drop n xs))) (sym (add-one k))
+  pub none-here : getD ts k 0 ≡ 0 → first (drop k ts) ≡ first (drop (k + 1) ts)
+  none-here e = from-here ∙ ap (λ (n : ℕ). first (n ∷ drop (suc k) ts)) e ∙ ap (λ (n : ℕ). first (drop n ts)) (sym (add-one k))
 
-levels-fine : (ds : List ℤ) → levelsFault ds ≡ 0 → T (all levelOk ds)
-levels-fine [] e = tt
-levels-fine (d ∷ ds) e =
-    let h = passed-of (map levelFault (d ∷ ds)) e in
-    and-i (levelOk d) (all levelOk ds) (holds 4 (levelOk d) (h .0)) (levels-fine ds (sym (skip (levelFault d ∷ []) (map levelFault ds) (h .0, tt)) ∙ e))
+none-anywhere : (ts : Tests) → first ts ≡ 0 → (k : ℕ) → getD ts k 0 ≡ 0
+none-anywhere [] e k = refl
+none-anywhere (zero ∷ ts) e zero = refl
+none-anywhere (zero ∷ ts) e (suc k) = none-anywhere ts e k
+none-anywhere (suc n ∷ ts) e k = absurd (omega arith)
 
-levels-faultless : (ds : List ℤ) → T (all levelOk ds) → levelsFault ds ≡ 0
-levels-faultless [] t = refl
-levels-faultless (d ∷ ds) t =
-    skip (levelFault d ∷ []) (map levelFault ds) (test-of 5 (levelOk d) (and-l (levelOk d) (all levelOk ds) t), tt)
-    ∙ levels-faultless ds (and-r (levelOk d) (all levelOk ds) t)
+-- ---- 5 and 14, pair by pair
+
+pub pair-at : (ls hs : List ℤ) → length ls ≡ length hs → (k : ℕ) → getD (pairFaults ls hs) k 0 ≡ pairFault (levelAt ls k) (levelAt hs k)
+pair-at [] [] e k = refl
+pair-at [] (h ∷ hs) e k = absurd (omega arith)
+pair-at (l ∷ ls) [] e k = absurd (omega arith)
+pair-at (l ∷ ls) (h ∷ hs) e zero = refl
+pair-at (l ∷ ls) (h ∷ hs) e (suc k) = pair-at ls hs (omega arith) k
+
+pub pairs-many : (ls hs : List ℤ) → length ls ≡ length hs → length (pairFaults ls hs) ≡ length ls
+pairs-many [] [] e = refl
+pairs-many [] (h ∷ hs) e = absurd (omega arith)
+pairs-many (l ∷ ls) [] e = absurd (omega arith)
+pairs-many (l ∷ ls) (h ∷ hs) e = ap suc (pairs-many ls hs (omega arith))
+
+-- no pair has a fault
+abbrev pub Faultless : Levels → Type 0
+Faultless levels = (k : ℕ) → pairFault (lowAt levels k) (highAt levels k) ≡ 0
+
+pub faultless-of : (levels : Levels) (n : ℕ) → Long levels n → levelsFault levels ≡ 0 → Faultless levels
+faultless-of levels n l e k =
+    sym (pair-at (levels .lows) (levels .highs) (l .0 ∙ sym (l .1)) k) ∙ none-anywhere (pairFaults (levels .lows) (levels .highs)) e k
+
+pub of-faultless : (ls hs : List ℤ) → Faultless (pairs ls hs) → levelsFault (pairs ls hs) ≡ 0
+of-faultless [] hs h = refl
+of-faultless (l ∷ ls) [] h = refl
+of-faultless (l ∷ ls) (x ∷ hs) h = ap (λ (n : ℕ). first (n ∷ pairFaults ls hs)) (h 0) ∙ of-faultless ls hs (λ k. h (suc k))
+
+-- what a pair without a fault is
+pub pair-ok : (low high : ℤ) → pairFault low high ≡ 0 → (natAbs low ≤ 2047) × (natAbs high ≤ 2047) × (low ≤ℤ high)
+pair-ok low high e =
+    let p = passed-of (test 5 (not (levelOk low && levelOk high)) ∷ test 14 (not (leZ low high)) ∷ []) e in
+    let both : T (levelOk low && levelOk high) = holds 4 (levelOk low && levelOk high) (p .0) in (
+      leb→le (natAbs low) 2047 (and-l (levelOk low) (levelOk high) both),
+      leb→le (natAbs high) 2047 (and-r (levelOk low) (levelOk high) both),
+      leZ-yes (holds 13 (leZ low high) (p .1 .0)),
+    )
+
+-- a part of the levels: past its end it reads 0 in both
+pub part-level : (ls : List ℤ) (a e k : ℕ) → k < e - a → levelAt (part ls a e) k ≡ levelAt ls (a + k)
+part-level ls a e k h = getD-take (e - a) (drop a ls) k (pos 0) h ∙ getD-drop a ls k (pos 0)
+
+level-past : (n : ℕ) (ls : List ℤ) (k : ℕ) → n ≤ k → levelAt (take n ls) k ≡ pos 0
+level-past zero ls k h = refl
+level-past (suc n) [] k h = refl
+level-past (suc n) (l ∷ ls) zero h = absurd (omega arith)
+level-past (suc n) (l ∷ ls) (suc k) h = level-past n ls k (omega arith)
+
+pub part-faultless : (levels : Levels) → Faultless levels → (a e : ℕ) → Faultless (levelsPart levels a e)
+part-faultless levels f a e k = go (ltb k (e - a)) refl
+  where
+    go : (b : Bool) → ltb k (e - a) ≡ b → pairFault (levelAt (part (levels .lows) a e) k) (levelAt (part (levels .highs) a e) k) ≡ 0
+    go true t =
+        let h = ltb-true k (e - a) t in
+        rw (part-level (levels .lows) a e k h, part-level (levels .highs) a e k h) (f (a + k))
+    go false t =
+        let h = ltb-false k (e - a) t in
+        rw (level-past (e - a) (drop a (levels .lows)) k h, level-past (e - a) (drop a (levels .highs)) k h) refl
 
 -- ---- 8: the lengths of the buffers that are lent
 
@@ -190,19 +246,28 @@ sized-of m B t Across = eqb→eq (length (B .across)) m (search (and-l, and-r) d
 sized-of m B t Down = eqb→eq (length (B .down)) m (search (and-l, and-r) depth 12)
 sized-of m B t Saved = eqb→eq (length (B .saved)) m (search (and-l, and-r) depth 12)
 
--- ---- what a call that passed 13, 8, 4 and 5 was lent
+-- ---- what a call that passed 13, 8, 4, 5 and 14 was lent
 
 pub record Lent (G : Given) (ps : List Place) (ls : List ℕ) (levels : Bool) : Type 0 where
   pub is-legal : T (legal (G .sheet) ps)
   pub long : T (buffersLong G ls)
-  pub levels-long : levels ≡ true → length (G .levels) ≡ levelsBefore (G .sheet) (count G)
+  pub levels-long : levels ≡ true → Long (G .levels) (levelsBefore (G .sheet) (count G))
   pub tables-long : levels ≡ true → length (G .tables) ≡ count G * 64
   pub tables-ok : levels ≡ true → T (all tableOk (G .tables))
-  pub levels-ok : levels ≡ true → T (all levelOk (G .levels))
+  pub levels-ok : levels ≡ true → levelsFault (G .levels) ≡ 0
 
 module _ (G : Given) (ps : List Place) (ls : List ℕ) where
+  abbrev wanted : ℕ
+  wanted = levelsBefore (G .sheet) (count G)
+
+  abbrev lows-are : Bool
+  lows-are = eqb (length (G .levels .lows)) wanted
+
+  abbrev highs-are : Bool
+  highs-are = eqb (length (G .levels .highs)) wanted
+
   abbrev levels-are : Bool
-  levels-are = eqb (length (G .levels)) (levelsBefore (G .sheet) (count G))
+  levels-are = levelsLong (G .levels) wanted
 
   abbrev tables-are : Bool
   tables-are = eqb (length (G .tables)) (count G * 64)
@@ -215,10 +280,12 @@ module _ (G : Given) (ps : List Place) (ls : List ℕ) where
       record {
         is-legal = holds 12 (legal (G .sheet) ps) (p .0);
         long = and-l (buffersLong G ls) (not levels || valuesLong G) both;
-        levels-long = λ e. eqb→eq _ _ (and-l levels-are tables-are (values e));
+        levels-long = λ e.
+            let both = and-l levels-are tables-are (values e) in
+            (eqb→eq _ _ (and-l lows-are highs-are both), eqb→eq _ _ (and-r lows-are highs-are both));
         tables-long = λ e. eqb→eq _ _ (and-r levels-are tables-are (values e));
         tables-ok = λ e. holds 3 (all tableOk (G .tables)) (ap (λ (b : Bool). test 4 (b && not (all tableOk (G .tables)))) (sym e) ∙ p .1 .1 .0);
-        levels-ok = λ e. levels-fine (G .levels) (ap (λ (b : Bool). cond b (levelsFault (G .levels)) 0) (sym e) ∙ p .1 .1 .1 .0);
+        levels-ok = λ e. ap (λ (b : Bool). cond b (levelsFault (G .levels)) 0) (sym e) ∙ p .1 .1 .1 .0;
       }
 
   pub of-lent : (levels : Bool) → Lent G ps ls levels → Passed (lendTests G ps ls levels)
@@ -227,7 +294,7 @@ module _ (G : Given) (ps : List Place) (ls : List ℕ) where
     (
       test-of 8 (buffersLong G ls && (not levels || valuesLong G))
           (and-i (buffersLong G ls) (not levels || valuesLong G) (h .long)
-          (or-i levels (valuesLong G) (λ e. and-i levels-are tables-are (eq→eqb (h .levels-long e)) (eq→eqb (h .tables-long e))))),
+          (or-i levels (valuesLong G) (λ e. and-i levels-are tables-are (and-i lows-are highs-are (eq→eqb (h .levels-long e .0)) (eq→eqb (h .levels-long e .1))) (eq→eqb (h .tables-long e))))),
       (tables levels (h .tables-ok), (values levels (h .levels-ok), tt)),
     ),
   )
@@ -236,8 +303,8 @@ module _ (G : Given) (ps : List Place) (ls : List ℕ) where
       tables true t = test-of 4 (all tableOk (G .tables)) (t refl)
       tables false t = refl
 
-      values : (b : Bool) → (b ≡ true → T (all levelOk (G .levels))) → cond b (levelsFault (G .levels)) 0 ≡ 0
-      values true t = levels-faultless (G .levels) (t refl)
+      values : (b : Bool) → (b ≡ true → levelsFault (G .levels) ≡ 0) → cond b (levelsFault (G .levels)) 0 ≡ 0
+      values true t = t refl
       values false t = refl
 
 -- ---- a call's refusal: by what is lent, and then by turn

@@ -7,18 +7,19 @@ use lib.ListN.{length}
 use lib.Dec.{T}
 use Rattle.calls.specs.Run.{Numbers, Sheet, Place, Given, own, place, count, area, coefs, levelsBefore, blendsIn, sheetOk}
 use Rattle.start.specs.Buffers.{Buffers}
+use Rattle.start.specs.Coef.{Long}
 use Rattle.calls.specs.Buffers.{channel, Sized}
 use Rattle.calls.specs.Jobs.{Jobs, fixed, kept, channelBlown}
-use Rattle.calls.specs.Calls.{State, all, levelOk, tableOk}
+use Rattle.calls.specs.Calls.{State, all, levelsFault, tableOk}
 use Rattle.calls.specs.Demand.{SavedIn}
 
 -- what start has seen of its input: a legal sheet, lengths, quantisers and levels
 pub record GivenOk (G : Given) : Type 0 where
   pub sheet-ok : T (sheetOk (G .sheet))
-  pub levels-long : length (G .levels) ≡ levelsBefore (G .sheet) (count G)
+  pub levels-long : Long (G .levels) (levelsBefore (G .sheet) (count G))
   pub tables-long : length (G .tables) ≡ count G * 64
   pub tables-ok : T (all tableOk (G .tables))
-  pub levels-ok : T (all levelOk (G .levels))
+  pub levels-ok : levelsFault (G .levels) ≡ 0
 
 -- legal places, as facts
 pub record PlaceIs (S : Sheet) (o : Numbers) (p : Place) : Type 0 where

@@ -5,9 +5,11 @@ use mathlib.Core.List.{List, [], _∷_, _++_, map}
 use lib.ListN.{length, set, replicate}
 use lib.Dec.{ltb, eqb}
 use lib.IntN.{ℤ}
+use lib.Signed.{leZ}
 use lib.Ieee.{Float}
 use Rattle.calls.specs.Run.{Sheet, Place, Given, fresh, place, count, area, levelsBefore, every, among, legal}
 use Rattle.start.specs.Buffers.{Buffers}
+use Rattle.start.specs.Coef.{Levels}
 use Rattle.calls.specs.Buffers.{Name, Plane, Prior, Gradient, Across, Down, Saved, get, channel, putChannel, joined}
 use Rattle.calls.specs.Jobs.{Job, push, fidelity, move, project, Call, on, blend, turn, blendTurn, Jobs, Seen, seen, seenAt, totalsAt}
 pub use Rattle.answers.specs.Tests.{Tests, first, test, all, tableOk, levelOk}
@@ -67,21 +69,30 @@ lentLevels blend = false
 abbrev pub lengths : List Name → Buffers → List ℕ
 lengths names B = map (λ b. length (get b B)) names
 
-abbrev pub levelFault : ℤ → ℕ
-levelFault d = test 5 (not (levelOk d))
+-- M-105: 14 "range", low above high, "checked after 5 on the same pair and before the next pair"
+abbrev pub pairFault : ℤ → ℤ → ℕ
+pairFault low high = first (test 5 (not (levelOk low && levelOk high)) ∷ test 14 (not (leZ low high)) ∷ [])
 
--- level by level
-abbrev pub levelsFault : List ℤ → ℕ
-levelsFault ds = first (map levelFault ds)
+-- pair by pair
+abbrev pub pairFaults : List ℤ → List ℤ → Tests
+pairFaults [] highs = []
+pairFaults (low ∷ lows) [] = []
+pairFaults (low ∷ lows) (high ∷ highs) = pairFault low high ∷ pairFaults lows highs
 
--- "Each lent buffer has (channels of the run) × W × H values", levels w × h and tables 64 a channel
+abbrev pub levelsFault : Levels → ℕ
+levelsFault levels = first (pairFaults (levels .lows) (levels .highs))
+
+-- "Each lent buffer has (channels of the run) × W × H values", lows and highs w × h and tables 64 a channel
 abbrev pub buffersLong : Given → List ℕ → Bool
 buffersLong G ls = all (λ n. eqb n (count G * area G)) ls
 
-abbrev pub valuesLong : Given → Bool
-valuesLong G = eqb (length (G .levels)) (levelsBefore (G .sheet) (count G)) && eqb (length (G .tables)) (count G * 64)
+abbrev pub levelsLong : Levels → ℕ → Bool
+levelsLong levels n = eqb (length (levels .lows)) n && eqb (length (levels .highs)) n
 
--- 13, 8, 4, 5: by the record and what is lent, the buffers' lengths being ls; 4 and 5 "look at all of them"
+abbrev pub valuesLong : Given → Bool
+valuesLong G = levelsLong (G .levels) (levelsBefore (G .sheet) (count G)) && eqb (length (G .tables)) (count G * 64)
+
+-- 13, 8, 4, then pair by pair 5 and 14: by the record and what is lent, the buffers' lengths being ls; 4, 5 and 14 "look at all of them"
 abbrev pub lendTests : Given → List Place → List ℕ → Bool → Tests
 lendTests G ps ls levels =
     test 13 (not (legal (G .sheet) ps))
@@ -90,7 +101,7 @@ lendTests G ps ls levels =
     ∷ cond levels (levelsFault (G .levels)) 0
     ∷ []
 
--- "Calls check 13, 8, 4, 5, 12, 10, 11, 9, each where it applies": the refusal's number, 0 for none
+-- "Calls check 13, 8, 4, 5, 12, 10, 11, 9, each where it applies", and 14 with 5, "before 12": the refusal's number, 0 for none
 unfoldable pub refusal : Given → List Place → Call → List ℕ → ℕ
 refusal G ps x ls = first (lendTests G ps ls (lentLevels x) ++ turnTests (G .sheet) ps x)
 

@@ -5,7 +5,7 @@ use mathlib.Core.Bool.{false}
 use mathlib.Core.List.{List}
 use lib.ListN.{getD}
 use lib.Ieee.{nan}
-use Rattle.calls.specs.Run.{Place, Given, place, count, area, coefs, level, quantiser}
+use Rattle.calls.specs.Run.{Place, Given, place, count, area, coefs, low, high, quantiser}
 use Rattle.start.specs.Buffers.{Buffers}
 use Rattle.calls.specs.Buffers.{channel, joined}
 use Rattle.calls.specs.Jobs.{Call, Jobs, fixed, kept}
@@ -14,7 +14,7 @@ use Rattle.calls.specs.Calls.{Answer, done, State, start, answers, final
 
 -- channel c's saved coefficient k is in its interval
 abbrev pub SavedIn : Given → ℕ → ℕ → Buffers → Type 0
-SavedIn G c k b = InInterval (level G c k) (level G c k) (quantiser G c k) (getD (b .saved) k nan)
+SavedIn G c k b = InInterval (low G c k) (high G c k) (quantiser G c k) (getD (b .saved) k nan)
 
 -- The claim, of a list xs of calls made one after the other on a fresh run: `said` are the answers given, t is the state left,
 -- and ps are the plain run's counts, marks and kept numbers after the same calls.

@@ -5,9 +5,11 @@ use mathlib.Core.Bool.{Bool, true, false, not, _&&_, _||_}
 use mathlib.Core.List.{List}
 use lib.ListN.{length, getD}
 use lib.Dec.{leb, ltb, eqb}
-use lib.IntN.{ℤ, pos}
+use lib.IntN.{ℤ}
 use lib.Ieee.{Float, nan, inf, fin}
+use Rattle.fold.specs.Part.{part}
 use Rattle.start.specs.declared.coef.Reorder.{Reorder}
+use Rattle.start.specs.Coef.{Levels, lowAt, highAt, pairs}
 
 -- a channel's own numbers: its sides, its factors and its data weight
 pub record Numbers : Type 0 where
@@ -37,7 +39,7 @@ pub record Place : Type 0 where
 -- what start is fed beside the places: the sheet, the levels and the tables
 pub record Given : Type 0 where
   pub sheet : Sheet
-  pub levels : List ℤ
+  pub levels : Levels
   pub tables : List ℕ
 
 -- ---- channel c's own numbers and its place
@@ -55,10 +57,14 @@ place ps c = getD ps c fresh
 abbrev pub coefs : Sheet → ℕ → ℕ
 coefs S c = own S c .width * own S c .height
 
--- "levels (w × h a channel) and tables (64 quantisers a channel)": the levels of the channels before c come first
+-- "levels (w × h a channel) and tables (64 quantisers a channel)": the levels of the channels before c come first, in the lows as in the highs
 abbrev pub levelsBefore : Sheet → ℕ → ℕ
 levelsBefore S zero = 0
 levelsBefore S (suc c) = levelsBefore S c + coefs S c
+
+-- the levels of the places from a on, up to e
+abbrev pub levelsPart : Levels → ℕ → ℕ → Levels
+levelsPart levels a e = pairs (part (levels .lows) a e) (part (levels .highs) a e)
 
 -- number of channels; W × H values of a plane
 abbrev pub count : Given → ℕ
@@ -67,9 +73,12 @@ count G = G .sheet .count
 abbrev pub area : Given → ℕ
 area G = G .sheet .W * G .sheet .H
 
--- level and quantiser of channel c's coefficient k
-abbrev pub level : Given → ℕ → ℕ → ℤ
-level G c k = getD (G .levels) (levelsBefore (G .sheet) c + k) (pos 0)
+-- lowest and highest level and quantiser of channel c's coefficient k
+abbrev pub low : Given → ℕ → ℕ → ℤ
+low G c k = lowAt (G .levels) (levelsBefore (G .sheet) c + k)
+
+abbrev pub high : Given → ℕ → ℕ → ℤ
+high G c k = highAt (G .levels) (levelsBefore (G .sheet) c + k)
 
 abbrev pub quantiser : Given → ℕ → ℕ → ℕ
 quantiser G c k = getD (G .tables) (c * 64 + k % 64) 0

@@ -5,33 +5,36 @@ use lib.Dec.{T, leb, leb→le}
 use lib.Ieee.Fits.{and-l, and-r}
 use Prim.Native.Nat.{ℕ, zero, suc, _+_, _-_, _*_, _%_, _<_, _≤_}
 use native.Mathlib.Omega.{arith}
-use lib.IntN.{ℤ, pos, natAbs}
+use lib.IntN.{natAbs}
+use lib.Signed.{_≤ℤ_}
 use lib.ListN.{getD, drop}
 use lib.Seq.{getD-take, getD-drop}
 use Rattle.fold.specs.Part.{part}
 use Rattle.start.specs.Buffers.{Buffers}
-use Rattle.start.specs.Coef.{Covers, levelAt, quantAt, pxCount}
+use Rattle.start.specs.Coef.{Covers, lowAt, highAt, quantAt, pxCount}
 use Rattle.work.specs.Work as Solver
 use Rattle.work.specs.Work.{starting, blending, projecting}
 use Rattle.work.proofs.Laws as Solver-laws
-use Rattle.calls.specs.Run.{Sheet, Given, own, count, area, coefs, level, quantiser, levelsBefore}
+use Rattle.calls.specs.Run.{Sheet, Given, own, count, area, coefs, low, high, quantiser, levelsBefore}
 use Rattle.calls.specs.Buffers.{channel, Sized}
 use Rattle.calls.specs.Jobs.{Job, push, fidelity, move, project}
-use Rattle.calls.specs.Calls.{all, levelOk, tableOk}
+use Rattle.calls.specs.Calls.{all, tableOk}
 use Rattle.calls.specs.Demand.{SavedIn}
 use Rattle.calls.specs.Between.{GivenOk, AllIn}
 use Rattle.calls.specs.Laws.{Laws}
 use Rattle.calls.proofs.Facts.{SheetIs, sheet-is}
-use Rattle.calls.proofs.Tests.{all-part, all-anywhere}
+use Rattle.calls.proofs.Tests.{all-part, faultless-of, pair-ok, part-faultless, part-level}
 use Rattle.demand.specs.Solver.{coefOf, constantsOf, work, jobs}
 
 -- ---- channel c's coefficients are the run's
 
-coef-level : (G : Given) (c k : ℕ) → k < coefs (G .sheet) c → levelAt (coefOf G c .levels) k ≡ level G c k
+coef-level : (G : Given) (c k : ℕ) → k < coefs (G .sheet) c
+    → (lowAt (coefOf G c .levels) k ≡ low G c k) × (highAt (coefOf G c .levels) k ≡ high G c k)
 unfolding coefOf
 coef-level G c k h =
     let at : ℕ = levelsBefore (G .sheet) c in
-    getD-take (at + coefs (G .sheet) c - at) (drop at (G .levels)) k (pos 0) (omega arith) ∙ getD-drop at (G .levels) k (pos 0)
+    let e : ℕ = at + coefs (G .sheet) c in
+    (part-level (G .levels .lows) at e k (omega arith), part-level (G .levels .highs) at e k (omega arith))
 
 coef-quant : (G : Given) (c k : ℕ) → quantAt (coefOf G c .table) (k % 64) ≡ quantiser G c k
 unfolding coefOf
@@ -70,19 +73,29 @@ module _ (G : Given) (ok : GivenOk G) (c : ℕ) (h : c < count G) where
   unfolding coefOf
   covers = covers-of (G .sheet) (sheet-is (G .sheet) (ok .sheet-ok)) c h
 
+  pair-fine : (k : ℕ)
+      → (natAbs (lowAt (coefOf G c .levels) k) ≤ 2047) × (natAbs (highAt (coefOf G c .levels) k) ≤ 2047)
+      × (lowAt (coefOf G c .levels) k ≤ℤ highAt (coefOf G c .levels) k)
+  unfolding coefOf
+  pair-fine k =
+      let at : ℕ = levelsBefore (G .sheet) c in
+      pair-ok (lowAt (coefOf G c .levels) k) (highAt (coefOf G c .levels) k)
+      (part-faultless (G .levels) (faultless-of (G .levels) (levelsBefore (G .sheet) (count G)) (ok .levels-long) (ok .levels-ok)) at (at + coefs (G .sheet) c) k)
+
   legal : Solver.Legal (coefOf G c)
   unfolding coefOf
   legal =
-      let at : ℕ = levelsBefore (G .sheet) c in
-      let ls : List ℤ = part (G .levels) at (at + coefs (G .sheet) c) in
       record {
-        levels-ok = λ k. leb→le (natAbs (levelAt ls k)) 2047 (all-anywhere levelOk ls (pos 0) (all-part levelOk (G .levels) at (at + coefs (G .sheet) c) (ok .levels-ok)) tt k);
+        lows-ok = λ k. pair-fine k .0;
+        highs-ok = λ k. pair-fine k .1;
+        order = λ k. pair-fine k .2;
+        middle-is = λ k. refl;
         table-ok = λ j. table-small (part (G .tables) (c * 64) (c * 64 + 64)) (all-part tableOk (G .tables) (c * 64) (c * 64 + 64) (ok .tables-ok)) j;
       }
 
   -- a saved coefficient is in the run's interval where it is in the channel's
   saved-in : (b : Buffers) (k : ℕ) → k < coefs (G .sheet) c → Solver.CoefIn (coefOf G c) k b → SavedIn G c k b
-  saved-in b k l i = rw (coef-level G c k l, coef-quant G c k) at i
+  saved-in b k l i = rw (coef-level G c k l .0, coef-level G c k l .1, coef-quant G c k) at i
 
 -- ---- lengths
 

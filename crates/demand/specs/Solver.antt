@@ -6,7 +6,7 @@ use Rattle.steps.specs.Solve.{constants}
 use Rattle.start.specs.Buffers.{Buffers}
 use Rattle.start.specs.Coef.{Coef, coef}
 use Rattle.work.specs.Work.{starting, pushing, dataJob, blending, blendTotals, moving, projecting, clipping}
-use Rattle.calls.specs.Run.{Sheet, Given, own, count, coefs, levelsBefore}
+use Rattle.calls.specs.Run.{Sheet, Given, own, count, coefs, levelsBefore, levelsPart}
 use Rattle.calls.specs.Jobs.{Job, push, fidelity, move, project, Jobs}
 
 -- channel c's coefficients: its own sides and factors, and its part of the levels and the tables
@@ -15,7 +15,7 @@ coefOf G c =
     let o = own (G .sheet) c in
     let at = levelsBefore (G .sheet) c in
     coef (record { width = o .width; height = o .height; horizontal = o .across; vertical = o .down })
-    (part (G .levels) at (at + coefs (G .sheet) c))
+    (levelsPart (G .levels) at (at + coefs (G .sheet) c))
     (part (G .tables) (c * 64) (c * 64 + 64))
 
 -- "all four follow from the sheet and the step's number", steps counted from 0

@@ -11,7 +11,7 @@ use Rattle.float.specs.Names.{f0, f1, float}
 use Rattle.interval.specs.Interval.{InInterval, lowEnd, highEnd, lowest, highest}
 use Rattle.utils.specs.Dct.{idct8x8}
 use Rattle.start.specs.declared.coef.Reorder.the-variants.{Each, Once}
-use Rattle.start.specs.Coef.{Coef, coef}
+use Rattle.start.specs.Coef.{Coef, coef, pairs}
 use Rattle.start.specs.Auxiliary.{auxInit}
 use Rattle.steps.specs.Solve.{pushed}
 use Rattle.gradients.specs.Tv.{Terms, tvGradient}
@@ -41,7 +41,7 @@ slope = tvGradient 8 8 1 (rows (λ y. float (y * 2))) (record { gradient = repli
 
 -- 16 by 8, level 1 and quantiser 8 at the first place of block 0, block 1 zero; a row of the plane with v = 1 − 2⁻²⁴ in its left half, and a row of zeros
 abbrev pub wide : Coef
-wide = coef (record { width = 16; height = 8; horizontal = 1; vertical = 1 }) (pos 1 ∷ replicate 127 (pos 0)) (replicate 64 8)
+wide = coef (record { width = 16; height = 8; horizontal = 1; vertical = 1 }) (pairs (pos 1 ∷ replicate 127 (pos 0)) (pos 1 ∷ replicate 127 (pos 0))) (replicate 64 8)
 
 abbrev pub lit : List Float
 lit = replicate 8 (fin false 16777215 (negsuc 23)) ++ replicate 8 f0

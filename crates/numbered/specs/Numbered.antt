@@ -2,7 +2,7 @@
 use Prim.Native.Nat.{ℕ, zero, suc}
 use mathlib.Core.Path.{_≡_}
 use mathlib.Core.List.{List}
-use lib.IntN.{ℤ}
+use Rattle.start.specs.Coef.{Levels}
 use Rattle.start.specs.Buffers.{Buffers}
 use Rattle.calls.specs.Jobs.{push, fidelity, move, project, Call, on, blend}
 use Rattle.record.specs.declared.Run.{Run}
@@ -18,5 +18,5 @@ numbered (suc (suc (suc zero))) c = on move c
 numbered (suc (suc (suc (suc k)))) c = on project c
 
 -- what the call of these two numbers gives
-abbrev pub NumberedIs : Run → ℕ → ℕ → List ℤ → List ℕ → Buffers → Answer → Run → Buffers → Type 0
+abbrev pub NumberedIs : Run → ℕ → ℕ → Levels → List ℕ → Buffers → Answer → Run → Buffers → Type 0
 NumberedIs r job c levels tables B a r′ B′ = callOf r (numbered job c) levels tables B ≡ gave a r′ B′

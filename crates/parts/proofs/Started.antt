@@ -11,7 +11,7 @@ use Rattle.fold.specs.Fold.{upto}
 use Rattle.fold.specs.Part.{part, splice}
 use Rattle.start.specs.Buffers.{Buffers}
 use Rattle.start.specs.declared.coef.Own as Sides
-use Rattle.start.specs.Coef.{coef}
+use Rattle.start.specs.Coef.{Levels, coef, pairs}
 use Rattle.start.specs.Auxiliary.{auxInit}
 use Rattle.work.proofs.Laws.{starting-sized}
 use Rattle.calls.specs.Run.{Given, count, area, coefs, levelsBefore}
@@ -25,12 +25,13 @@ use Rattle.parts.proofs.Covered.{sides}
 
 -- ---- one channel's part: as the code puts it together
 
-module _ (r : Run) (c : ℕ) (levels : List ℤ) (tables : List ℕ) (B : Buffers) where
+module _ (r : Run) (c : ℕ) (levels : Levels) (tables : List ℕ) (B : Buffers) where
   pub part-started : {from to : ℕ} → from ≡ c * (r .w * r .h) → to ≡ c * (r .w * r .h) + r .w * r .h
       → {o : Sides.Own} → o ≡ sides r c
-      → {ls : List ℤ} → ls ≡ part levels (levelsBefore (sheetOf r) c) (levelsBefore (sheetOf r) c + coefs (sheetOf r) c)
+      → {ls : List ℤ} → ls ≡ part (levels .lows) (levelsBefore (sheetOf r) c) (levelsBefore (sheetOf r) c + coefs (sheetOf r) c)
+      → {hs : List ℤ} → hs ≡ part (levels .highs) (levelsBefore (sheetOf r) c) (levelsBefore (sheetOf r) c + coefs (sheetOf r) c)
       → {ts : List ℕ} → ts ≡ part tables (c * 64) (c * 64 + 64)
-      → {x : Buffers} → x ≡ auxInit (r .reorder) (coef o ls ts) (r .w) (r .h)
+      → {x : Buffers} → x ≡ auxInit (r .reorder) (coef o (pairs ls hs) ts) (r .w) (r .h)
       → record {
         plane = splice (B .plane) from to (x .plane);
         prior = splice (B .prior) from to (x .prior);
@@ -41,9 +42,9 @@ module _ (r : Run) (c : ℕ) (levels : List ℤ) (tables : List ℕ) (B : Buffer
       }
       ≡ startedPart (givenOf r levels tables) c B
   unfolding putChannel coefOf
-  part-started f t o l s e =
+  part-started f t o l h s e =
       λ i.
-      let x : Buffers = (e ∙ (λ j. auxInit (r .reorder) (coef (o j) (l j) (s j)) (r .w) (r .h))) i in
+      let x : Buffers = (e ∙ (λ j. auxInit (r .reorder) (coef (o j) (pairs (l j) (h j)) (s j)) (r .w) (r .h))) i in
       record {
         plane = splice (B .plane) (f i) (t i) (x .plane);
         prior = splice (B .prior) (f i) (t i) (x .prior);

@@ -3,10 +3,10 @@ use Prim.Native.Nat.{ℕ, _*_, _<_}
 use mathlib.Core.Path.{_≡_}
 use mathlib.Core.Bool.{Bool}
 use mathlib.Core.List.{List}
-use lib.IntN.{ℤ}
 use lib.ListN.{length}
 use lib.Ieee.{Float}
 use Rattle.start.specs.Buffers.{Buffers}
+use Rattle.start.specs.Coef.{Levels, Long}
 use Rattle.fidelity.specs.DctGradient.{dataGradient}
 use Rattle.projection.specs.Projection.{Box, clipped, projectOntoBox, transformed}
 use Rattle.projection.specs.Blown.{isBlown}
@@ -17,10 +17,10 @@ use Rattle.record.specs.declared.Run.{Run}
 use Rattle.record.specs.Model.{Legal, sheetOf}
 
 -- a legal record, a channel of it, and levels and tables of its lengths
-pub record Fed (r : Run) (c : ℕ) (levels : List ℤ) (tables : List ℕ) : Type 0 where
+pub record Fed (r : Run) (c : ℕ) (levels : Levels) (tables : List ℕ) : Type 0 where
   pub is-legal : Legal r
   pub below : c < r .count
-  pub levels-long : length levels ≡ levelsBefore (sheetOf r) (r .count)
+  pub levels-long : Long levels (levelsBefore (sheetOf r) (r .count))
   pub tables-long : length tables ≡ r .count * 64
 
 -- a lent buffer of the record's length
@@ -66,5 +66,5 @@ abbrev pub startedPart : Given → ℕ → Buffers → Buffers
 startedPart G c B = putChannel (area G) c B (jobs .start G c)
 
 -- levels and tables of the record's lengths, for every channel of a legal record
-abbrev pub FedAll : Run → List ℤ → List ℕ → Type 0
+abbrev pub FedAll : Run → Levels → List ℕ → Type 0
 FedAll r levels tables = (c : ℕ) → c < r .count → Fed r c levels tables

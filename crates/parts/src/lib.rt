@@ -8,6 +8,7 @@ ghost use Prim.Native.Nat.{_+_, _*_, _<_};
 ghost use lib.ListN.{length};
 ghost use Rattle.fold.specs.Fold.{upto};
 ghost use Rattle.fold.specs.Part.{part};
+ghost use Rattle.start.specs.Coef.{pairs};
 ghost use Rattle.calls.specs.Run.{own, coefs, levelsBefore};
 ghost use Rattle.calls.specs.Buffers.{partOf};
 ghost use Rattle.projection.specs.Blown.{isBlown};
@@ -35,13 +36,14 @@ pub fn weight_of(run: Run, c: u32) -> f32
     x.weight
 }
 
-pub fn levels_of(run: Run, c: u32, levels: &[i16]) -> &[i16]
-    requires { ⌜ Legal run × (c < run .count) × (length (now levels) ≡ levelsBefore (sheetOf run) (run .count)) ⌝ }
-    ensures { λ r. ⌜ now r ≡ part (now (levels .entry)) (levelsBefore (sheetOf run) c) (levelsBefore (sheetOf run) c + coefs (sheetOf run) c) ⌝ }
+// The lows or the highs of channel c.
+pub fn levels_of(run: Run, c: u32, values: &[i16]) -> &[i16]
+    requires { ⌜ Legal run × (c < run .count) × (length (now values) ≡ levelsBefore (sheetOf run) (run .count)) ⌝ }
+    ensures { λ r. ⌜ now r ≡ part (now (values .entry)) (levelsBefore (sheetOf run) c) (levelsBefore (sheetOf run) c + coefs (sheetOf run) c) ⌝ }
 {
     let from = record::refusals::levels_before(run, c);
     let to = from + record::places::coefs_of(run, c);
-    &levels[from..to]
+    &values[from..to]
 }
 
 pub fn table_of(run: Run, c: u32, tables: &[u16]) -> &[u16]
@@ -57,20 +59,22 @@ pub fn table_of(run: Run, c: u32, tables: &[u16]) -> &[u16]
 pub fn data_part(
     run: Run,
     c: u32,
-    levels: &[i16],
+    lows: &[i16],
+    highs: &[i16],
     tables: &[u16],
     gradient: &mut [f32],
     saved: &[f32],
 )
-    requires { ⌜ Fed run c (now levels) (now tables) × Whole run (now gradient) × Whole run (now saved) ⌝ }
-    ensures { λ _. ⌜ now (gradient .exit) ≡ fittedPart (givenOf run (now (levels .entry)) (now (tables .entry))) c (now (gradient .entry)) (now (saved .entry)) ⌝ }
+    requires { ⌜ Fed run c (pairs (now lows) (now highs)) (now tables) × Whole run (now gradient) × Whole run (now saved) ⌝ }
+    ensures { λ _. ⌜ now (gradient .exit) ≡ fittedPart (givenOf run (pairs (now (lows .entry)) (now (highs .entry))) (now (tables .entry))) c (now (gradient .entry)) (now (saved .entry)) ⌝ }
 {
     let s = record::places::span_of(run, c);
     let from = s.from;
     let to = s.to;
     let o = own_of(run, c);
     let weight = weight_of(run, c);
-    let ls = levels_of(run, c, levels);
+    let ls = levels_of(run, c, lows);
+    let hs = levels_of(run, c, highs);
     let ts = table_of(run, c, tables);
     let w = run.w as usize;
     let h = run.h as usize;
@@ -82,6 +86,7 @@ pub fn data_part(
         h,
         weight,
         ls,
+        hs,
         ts,
     );
 }
@@ -90,25 +95,27 @@ pub fn data_part(
 pub fn project_part(
     run: Run,
     c: u32,
-    levels: &[i16],
+    lows: &[i16],
+    highs: &[i16],
     tables: &[u16],
     plane: &mut [f32],
     across: &mut [f32],
     down: &mut [f32],
     saved: &mut [f32],
 ) -> usize
-    requires { ⌜ Fed run c (now levels) (now tables) × Whole run (now plane) × Whole run (now across) × Whole run (now down) × Whole run (now saved) ⌝ }
+    requires { ⌜ Fed run c (pairs (now lows) (now highs)) (now tables) × Whole run (now plane) × Whole run (now across) × Whole run (now down) × Whole run (now saved) ⌝ }
     ensures { λ r. ⌜ (record { plane = now (plane .exit); across = now (across .exit); down = now (down .exit); saved = now (saved .exit) }
-        ≡ projectedPart (givenOf run (now (levels .entry)) (now (tables .entry))) c
+        ≡ projectedPart (givenOf run (pairs (now (lows .entry)) (now (highs .entry))) (now (tables .entry))) c
         (record { plane = now (plane .entry); across = now (across .entry); down = now (down .entry); saved = now (saved .entry) }))
-        × (r ≡ clippedPart (givenOf run (now (levels .entry)) (now (tables .entry))) c
+        × (r ≡ clippedPart (givenOf run (pairs (now (lows .entry)) (now (highs .entry))) (now (tables .entry))) c
         (record { plane = now (plane .entry); across = now (across .entry); down = now (down .entry); saved = now (saved .entry) })) ⌝ }
 {
     let s = record::places::span_of(run, c);
     let from = s.from;
     let to = s.to;
     let o = own_of(run, c);
-    let ls = levels_of(run, c, levels);
+    let ls = levels_of(run, c, lows);
+    let hs = levels_of(run, c, highs);
     let ts = table_of(run, c, tables);
     let w = run.w as usize;
     let h = run.h as usize;
@@ -121,6 +128,7 @@ pub fn project_part(
         w,
         h,
         ls,
+        hs,
         ts,
     )
 }
@@ -141,23 +149,24 @@ pub fn blown_part(run: Run, c: u32, plane: &[f32], saved: &[f32]) -> bool
 pub fn project_seen(
     run: Run,
     c: u32,
-    levels: &[i16],
+    lows: &[i16],
+    highs: &[i16],
     tables: &[u16],
     plane: &mut [f32],
     across: &mut [f32],
     down: &mut [f32],
     saved: &mut [f32],
 ) -> Seen
-    requires { ⌜ Fed run c (now levels) (now tables) × Whole run (now plane) × Whole run (now across) × Whole run (now down) × Whole run (now saved) ⌝ }
+    requires { ⌜ Fed run c (pairs (now lows) (now highs)) (now tables) × Whole run (now plane) × Whole run (now across) × Whole run (now down) × Whole run (now saved) ⌝ }
     ensures { λ r. ⌜ (record { plane = now (plane .exit); across = now (across .exit); down = now (down .exit); saved = now (saved .exit) }
-        ≡ projectedPart (givenOf run (now (levels .entry)) (now (tables .entry))) c
+        ≡ projectedPart (givenOf run (pairs (now (lows .entry)) (now (highs .entry))) (now (tables .entry))) c
         (record { plane = now (plane .entry); across = now (across .entry); down = now (down .entry); saved = now (saved .entry) }))
-        × (r .blown ≡ blownPart (givenOf run (now (levels .entry)) (now (tables .entry))) c
+        × (r .blown ≡ blownPart (givenOf run (pairs (now (lows .entry)) (now (highs .entry))) (now (tables .entry))) c
         (record { plane = now (plane .entry); across = now (across .entry); down = now (down .entry); saved = now (saved .entry) }))
-        × (r .clipped ≡ clippedPart (givenOf run (now (levels .entry)) (now (tables .entry))) c
+        × (r .clipped ≡ clippedPart (givenOf run (pairs (now (lows .entry)) (now (highs .entry))) (now (tables .entry))) c
         (record { plane = now (plane .entry); across = now (across .entry); down = now (down .entry); saved = now (saved .entry) })) ⌝ }
 {
-    let moved = project_part(run, c, levels, tables, plane, across, down, saved);
+    let moved = project_part(run, c, lows, highs, tables, plane, across, down, saved);
     Seen {
         blown: blown_part(run, c, plane, saved),
         clipped: moved as u32,
@@ -168,7 +177,8 @@ pub fn project_seen(
 pub fn start_part(
     run: Run,
     c: u32,
-    levels: &[i16],
+    lows: &[i16],
+    highs: &[i16],
     tables: &[u16],
     plane: &mut [f32],
     prior: &mut [f32],
@@ -177,16 +187,17 @@ pub fn start_part(
     down: &mut [f32],
     saved: &mut [f32],
 )
-    requires { ⌜ Fed run c (now levels) (now tables) × Whole run (now plane) × Whole run (now prior) × Whole run (now gradient) × Whole run (now across) × Whole run (now down) × Whole run (now saved) ⌝ }
+    requires { ⌜ Fed run c (pairs (now lows) (now highs)) (now tables) × Whole run (now plane) × Whole run (now prior) × Whole run (now gradient) × Whole run (now across) × Whole run (now down) × Whole run (now saved) ⌝ }
     ensures { λ _. ⌜ record { plane = now (plane .exit); prior = now (prior .exit); gradient = now (gradient .exit); across = now (across .exit); down = now (down .exit); saved = now (saved .exit) }
-        ≡ startedPart (givenOf run (now (levels .entry)) (now (tables .entry))) c
+        ≡ startedPart (givenOf run (pairs (now (lows .entry)) (now (highs .entry))) (now (tables .entry))) c
         (record { plane = now (plane .entry); prior = now (prior .entry); gradient = now (gradient .entry); across = now (across .entry); down = now (down .entry); saved = now (saved .entry) }) ⌝ }
 {
     let s = record::places::span_of(run, c);
     let from = s.from;
     let to = s.to;
     let o = own_of(run, c);
-    let ls = levels_of(run, c, levels);
+    let ls = levels_of(run, c, lows);
+    let hs = levels_of(run, c, highs);
     let ts = table_of(run, c, tables);
     let w = run.w as usize;
     let h = run.h as usize;
@@ -203,6 +214,7 @@ pub fn start_part(
         h,
         reorder,
         ls,
+        hs,
         ts,
     );
 }
@@ -210,7 +222,8 @@ pub fn start_part(
 // Start of every channel, one after the other.
 pub fn start_parts(
     run: Run,
-    levels: &[i16],
+    lows: &[i16],
+    highs: &[i16],
     tables: &[u16],
     plane: &mut [f32],
     prior: &mut [f32],
@@ -219,16 +232,17 @@ pub fn start_parts(
     down: &mut [f32],
     saved: &mut [f32],
 )
-    requires { ⌜ FedAll run (now levels) (now tables) × Whole run (now plane) × Whole run (now prior) × Whole run (now gradient) × Whole run (now across) × Whole run (now down) × Whole run (now saved) ⌝ }
+    requires { ⌜ FedAll run (pairs (now lows) (now highs)) (now tables) × Whole run (now plane) × Whole run (now prior) × Whole run (now gradient) × Whole run (now across) × Whole run (now down) × Whole run (now saved) ⌝ }
     ensures { λ _. ⌜ record { plane = now (plane .exit); prior = now (prior .exit); gradient = now (gradient .exit); across = now (across .exit); down = now (down .exit); saved = now (saved .exit) }
-        ≡ upto (startedPart (givenOf run (now (levels .entry)) (now (tables .entry)))) (run .count)
+        ≡ upto (startedPart (givenOf run (pairs (now (lows .entry)) (now (highs .entry))) (now (tables .entry)))) (run .count)
         (record { plane = now (plane .entry); prior = now (prior .entry); gradient = now (gradient .entry); across = now (across .entry); down = now (down .entry); saved = now (saved .entry) }) ⌝ }
 {
     for c in 0..run.count {
         start_part(
             run,
             c,
-            levels,
+            lows,
+            highs,
             tables,
             plane,
             prior,

@@ -12,7 +12,7 @@ ghost use Rattle.steps.specs.Step.{moved};
 ghost use Rattle.gradients.specs.Blend.{blended, totals};
 ghost use Rattle.start.specs.Auxiliary.{auxInit};
 ghost use Rattle.projection.specs.Blown.{isBlown};
-ghost use Rattle.start.specs.Coef.{Covers, Lent, coef};
+ghost use Rattle.start.specs.Coef.{Covers, Lent, coef, pairs};
 ghost use Rattle.fidelity.specs.DctGradient.{dataGradient};
 ghost use Rattle.projection.specs.Projection.{clipped, projectOntoBox, transformed};
 ghost use Rattle.probe.specs.Jobs.{own, reorderFrom, bitsOf};
@@ -42,11 +42,12 @@ pub extern "C" fn probe_start(
     w: usize,
     h: usize,
     reorder: u32,
-    levels: &[i16],
+    lows: &[i16],
+    highs: &[i16],
     table: &[u16],
 )
     requires { ⌜ Covers (own width height fx fy) w h
-        × Lent (own width height fx fy) (now levels) (now table)
+        × Lent (own width height fx fy) (pairs (now lows) (now highs)) (now table)
         × (length (now plane) ≡ w * h) × (length (now prior) ≡ w * h) × (length (now gradient) ≡ w * h)
         × (length (now across) ≡ w * h) × (length (now down) ≡ w * h) × (length (now saved) ≡ w * h) ⌝ }
     ensures { λ _. ⌜ record {
@@ -57,7 +58,7 @@ pub extern "C" fn probe_start(
       down = now (down .exit);
       saved = now (saved .exit);
     }
-        ≡ auxInit (reorderFrom reorder) (coef (own width height fx fy) (now (levels .entry)) (now (table .entry))) w h ⌝ }
+        ≡ auxInit (reorderFrom reorder) (coef (own width height fx fy) (pairs (now (lows .entry)) (now (highs .entry))) (now (table .entry))) w h ⌝ }
 {
     let o = Own {
         width: width,
@@ -77,7 +78,8 @@ pub extern "C" fn probe_start(
         w,
         h,
         r,
-        levels,
+        lows,
+        highs,
         table,
     );
 }
@@ -113,14 +115,15 @@ pub extern "C" fn probe_data(
     w: usize,
     h: usize,
     weight: f32,
-    levels: &[i16],
+    lows: &[i16],
+    highs: &[i16],
     table: &[u16],
 )
     requires { ⌜ Covers (own width height fx fy) w h
-        × Lent (own width height fx fy) (now levels) (now table)
+        × Lent (own width height fx fy) (pairs (now lows) (now highs)) (now table)
         × (length (now saved) ≡ w * h) × (length (now gradient) ≡ w * h) ⌝ }
     ensures { λ _. ⌜ now (gradient .exit)
-        ≡ dataGradient (coef (own width height fx fy) (now (levels .entry)) (now (table .entry)))
+        ≡ dataGradient (coef (own width height fx fy) (pairs (now (lows .entry)) (now (highs .entry))) (now (table .entry)))
         w h weight (now (saved .entry)) ⌝ }
 {
     let o = Own {
@@ -129,7 +132,7 @@ pub extern "C" fn probe_data(
         horizontal: fx,
         vertical: fy,
     };
-    fidelity::dct_gradient::data(saved, gradient, o, w, h, weight, levels, table);
+    fidelity::dct_gradient::data(saved, gradient, o, w, h, weight, lows, highs, table);
 }
 
 // Job 3 of a run with n channels. Both totals are written by their bits.
@@ -197,17 +200,18 @@ pub extern "C" fn probe_project(
     fy: usize,
     w: usize,
     h: usize,
-    levels: &[i16],
+    lows: &[i16],
+    highs: &[i16],
     table: &[u16],
 ) -> usize
     requires { ⌜ Covers (own width height fx fy) w h
-        × Lent (own width height fx fy) (now levels) (now table)
+        × Lent (own width height fx fy) (pairs (now lows) (now highs)) (now table)
         × (length (now plane) ≡ w * h) × (length (now across) ≡ w * h) × (length (now down) ≡ w * h) × (length (now saved) ≡ w * h) ⌝ }
     ensures { λ r. ⌜ (record { plane = now (plane .exit); across = now (across .exit); down = now (down .exit); saved = now (saved .exit) }
-        ≡ projectOntoBox (coef (own width height fx fy) (now (levels .entry)) (now (table .entry))) w h
+        ≡ projectOntoBox (coef (own width height fx fy) (pairs (now (lows .entry)) (now (highs .entry))) (now (table .entry))) w h
         (record { plane = now (plane .entry); across = now (across .entry); down = now (down .entry); saved = now (saved .entry) }))
-        × (r ≡ clipped (coef (own width height fx fy) (now (levels .entry)) (now (table .entry)))
-        (transformed (coef (own width height fx fy) (now (levels .entry)) (now (table .entry))) w h
+        × (r ≡ clipped (coef (own width height fx fy) (pairs (now (lows .entry)) (now (highs .entry))) (now (table .entry)))
+        (transformed (coef (own width height fx fy) (pairs (now (lows .entry)) (now (highs .entry))) (now (table .entry))) w h
         (record { plane = now (plane .entry); across = now (across .entry); down = now (down .entry); saved = now (saved .entry) }))) ⌝ }
 {
     let o = Own {
@@ -216,7 +220,18 @@ pub extern "C" fn probe_project(
         horizontal: fx,
         vertical: fy,
     };
-    projection::projection::project_onto_box(plane, across, down, saved, o, w, h, levels, table)
+    projection::projection::project_onto_box(
+        plane,
+        across,
+        down,
+        saved,
+        o,
+        w,
+        h,
+        lows,
+        highs,
+        table,
+    )
 }
 
 // The condition of job 5, of the plane and the n saved coefficients: 1 where it holds, 0 where not.

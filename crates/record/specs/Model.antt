@@ -6,7 +6,7 @@ use mathlib.Core.List.{List, [], _∷_, map}
 use lib.ListN.{getD, take}
 use lib.Ieee.{nan}
 use lib.Dec.{T, eqb}
-use lib.IntN.{ℤ}
+use Rattle.start.specs.Coef.{Levels}
 use Rattle.calls.specs.Run.{Numbers, Sheet, Place, Given, own, ownOk, place, placeOk, blendsIn, legal}
 use Rattle.calls.specs.Jobs as Jobs
 use Rattle.calls.specs.Calls as Calls
@@ -37,7 +37,7 @@ abbrev pub clippedOf : Run → ℕ → ℕ
 clippedOf r c = place (placesOf r) c .clipped
 
 -- what a call is given: the record's sheet, and the levels and tables that it is lent
-abbrev pub givenOf : Run → List ℤ → List ℕ → Given
+abbrev pub givenOf : Run → Levels → List ℕ → Given
 givenOf r levels tables = record { sheet = sheetOf r; levels = levels; tables = tables }
 
 -- a legal record: anything else is refusal 13

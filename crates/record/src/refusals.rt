@@ -1,4 +1,4 @@
-// What each call refuses, in the table's order: 13, 8, 4, 5, 12, 10, 11, 9. An answer 0 is no refusal.
+// What each call refuses, in the order of the tests: 13, 8, 4, pair by pair 5 and 14, then 12, 10, 11, 9. An answer 0 is no refusal.
 use crate::Run;
 use crate::legal::legal;
 use crate::places::channel_of;
@@ -11,15 +11,15 @@ ghost use mathlib.Core.Path.{_≡_};
 ghost use mathlib.Core.List.{List, [], _∷_};
 ghost use mathlib.Core.Bool.{true, false};
 ghost use Prim.Native.Nat.{ℕ, _*_, _≤_};
-ghost use lib.IntN.{ℤ};
 ghost use lib.ListN.{length};
+ghost use Rattle.start.specs.Coef.{Levels, pairs};
 ghost use Rattle.calls.specs.Run.{levelsBefore};
 ghost use Rattle.calls.specs.Jobs.{Job, on, blend, turn};
 ghost use Rattle.calls.specs.Calls.{first, test, turnTests, lendTests, lentLevels, valuesLong, refusal, startRefusal};
 ghost use Rattle.record.specs.Model.{Legal, sheetOf, placesOf, givenOf};
 
 // The number n where the test holds, else 0.
-fn test(n: u8, holds: bool) -> u8
+pub fn test(n: u8, holds: bool) -> u8
     ensures { λ r. ⌜ r ≡ test n holds ⌝ }
 {
     if holds {
@@ -29,7 +29,7 @@ fn test(n: u8, holds: bool) -> u8
 }
 
 // The first of two that isn't 0.
-fn first(a: u8, b: u8) -> u8
+pub fn first(a: u8, b: u8) -> u8
     ensures { λ r. ⌜ r ≡ first (a ∷ b ∷ []) ⌝ }
 {
     if a == 0 {
@@ -67,21 +67,20 @@ pub fn levels_before(run: Run, c: u32) -> usize
     sum
 }
 
-// The levels are w × h a channel, the tables 64 a channel.
-fn values_long(run: Run, levels: usize, tables: usize) -> bool
+// Lows and highs are w × h a channel, the tables 64 a channel.
+fn values_long(run: Run, lows: usize, highs: usize, tables: usize) -> bool
     requires { ⌜ Legal run ⌝ }
-    ensures { λ r. ⌜ ((ls : List ℤ) (ts : List ℕ) → length ls ≡ levels → length ts ≡ tables → r ≡ valuesLong (givenOf run ls ts)) ⌝ }
+    ensures { λ r. ⌜ ((ls : Levels) (ts : List ℕ) → length (ls .lows) ≡ lows → length (ls .highs) ≡ highs → length ts ≡ tables → r ≡ valuesLong (givenOf run ls ts)) ⌝ }
 {
     let count = run.count as usize;
-    both(
-        levels == levels_before(run, run.count),
-        tables == count * 64,
-    )
+    let places = levels_before(run, run.count);
+    let levels = both(lows == places, highs == places);
+    both(levels, tables == count * 64)
 }
 
 // 13 and 8 of a call that is lent neither levels nor tables, its buffers' lengths being given.
 fn lend_refusal(run: Run, lengths: &[usize]) -> u8
-    ensures { λ r. ⌜ ((ls : List ℤ) (ts : List ℕ) → r ≡ first (lendTests (givenOf run ls ts) (placesOf run) (now (lengths .entry)) false)) ⌝ }
+    ensures { λ r. ⌜ ((ls : Levels) (ts : List ℕ) → r ≡ first (lendTests (givenOf run ls ts) (placesOf run) (now (lengths .entry)) false)) ⌝ }
 {
     if !legal(run) {
         return 13;
@@ -92,20 +91,23 @@ fn lend_refusal(run: Run, lengths: &[usize]) -> u8
     0
 }
 
-// 13, 8, 4 and 5 of a call that is lent levels and tables: all that start refuses.
-pub fn start_refusal(run: Run, lengths: &[usize], levels: &[i16], tables: &[u16]) -> u8
-    ensures { λ r. ⌜ r ≡ startRefusal (givenOf run (now (levels .entry)) (now (tables .entry))) (placesOf run) (now (lengths .entry)) ⌝ }
+// 13, 8, 4, and pair by pair 5 and 14, of a call that is lent levels and tables: all that start refuses.
+pub fn start_refusal(run: Run, lengths: &[usize], lows: &[i16], highs: &[i16], tables: &[u16]) -> u8
+    ensures { λ r. ⌜ r ≡ startRefusal (givenOf run (pairs (now (lows .entry)) (now (highs .entry))) (now (tables .entry))) (placesOf run) (now (lengths .entry)) ⌝ }
 {
     if !legal(run) {
         return 13;
     }
     let buffers = all_equal(total(run), lengths);
-    let long = both(buffers, values_long(run, levels.len(), tables.len()));
+    let long = both(
+        buffers,
+        values_long(run, lows.len(), highs.len(), tables.len()),
+    );
     if !long {
         return 8;
     }
     let table = test(4, !tables_ok(tables));
-    let level = levels_fault(levels);
+    let level = levels_fault(lows, highs);
     first(table, level)
 }
 
@@ -146,7 +148,7 @@ fn blend_turn_refusal(run: Run) -> u8
 
 // The refusal of push or move.
 pub fn job_refusal(run: Run, c: u32, job: u32, lengths: &[usize]) -> u8
-    ensures { λ r. ⌜ ((j : Job) (ls : List ℤ) (ts : List ℕ) → turn j ≡ job → lentLevels (on j c) ≡ false → r ≡ refusal (givenOf run ls ts) (placesOf run) (on j c) (now (lengths .entry))) ⌝ }
+    ensures { λ r. ⌜ ((j : Job) (ls : Levels) (ts : List ℕ) → turn j ≡ job → lentLevels (on j c) ≡ false → r ≡ refusal (givenOf run ls ts) (placesOf run) (on j c) (now (lengths .entry))) ⌝ }
 {
     let r = lend_refusal(run, lengths);
     if r != 0 {
@@ -161,12 +163,13 @@ pub fn fed_refusal(
     c: u32,
     job: u32,
     lengths: &[usize],
-    levels: &[i16],
+    lows: &[i16],
+    highs: &[i16],
     tables: &[u16],
 ) -> u8
-    ensures { λ r. ⌜ ((j : Job) → turn j ≡ job → lentLevels (on j c) ≡ true → r ≡ refusal (givenOf run (now (levels .entry)) (now (tables .entry))) (placesOf run) (on j c) (now (lengths .entry))) ⌝ }
+    ensures { λ r. ⌜ ((j : Job) → turn j ≡ job → lentLevels (on j c) ≡ true → r ≡ refusal (givenOf run (pairs (now (lows .entry)) (now (highs .entry))) (now (tables .entry))) (placesOf run) (on j c) (now (lengths .entry))) ⌝ }
 {
-    let r = start_refusal(run, lengths, levels, tables);
+    let r = start_refusal(run, lengths, lows, highs, tables);
     if r != 0 {
         return r;
     }
@@ -175,7 +178,7 @@ pub fn fed_refusal(
 
 // The refusal of blend.
 pub fn blend_refusal(run: Run, lengths: &[usize]) -> u8
-    ensures { λ r. ⌜ ((ls : List ℤ) (ts : List ℕ) → r ≡ refusal (givenOf run ls ts) (placesOf run) blend (now (lengths .entry))) ⌝ }
+    ensures { λ r. ⌜ ((ls : Levels) (ts : List ℕ) → r ≡ refusal (givenOf run ls ts) (placesOf run) blend (now (lengths .entry))) ⌝ }
 {
     let r = lend_refusal(run, lengths);
     if r != 0 {

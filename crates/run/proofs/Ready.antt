@@ -7,7 +7,7 @@ use Prim.Native.Nat.{ℕ, zero, suc, _+_, _*_, _≤_, _<_}
 use native.Mathlib.Omega.{arith}
 use lib.Dec.{T, eqb, eqb→eq}
 use lib.Ieee.Fits.{and-l, and-r}
-use lib.IntN.{ℤ}
+use Rattle.start.specs.Coef.{Levels}
 use lib.ListN.{length, set}
 use Rattle.start.specs.Buffers.{Buffers}
 use Rattle.calls.specs.Run.{place}
@@ -32,7 +32,7 @@ pub settled : (r : Run) (B : Buffers) (t : ℕ) → t ≢ 0 → (o : Calls.Calle
 settled r B zero n o = absurd (n refl)
 settled r B (suc t) n o = ap (λ (q : Run). gave (Refused (suc t)) q B) (placed-same r)
 
-module _ (r : Run) (levels : List ℤ) (tables : List ℕ) (x : Call) (B : Buffers) where
+module _ (r : Run) (levels : Levels) (tables : List ℕ) (x : Call) (B : Buffers) where
   pub call-refused : (t : ℕ) → t ≡ refusal (givenOf r levels tables) (placesOf r) x (lengths (lent x) B) → t ≢ 0
       → callOf r x levels tables B ≡ gave (Refused t) r B
   unfolding call
@@ -61,7 +61,7 @@ pub record Accepted (r : Run) (j : Job) (c : ℕ) (ls : List ℕ) : Type 0 where
   pub ready : Ready (sheetOf r) (placesOf r) (turn j) c
   pub long : AllAre (r .count * (r .w * r .h)) ls
 
-pub accepted : (r : Run) (levels : List ℤ) (tables : List ℕ) (j : Job) (c : ℕ) (ls : List ℕ)
+pub accepted : (r : Run) (levels : Levels) (tables : List ℕ) (j : Job) (c : ℕ) (ls : List ℕ)
     → refusal (givenOf r levels tables) (placesOf r) (on j c) ls ≡ 0 → Accepted r j c ls
 accepted r levels tables j c ls e =
     let p = passed-all (givenOf r levels tables) (placesOf r) (on j c) ls e in
@@ -69,7 +69,7 @@ accepted r levels tables j c ls e =
     record { is-legal = p .0 .is-legal; below = t .0; ready = t .1; long = all-are (r .count * (r .w * r .h)) ls (p .0 .long) }
 
 -- and where it is lent levels and tables
-pub fed : (r : Run) (levels : List ℤ) (tables : List ℕ) (j : Job) (c : ℕ) (ls : List ℕ) → lentLevels (on j c) ≡ true
+pub fed : (r : Run) (levels : Levels) (tables : List ℕ) (j : Job) (c : ℕ) (ls : List ℕ) → lentLevels (on j c) ≡ true
     → refusal (givenOf r levels tables) (placesOf r) (on j c) ls ≡ 0 → Fed r c levels tables
 fed r levels tables j c ls l e =
     let p = passed-all (givenOf r levels tables) (placesOf r) (on j c) ls e .0 in
@@ -80,13 +80,13 @@ pub record Blendable (r : Run) (ls : List ℕ) : Type 0 where
   pub is-legal : Legal r
   pub long : AllAre (r .count * (r .w * r .h)) ls
 
-pub blendable : (r : Run) (levels : List ℤ) (tables : List ℕ) (ls : List ℕ) → refusal (givenOf r levels tables) (placesOf r) blend ls ≡ 0 → Blendable r ls
+pub blendable : (r : Run) (levels : Levels) (tables : List ℕ) (ls : List ℕ) → refusal (givenOf r levels tables) (placesOf r) blend ls ≡ 0 → Blendable r ls
 blendable r levels tables ls e =
     let p = passed-all (givenOf r levels tables) (placesOf r) blend ls e .0 in
     record { is-legal = p .is-legal; long = all-are (r .count * (r .w * r .h)) ls (p .long) }
 
 -- an accepted job of channel c: with the record r′ and the buffers B′ afterwards
-module _ (r : Run) (levels : List ℤ) (tables : List ℕ) (j : Job) (c : ℕ) (B : Buffers) where
+module _ (r : Run) (levels : Levels) (tables : List ℕ) (j : Job) (c : ℕ) (B : Buffers) where
   abbrev x : Seen
   x = seenIn jobs (givenOf r levels tables) j c (stateOf r B)
 
@@ -97,7 +97,7 @@ module _ (r : Run) (levels : List ℤ) (tables : List ℕ) (j : Job) (c : ℕ) (
   job-result e p b = call-accepted r levels tables (on j c) B e ∙ (λ i. record { answer = reply j x; run = sym p i; buffers = b i })
 
 -- an accepted project, whose answer says what it tells
-module _ (r : Run) (levels : List ℤ) (tables : List ℕ) (c : ℕ) (B : Buffers) where
+module _ (r : Run) (levels : Levels) (tables : List ℕ) (c : ℕ) (B : Buffers) where
   pub project-result : refusal (givenOf r levels tables) (placesOf r) (on project c) (lengths (lent (on project c)) B) ≡ 0
       → (x : Seen) → seenIn jobs (givenOf r levels tables) project c (stateOf r B) ≡ x
       → (a : Answer) → answerOf a ≡ reply project x

@@ -4,7 +4,7 @@ use mathlib.Core.Logic.{_≢_}
 use mathlib.Core.Bool.{true}
 use mathlib.Core.List.{List, map}
 use Prim.Native.Nat.{ℕ, _*_}
-use lib.IntN.{ℤ}
+use Rattle.start.specs.Coef.{Levels}
 use Rattle.fold.specs.Fold.{upto}
 use Rattle.start.specs.Buffers.{Buffers}
 use Rattle.calls.specs.Run.{fresh, count, area}
@@ -23,7 +23,7 @@ use Rattle.parts.proofs.Started.{six-long, all-started}
 
 -- ---- refused, and what an accepted start has passed
 
-module _ (r : Run) (levels : List ℤ) (tables : List ℕ) (B : Buffers) where
+module _ (r : Run) (levels : Levels) (tables : List ℕ) (B : Buffers) where
   pub start-refused : (t : ℕ) → t ≡ startRefusal (givenOf r levels tables) (placesOf r) (lengths allSix B) → t ≢ 0
       → startOf r levels tables B ≡ gave (Refused t) r B
   unfolding start
@@ -34,12 +34,12 @@ module _ (r : Run) (levels : List ℤ) (tables : List ℕ) (B : Buffers) where
   unfolding start
   start-accepted e = rw e
 
-pub record Startable (r : Run) (levels : List ℤ) (tables : List ℕ) (ls : List ℕ) : Type 0 where
+pub record Startable (r : Run) (levels : Levels) (tables : List ℕ) (ls : List ℕ) : Type 0 where
   pub is-legal : Legal r
   pub fed-all : FedAll r levels tables
   pub long : AllAre (r .count * (r .w * r .h)) ls
 
-pub startable : (r : Run) (levels : List ℤ) (tables : List ℕ) (ls : List ℕ) → startRefusal (givenOf r levels tables) (placesOf r) ls ≡ 0
+pub startable : (r : Run) (levels : Levels) (tables : List ℕ) (ls : List ℕ) → startRefusal (givenOf r levels tables) (placesOf r) ls ≡ 0
     → Startable r levels tables ls
 unfolding startRefusal
 startable r levels tables ls e =
@@ -55,7 +55,7 @@ pub six-are : (n : ℕ) (B : Buffers) → AllAre n (lengths allSix B) → Sized 
 six-are n B h = six-long n B (h .0) (h .1 .0) (h .1 .1 .0) (h .1 .1 .1 .0) (h .1 .1 .1 .1 .0) (h .1 .1 .1 .1 .1 .0)
 
 -- accepted: with the record r′ and the buffers B′ afterwards
-pub start-result : (r : Run) (levels : List ℤ) (tables : List ℕ) (B : Buffers)
+pub start-result : (r : Run) (levels : Levels) (tables : List ℕ) (B : Buffers)
     → startRefusal (givenOf r levels tables) (placesOf r) (lengths allSix B) ≡ 0
     → {r′ : Run} → r′ ≡ placed r (map (λ p. fresh) (placesOf r))
     → {B′ : Buffers} → B′ ≡ upto (startedPart (givenOf r levels tables)) (r .count) B

@@ -3,7 +3,7 @@
 use Prim.Native.Nat.{ℕ}
 use mathlib.Core.Path.{_≡_}
 use mathlib.Core.List.{List}
-use lib.IntN.{ℤ}
+use Rattle.start.specs.Coef.{Levels}
 use lib.Ieee.{Float}
 use Rattle.start.specs.Buffers.{Buffers}
 use Rattle.calls.specs.Jobs.{push, fidelity, move, project, Call, on, blend}
@@ -31,10 +31,10 @@ abbrev pub stateOf : Run → Buffers → Calls.State
 stateOf r B = record { places = placesOf r; buffers = B }
 
 -- the model's call of job x on the record r and these buffers, levels and tables
-abbrev pub callOf : Run → Call → List ℤ → List ℕ → Buffers → Result
+abbrev pub callOf : Run → Call → Levels → List ℕ → Buffers → Result
 callOf r x levels tables B = result r (Calls.call jobs (givenOf r levels tables) x (stateOf r B))
 
-abbrev pub startOf : Run → List ℤ → List ℕ → Buffers → Result
+abbrev pub startOf : Run → Levels → List ℕ → Buffers → Result
 startOf r levels tables B = result r (Calls.start jobs (givenOf r levels tables) (stateOf r B))
 
 -- ---- the six, with those that a call is lent in the place of what `o` has there
@@ -58,28 +58,28 @@ forProject o plane across down saved = record { plane = plane; prior = o .prior;
 
 abbrev pub PushIs : Run → ℕ → List Float → List Float → Answer → Run → List Float → List Float → Type 0
 PushIs r c plane prior a r′ plane′ prior′ =
-    (levels : List ℤ) (tables : List ℕ) (o : Buffers)
+    (levels : Levels) (tables : List ℕ) (o : Buffers)
     → callOf r (on push c) levels tables (forPush o plane prior) ≡ gave a r′ (forPush o plane′ prior′)
 
-abbrev pub DataIs : Run → ℕ → List ℤ → List ℕ → List Float → List Float → Answer → Run → List Float → Type 0
+abbrev pub DataIs : Run → ℕ → Levels → List ℕ → List Float → List Float → Answer → Run → List Float → Type 0
 DataIs r c levels tables gradient saved a r′ gradient′ =
     (o : Buffers) → callOf r (on fidelity c) levels tables (forData o gradient saved) ≡ gave a r′ (forData o gradient′ saved)
 
 abbrev pub BlendIs : Run → List Float → List Float → List Float → List Float → Answer → Run → List Float → List Float → List Float → Type 0
 BlendIs r plane gradient across down a r′ gradient′ across′ down′ =
-    (levels : List ℤ) (tables : List ℕ) (o : Buffers)
+    (levels : Levels) (tables : List ℕ) (o : Buffers)
     → callOf r blend levels tables (forBlend o plane gradient across down) ≡ gave a r′ (forBlend o plane gradient′ across′ down′)
 
 abbrev pub MoveIs : Run → ℕ → List Float → List Float → Answer → Run → List Float → Type 0
 MoveIs r c plane gradient a r′ plane′ =
-    (levels : List ℤ) (tables : List ℕ) (o : Buffers)
+    (levels : Levels) (tables : List ℕ) (o : Buffers)
     → callOf r (on move c) levels tables (forMove o plane gradient) ≡ gave a r′ (forMove o plane′ gradient)
 
-abbrev pub ProjectIs : Run → ℕ → List ℤ → List ℕ → List Float → List Float → List Float → List Float
+abbrev pub ProjectIs : Run → ℕ → Levels → List ℕ → List Float → List Float → List Float → List Float
     → Answer → Run → List Float → List Float → List Float → List Float → Type 0
 ProjectIs r c levels tables plane across down saved a r′ plane′ across′ down′ saved′ =
     (o : Buffers)
     → callOf r (on project c) levels tables (forProject o plane across down saved) ≡ gave a r′ (forProject o plane′ across′ down′ saved′)
 
-abbrev pub StartIs : Run → List ℤ → List ℕ → Buffers → Answer → Run → Buffers → Type 0
+abbrev pub StartIs : Run → Levels → List ℕ → Buffers → Answer → Run → Buffers → Type 0
 StartIs r levels tables B a r′ B′ = startOf r levels tables B ≡ gave a r′ B′

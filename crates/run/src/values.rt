@@ -7,6 +7,7 @@ use record::Seen;
 use steps::solve::Constants;
 ghost use mathlib.Core.Path.{_≡_};
 ghost use Prim.Native.Nat.{_/_, _<_};
+ghost use Rattle.start.specs.Coef.{pairs};
 ghost use Rattle.calls.specs.Run.{place};
 ghost use Rattle.calls.specs.Jobs.{project};
 ghost use Rattle.calls.specs.Calls.{reply};
@@ -49,22 +50,23 @@ pub fn push_value(run: Run, c: u32, plane: &mut [f32], prior: &mut [f32]) -> Ans
 pub fn data_value(
     run: Run,
     c: u32,
-    levels: &[i16],
+    lows: &[i16],
+    highs: &[i16],
     tables: &[u16],
     gradient: &mut [f32],
     saved: &[f32],
 ) -> Answered
-    ensures { λ r. ⌜ DataIs run c (now (levels .entry)) (now (tables .entry)) (now (gradient .entry)) (now (saved .entry)) (r .answer) (r .run) (now (gradient .exit)) ⌝ }
+    ensures { λ r. ⌜ DataIs run c (pairs (now (lows .entry)) (now (highs .entry))) (now (tables .entry)) (now (gradient .entry)) (now (saved .entry)) (r .answer) (r .run) (now (gradient .exit)) ⌝ }
 {
     let lengths = [gradient.len(), saved.len()];
-    let r = record::refusals::fed_refusal(run, c, 1, &lengths, levels, tables);
+    let r = record::refusals::fed_refusal(run, c, 1, &lengths, lows, highs, tables);
     if r != 0 {
         return Answered {
             answer: Answer::Refused(r),
             run,
         };
     }
-    parts::data_part(run, c, levels, tables, gradient, saved);
+    parts::data_part(run, c, lows, highs, tables, gradient, saved);
     let next = record::places::advanced(run, c);
     Answered {
         answer: Answer::Done,
@@ -144,25 +146,26 @@ fn project_reply(seen: Seen) -> Answer
 pub fn project_value(
     run: Run,
     c: u32,
-    levels: &[i16],
+    lows: &[i16],
+    highs: &[i16],
     tables: &[u16],
     plane: &mut [f32],
     across: &mut [f32],
     down: &mut [f32],
     saved: &mut [f32],
 ) -> Answered
-    ensures { λ r. ⌜ ProjectIs run c (now (levels .entry)) (now (tables .entry)) (now (plane .entry)) (now (across .entry)) (now (down .entry)) (now (saved .entry))
+    ensures { λ r. ⌜ ProjectIs run c (pairs (now (lows .entry)) (now (highs .entry))) (now (tables .entry)) (now (plane .entry)) (now (across .entry)) (now (down .entry)) (now (saved .entry))
         (r .answer) (r .run) (now (plane .exit)) (now (across .exit)) (now (down .exit)) (now (saved .exit)) ⌝ }
 {
     let lengths = [plane.len(), across.len(), down.len(), saved.len()];
-    let r = record::refusals::fed_refusal(run, c, 4, &lengths, levels, tables);
+    let r = record::refusals::fed_refusal(run, c, 4, &lengths, lows, highs, tables);
     if r != 0 {
         return Answered {
             answer: Answer::Refused(r),
             run,
         };
     }
-    let seen = parts::project_seen(run, c, levels, tables, plane, across, down, saved);
+    let seen = parts::project_seen(run, c, lows, highs, tables, plane, across, down, saved);
     let next = record::places::projected(run, c, seen);
     let answer = project_reply(seen);
     Answered { answer, run: next }
@@ -171,7 +174,8 @@ pub fn project_value(
 // Start. Rules out: values left over in a buffer, and the levels of one channel taken for every channel's.
 pub fn start_value(
     run: Run,
-    levels: &[i16],
+    lows: &[i16],
+    highs: &[i16],
     tables: &[u16],
     plane: &mut [f32],
     prior: &mut [f32],
@@ -180,7 +184,7 @@ pub fn start_value(
     down: &mut [f32],
     saved: &mut [f32],
 ) -> Answered
-    ensures { λ r. ⌜ StartIs run (now (levels .entry)) (now (tables .entry))
+    ensures { λ r. ⌜ StartIs run (pairs (now (lows .entry)) (now (highs .entry))) (now (tables .entry))
         (record { plane = now (plane .entry); prior = now (prior .entry); gradient = now (gradient .entry); across = now (across .entry); down = now (down .entry); saved = now (saved .entry) })
         (r .answer) (r .run)
         (record { plane = now (plane .exit); prior = now (prior .exit); gradient = now (gradient .exit); across = now (across .exit); down = now (down .exit); saved = now (saved .exit) }) ⌝ }
@@ -193,7 +197,7 @@ pub fn start_value(
         down.len(),
         saved.len(),
     ];
-    let r = record::refusals::start_refusal(run, &lengths, levels, tables);
+    let r = record::refusals::start_refusal(run, &lengths, lows, highs, tables);
     if r != 0 {
         return Answered {
             answer: Answer::Refused(r),
@@ -202,7 +206,8 @@ pub fn start_value(
     }
     parts::start_parts(
         run,
-        levels,
+        lows,
+        highs,
         tables,
         plane,
         prior,

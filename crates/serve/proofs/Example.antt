@@ -4,8 +4,8 @@ use mathlib.Core.Path.{_≡_}
 use mathlib.Core.Bool.{Bool, true, false, cond}
 use mathlib.Core.List.{List, [], _∷_, map}
 use Prim.Native.Nat.{ℕ}
-use lib.IntN.{ℤ}
 use lib.Ieee.{Float}
+use Rattle.start.specs.Coef.{Levels}
 use Rattle.start.specs.declared.coef.Reorder.{Reorder}
 use Rattle.calls.specs.Run.{Numbers, Given}
 use Rattle.calls.specs.Jobs.{Call, fixed, channelBlown}
@@ -16,7 +16,7 @@ use Rattle.serve.specs.Serve.{callList, byteOf}
 abbrev calls : List Call
 calls = callList (0 ∷ 0 ∷ 0 ∷ 2 ∷ 1 ∷ 2 ∷ 3 ∷ 4 ∷ 0 ∷ []) (0 ∷ 0 ∷ 7 ∷ 0 ∷ 0 ∷ 0 ∷ 0 ∷ 0 ∷ 0 ∷ [])
 
-module _ (w h : ℕ) (smoothing : Float) (reorder : Reorder) (own : Numbers) (levels : List ℤ) (tables : List ℕ) where
+module _ (w h : ℕ) (smoothing : Float) (reorder : Reorder) (own : Numbers) (levels : Levels) (tables : List ℕ) where
   abbrev G : Given
   G = record { sheet = record { W = w; H = h; N = 1; smoothing = smoothing; reorder = reorder; count = 1; owns = own ∷ [] }; levels = levels; tables = tables }
 

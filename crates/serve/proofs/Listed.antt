@@ -5,10 +5,10 @@ use native.Mathlib.Omega.{arith}
 use native.Mathlib.Numerals.{add-one}
 use mathlib.Core.Bool.{true}
 use mathlib.Core.List.{List, [], _∷_, _++_, map, append-nil}
-use lib.IntN.{ℤ}
 use lib.Dec.{T, ltb, ltb→lt}
 use lib.ListN.{length, getD, set, take, drop, length-map, length-set, drop-of-length-le}
 use lib.Seq.{take-all, drop-cons, take-suc-set, append-snoc}
+use Rattle.start.specs.Coef.{Levels}
 use Rattle.start.specs.Buffers.{Buffers}
 use Rattle.calls.specs.Run.{Given, Place, Sheet}
 use Rattle.calls.specs.Jobs.{Call, on, blend}
@@ -55,7 +55,7 @@ in-number a h e =
 
 -- ---- a list of calls
 
-module _ (levels : List ℤ) (tables : List ℕ) where
+module _ (levels : Levels) (tables : List ℕ) where
   -- from a record that other calls have left
   pub from-placed : (r : Run) (s : State) → length (s .places) ≡ length (placesOf r) → (xs : List Call)
       → listOf (placed r (s .places)) levels tables xs (s .buffers) ≡ ran r (givenOf r levels tables) xs s
@@ -102,7 +102,7 @@ module _ (levels : List ℤ) (tables : List ℕ) where
 
 -- ---- the code's loop: the bytes written by the first i calls, and what the calls left give
 
-module _ (levels : List ℤ) (tables : List ℕ) (js cs : List ℕ) where
+module _ (levels : Levels) (tables : List ℕ) (js cs : List ℕ) where
   abbrev pub sofar : Run → Buffers → List ℕ → ℕ → Listed
   sofar r B bytes i =
       let l = listOf r levels tables (callList (drop i js) (drop i cs)) B in record { bytes = take i bytes ++ l .bytes; run = l .run; buffers = l .buffers }

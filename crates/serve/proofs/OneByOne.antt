@@ -2,7 +2,7 @@
 use mathlib.Core.Path.{_≡_, sym, ap, _∙_}
 use mathlib.Core.List.{List, [], _∷_, _++_}
 use Prim.Native.Nat.{ℕ}
-use lib.IntN.{ℤ}
+use Rattle.start.specs.Coef.{Levels}
 use Rattle.start.specs.Buffers.{Buffers}
 use Rattle.record.specs.declared.Run.{Run}
 use Rattle.serve.specs.Serve.{Listed, listOf}
@@ -10,7 +10,7 @@ use Rattle.serve.specs.Made.{Made, OneByOne, callsOf, bytesOf, lastRun, 
 use Rattle.serve.proofs.Listed.{call-first, no-call}
 use Rattle.serve.proofs.Served.{start-zero, served}
 
-module _ (levels : List ℤ) (tables : List ℕ) where
+module _ (levels : Levels) (tables : List ℕ) where
   -- the calls made are the model's list
   listed : (r : Run) (B : Buffers) (ms : List Made) → OneByOne levels tables r B ms
       → listOf r levels tables (callsOf ms) B ≡ record { bytes = bytesOf ms; run = lastRun r ms; buffers = lastBuffers B ms }

@@ -8,8 +8,8 @@ use native.Mathlib.Omega.{arith}
 use lib.Dec.{T, eqb, eqb→eq}
 use lib.Ieee.Fits.{and-l, and-r}
 use borrow.Author.Tests.{not-false}
-use lib.IntN.{ℤ}
 use lib.ListN.{length, length-map}
+use Rattle.start.specs.Coef.{Levels}
 use Rattle.start.specs.Buffers.{Buffers}
 use Rattle.calls.specs.Run.{Given, fresh, area}
 use Rattle.calls.specs.Buffers.{channel}
@@ -51,7 +51,7 @@ passed r js channels bytes e =
 
 -- ---- the two ends of the call
 
-module _ (r : Run) (levels : List ℤ) (tables : List ℕ) (B : Buffers) where
+module _ (r : Run) (levels : Levels) (tables : List ℕ) (B : Buffers) where
   abbrev G : Given
   G = givenOf r levels tables
 
@@ -90,7 +90,7 @@ module _ (r : Run) (levels : List ℤ) (tables : List ℕ) (B : Buffers) where
         in-interval = λ c h m k l. subst (λ (D : Buffers). SavedIn G c k (channel (area G) c D)) (ap (λ (l : Listed). l .buffers) q) (claim .in-interval c h m k l);
       }
 
-module _ (r : Run) (js cs bytes : List ℕ) (levels : List ℤ) (tables : List ℕ) (B : Buffers) where
+module _ (r : Run) (js cs bytes : List ℕ) (levels : Levels) (tables : List ℕ) (B : Buffers) where
   pub refused-whole : (t : ℕ) → t ≡ serveRefusalOf r js cs bytes levels tables B → t ≢ 0 → ServeIs r js cs bytes levels tables B (Refused t) r bytes B
   refused-whole t e n = record { if-refused = λ m. (ap Calls.refused e, refl, refl, refl); if-done = λ z. absurd (n (e ∙ z)) }
 

@@ -1,7 +1,7 @@
 -- Calls made one after the other by any program: each is lent the record and the buffers that the one before left, with the same levels and tables.
 use Prim.Native.Nat.{ℕ}
 use mathlib.Core.List.{List, [], _∷_, map}
-use lib.IntN.{ℤ}
+use Rattle.start.specs.Coef.{Levels}
 use Rattle.start.specs.Buffers.{Buffers}
 use Rattle.calls.specs.Jobs.{Call}
 use Rattle.calls.specs.Calls.{noneYet, plainPlaces}
@@ -19,7 +19,7 @@ pub record Made : Type 0 where
   pub buffers : Buffers
 
 -- each call's contract, from the record and the buffers at hand
-abbrev pub OneByOne : List ℤ → List ℕ → Run → Buffers → List Made → Type 0
+abbrev pub OneByOne : Levels → List ℕ → Run → Buffers → List Made → Type 0
 OneByOne levels tables r B [] = Unit {0}
 OneByOne levels tables r B (m ∷ ms) =
     GaveNumber (callOf r (m .call) levels tables B) (m .number) (m .run) (m .buffers) × OneByOne levels tables (m .run) (m .buffers) ms
@@ -43,7 +43,7 @@ lastBuffers B (m ∷ ms) = lastBuffers (m .buffers) ms
 -- accepted, which leaves r₁ and B₁, and then the calls ms.
 abbrev pub MadeServed : Type 0
 MadeServed =
-    (levels : List ℤ) (tables : List ℕ) (r : Run) (B : Buffers) (r₁ : Run) (B₁ : Buffers) → GaveNumber (startOf r levels tables B) 0 r₁ B₁
+    (levels : Levels) (tables : List ℕ) (r : Run) (B : Buffers) (r₁ : Run) (B₁ : Buffers) → GaveNumber (startOf r levels tables B) 0 r₁ B₁
     → (ms : List Made) → OneByOne levels tables r₁ B₁ ms
     → Served (givenOf r levels tables) (callsOf ms) r (plainPlaces jobs (givenOf r levels tables) (callsOf ms) (noneYet (givenOf r levels tables))) (bytesOf ms)
     (lastRun r₁ ms) (lastBuffers B₁ ms)

@@ -5,8 +5,8 @@ use mathlib.Core.Logic.{_≢_}
 use mathlib.Core.Bool.{Bool, false, not, _&&_}
 use mathlib.Core.List.{List, [], _∷_, map}
 use lib.Dec.{ltb, eqb}
-use lib.IntN.{ℤ}
 use lib.ListN.{length}
+use Rattle.start.specs.Coef.{Levels}
 use Rattle.start.specs.Buffers.{Buffers}
 use Rattle.calls.specs.Run.{Given, Place, place, count, area, coefs}
 use Rattle.calls.specs.Buffers.{channel, joined}
@@ -60,10 +60,10 @@ ran r G xs s =
       buffers = final jobs G xs s .buffers;
     }
 
-abbrev pub listOf : Run → List ℤ → List ℕ → List Call → Buffers → Listed
+abbrev pub listOf : Run → Levels → List ℕ → List Call → Buffers → Listed
 listOf r levels tables xs B = ran r (givenOf r levels tables) xs (stateOf r B)
 
-abbrev pub ListIs : Run → List ℕ → List ℕ → List ℤ → List ℕ → Buffers → List ℕ → Run → Buffers → Type 0
+abbrev pub ListIs : Run → List ℕ → List ℕ → Levels → List ℕ → Buffers → List ℕ → Run → Buffers → Type 0
 ListIs r js cs levels tables B bytes′ r′ B′ = listOf r levels tables (callList js cs) B ≡ record { bytes = bytes′; run = r′; buffers = B′ }
 
 -- ---- a list of calls on a fresh run
@@ -75,7 +75,7 @@ serveRefusal r js channels bytes =
     first
     (test 13 (eqb r 13) ∷ test 8 (not (eqb channels (length js) && eqb bytes (length js))) ∷ r ∷ test 9 (not (allJobs js)) ∷ [])
 
-abbrev pub serveRefusalOf : Run → List ℕ → List ℕ → List ℕ → List ℤ → List ℕ → Buffers → ℕ
+abbrev pub serveRefusalOf : Run → List ℕ → List ℕ → List ℕ → Levels → List ℕ → Buffers → ℕ
 serveRefusalOf r js cs bytes levels tables B =
     serveRefusal (startRefusal (givenOf r levels tables) (placesOf r) (lengths allSix B)) js (length cs) (length bytes)
 
@@ -94,7 +94,7 @@ pub record Served (G : Given) (xs : List Call) (r : Run) (ps : List Place) (byte
   pub in-interval : (c : ℕ) → c < count G → place ps c .mark ≡ false → (k : ℕ) → k < coefs (G .sheet) c → SavedIn G c k (channel (area G) c B′)
 
 -- Either refused, and "lent buffers and any record unchanged"; or done, and demand 3.
-pub record ServeIs (r : Run) (js cs bytes : List ℕ) (levels : List ℤ) (tables : List ℕ) (B : Buffers) (a : Answer) (r′ : Run) (bytes′ : List ℕ) (B′ : Buffers) : Type 0 where
+pub record ServeIs (r : Run) (js cs bytes : List ℕ) (levels : Levels) (tables : List ℕ) (B : Buffers) (a : Answer) (r′ : Run) (bytes′ : List ℕ) (B′ : Buffers) : Type 0 where
   pub if-refused : serveRefusalOf r js cs bytes levels tables B ≢ 0
       → (answerOf a ≡ Calls.refused (serveRefusalOf r js cs bytes levels tables B)) × (r′ ≡ r) × (bytes′ ≡ bytes) × (B′ ≡ B)
   pub if-done : serveRefusalOf r js cs bytes levels tables B ≡ 0

@@ -4,6 +4,7 @@ mod lists;
 use record::Answer;
 use record::Answered;
 use record::Run;
+ghost use Rattle.start.specs.Coef.{pairs};
 ghost use Rattle.serve.specs.Serve.{ServeIs};
 
 // A fresh run of the record, and then the calls of the two lists of numbers, one after the other; their answers as bytes.
@@ -13,7 +14,8 @@ pub fn serve_value(
     jobs: &[u8],
     channels: &[u32],
     answers: &mut [u8],
-    levels: &[i16],
+    lows: &[i16],
+    highs: &[i16],
     tables: &[u16],
     plane: &mut [f32],
     prior: &mut [f32],
@@ -22,7 +24,7 @@ pub fn serve_value(
     down: &mut [f32],
     saved: &mut [f32],
 ) -> Answered
-    ensures { λ r. ⌜ ServeIs run (now (jobs .entry)) (now (channels .entry)) (now (answers .entry)) (now (levels .entry)) (now (tables .entry))
+    ensures { λ r. ⌜ ServeIs run (now (jobs .entry)) (now (channels .entry)) (now (answers .entry)) (pairs (now (lows .entry)) (now (highs .entry))) (now (tables .entry))
         (record { plane = now (plane .entry); prior = now (prior .entry); gradient = now (gradient .entry); across = now (across .entry); down = now (down .entry); saved = now (saved .entry) })
         (r .answer) (r .run) (now (answers .exit))
         (record { plane = now (plane .exit); prior = now (prior .exit); gradient = now (gradient .exit); across = now (across .exit); down = now (down .exit); saved = now (saved .exit) }) ⌝ }
@@ -41,7 +43,8 @@ pub fn serve_value(
         channels.len(),
         answers.len(),
         &lengths,
-        levels,
+        lows,
+        highs,
         tables,
     );
     if r != 0 {
@@ -52,7 +55,8 @@ pub fn serve_value(
     }
     let answered = run::values::start_value(
         run,
-        levels,
+        lows,
+        highs,
         tables,
         plane,
         prior,
@@ -67,7 +71,8 @@ pub fn serve_value(
         jobs,
         channels,
         answers,
-        levels,
+        lows,
+        highs,
         tables,
         plane,
         prior,

@@ -4,6 +4,7 @@ use record::Run;
 ghost use mathlib.Core.Path.{_≡_};
 ghost use mathlib.Core.Bool.{true};
 ghost use lib.ListN.{length};
+ghost use Rattle.start.specs.Coef.{pairs};
 ghost use Rattle.calls.specs.Calls.{startRefusal};
 ghost use Rattle.record.specs.Model.{answerOf, givenOf, placesOf};
 ghost use Rattle.serve.specs.Serve.{ListIs, allJobs, byteOf, serveRefusal};
@@ -38,12 +39,13 @@ pub fn serve_refusal(
     channels: usize,
     answers: usize,
     lengths: &[usize],
-    levels: &[i16],
+    lows: &[i16],
+    highs: &[i16],
     tables: &[u16],
 ) -> u8
-    ensures { λ r. ⌜ r ≡ serveRefusal (startRefusal (givenOf run (now (levels .entry)) (now (tables .entry))) (placesOf run) (now (lengths .entry))) (now (jobs .entry)) channels answers ⌝ }
+    ensures { λ r. ⌜ r ≡ serveRefusal (startRefusal (givenOf run (pairs (now (lows .entry)) (now (highs .entry))) (now (tables .entry))) (placesOf run) (now (lengths .entry))) (now (jobs .entry)) channels answers ⌝ }
 {
-    let r = record::refusals::start_refusal(run, lengths, levels, tables);
+    let r = record::refusals::start_refusal(run, lengths, lows, highs, tables);
     if r == 13 {
         return 13;
     }
@@ -67,7 +69,8 @@ pub fn list_value(
     jobs: &[u8],
     channels: &[u32],
     answers: &mut [u8],
-    levels: &[i16],
+    lows: &[i16],
+    highs: &[i16],
     tables: &[u16],
     plane: &mut [f32],
     prior: &mut [f32],
@@ -77,7 +80,7 @@ pub fn list_value(
     saved: &mut [f32],
 ) -> Run
     requires { ⌜ (length (now channels) ≡ length (now jobs)) × (length (now answers) ≡ length (now jobs)) × (allJobs (now jobs) ≡ true) ⌝ }
-    ensures { λ r. ⌜ ListIs run (now (jobs .entry)) (now (channels .entry)) (now (levels .entry)) (now (tables .entry))
+    ensures { λ r. ⌜ ListIs run (now (jobs .entry)) (now (channels .entry)) (pairs (now (lows .entry)) (now (highs .entry))) (now (tables .entry))
         (record { plane = now (plane .entry); prior = now (prior .entry); gradient = now (gradient .entry); across = now (across .entry); down = now (down .entry); saved = now (saved .entry) })
         (now (answers .exit)) r
         (record { plane = now (plane .exit); prior = now (prior .exit); gradient = now (gradient .exit); across = now (across .exit); down = now (down .exit); saved = now (saved .exit) }) ⌝ }
@@ -88,7 +91,8 @@ pub fn list_value(
             last,
             jobs[i],
             channels[i],
-            levels,
+            lows,
+            highs,
             tables,
             plane,
             prior,

@@ -16,7 +16,7 @@ use Rattle.float.specs.Ops.{mulAdd, fused, square, product, half, midpoint, isq
 use Rattle.utils.specs.Blocks.{fromBlocks, toBlocks}
 use Rattle.utils.specs.Dct.{onLine, idct8, dct8, idct8x8, dct8x8}
 use Rattle.utils.specs.Auxiliary.{upsamplePixels}
-use Rattle.interval.specs.Interval.{lowest, highest, dequantised}
+use Rattle.interval.specs.Interval.{lowest, highest, dequantised, mid}
 use Rattle.steps.specs.Solve.{nextTerm, termOf, constants, pushed}
 use Rattle.steps.specs.Step.{dataAlpha, gradientNorm, movedBy, moved}
 use Rattle.gradients.specs.Tv.{difference, bump, bumpUnless, tvDifferencesAt, tvDifferences, gNormOf, tvChannelDerivatives, tvDerivatives, store, tvGradientPx, tvAlpha, tvGradient}
@@ -37,14 +37,14 @@ unfoldable pub k0 : Constants
 k0 = record { term = ofBits binary32 1065353216; factor = ofBits binary32 0; «step_size» = ofBits binary32 1075039546; second = ofBits binary32 1054423333 }
 
 pub constants-0 : constants 8 8 2 (ofBits binary32 1058642330) 0 ≡ k0
-unfolding k0 trailingZeros add sub mul div sum round units odd size span climb ofBits ofFields neg ne eq lt ofInt upto mulAdd fused square product half midpoint isqrt halves root clamp fromBlocks toBlocks onLine idct8 dct8 idct8x8 dct8x8 upsamplePixels lowest highest dequantised nextTerm termOf constants pushed dataAlpha gradientNorm movedBy moved difference bump bumpUnless tvDifferencesAt tvDifferences gNormOf tvChannelDerivatives tvDerivatives store tvGradientPx tvAlpha tvGradient tgvDifferencesAt tgvDifferences g2NormOf tgvBeside tgvUpDown tgvCorners tgvChannelDerivatives tgvDerivatives tgvGradientPx tgvAlpha tgvGradient blended dequantise imageBlock imageData initDctTarget initPixels auxInit cosbOf cosbsOf spread spreadBlock gradientBlock dctGradient dataGradient meanOf change splitAt split clampAt clampBlock clamped keep ontoBox back projectFull projectMeans projectOntoBox isBlown pushing dataJob blending moving projecting
+unfolding k0 trailingZeros add sub mul div sum round units odd size span climb ofBits ofFields neg ne eq lt ofInt upto mulAdd fused square product half midpoint isqrt halves root clamp fromBlocks toBlocks onLine idct8 dct8 idct8x8 dct8x8 upsamplePixels lowest highest dequantised mid nextTerm termOf constants pushed dataAlpha gradientNorm movedBy moved difference bump bumpUnless tvDifferencesAt tvDifferences gNormOf tvChannelDerivatives tvDerivatives store tvGradientPx tvAlpha tvGradient tgvDifferencesAt tgvDifferences g2NormOf tgvBeside tgvUpDown tgvCorners tgvChannelDerivatives tgvDerivatives tgvGradientPx tgvAlpha tgvGradient blended dequantise imageBlock imageData initDctTarget initPixels auxInit cosbOf cosbsOf spread spreadBlock gradientBlock dctGradient dataGradient meanOf change splitAt split clampAt clampBlock clamped keep ontoBox back projectFull projectMeans projectOntoBox isBlown pushing dataJob blending moving projecting
 constants-0 = refl
 
 unfoldable pub k1 : Constants
 k1 = record { term = ofBits binary32 1070537661; factor = ofBits binary32 1049641471; «step_size» = ofBits binary32 1075039546; second = ofBits binary32 1054423333 }
 
 pub constants-1 : constants 8 8 2 (ofBits binary32 1058642330) 1 ≡ k1
-unfolding k1 trailingZeros add sub mul div sum round units odd size span climb ofBits ofFields neg ne eq lt ofInt upto mulAdd fused square product half midpoint isqrt halves root clamp fromBlocks toBlocks onLine idct8 dct8 idct8x8 dct8x8 upsamplePixels lowest highest dequantised nextTerm termOf constants pushed dataAlpha gradientNorm movedBy moved difference bump bumpUnless tvDifferencesAt tvDifferences gNormOf tvChannelDerivatives tvDerivatives store tvGradientPx tvAlpha tvGradient tgvDifferencesAt tgvDifferences g2NormOf tgvBeside tgvUpDown tgvCorners tgvChannelDerivatives tgvDerivatives tgvGradientPx tgvAlpha tgvGradient blended dequantise imageBlock imageData initDctTarget initPixels auxInit cosbOf cosbsOf spread spreadBlock gradientBlock dctGradient dataGradient meanOf change splitAt split clampAt clampBlock clamped keep ontoBox back projectFull projectMeans projectOntoBox isBlown pushing dataJob blending moving projecting
+unfolding k1 trailingZeros add sub mul div sum round units odd size span climb ofBits ofFields neg ne eq lt ofInt upto mulAdd fused square product half midpoint isqrt halves root clamp fromBlocks toBlocks onLine idct8 dct8 idct8x8 dct8x8 upsamplePixels lowest highest dequantised mid nextTerm termOf constants pushed dataAlpha gradientNorm movedBy moved difference bump bumpUnless tvDifferencesAt tvDifferences gNormOf tvChannelDerivatives tvDerivatives store tvGradientPx tvAlpha tvGradient tgvDifferencesAt tgvDifferences g2NormOf tgvBeside tgvUpDown tgvCorners tgvChannelDerivatives tgvDerivatives tgvGradientPx tgvAlpha tgvGradient blended dequantise imageBlock imageData initDctTarget initPixels auxInit cosbOf cosbsOf spread spreadBlock gradientBlock dctGradient dataGradient meanOf change splitAt split clampAt clampBlock clamped keep ontoBox back projectFull projectMeans projectOntoBox isBlown pushing dataJob blending moving projecting
 constants-1 = refl
 
 unfoldable pub l0 : List Float
@@ -132,53 +132,53 @@ unfoldable pub b10-0 : Buffers
 b10-0 = record { plane = l15; prior = l7; gradient = l11; across = l15; down = l13; saved = l16 }
 
 pub start-0-0 : starting Each c0 8 8 ≡ b0-0
-unfolding low8 c0 b0-0 l0 l1 l2 trailingZeros add sub mul div sum round units odd size span climb ofBits ofFields neg ne eq lt ofInt upto mulAdd fused square product half midpoint isqrt halves root clamp fromBlocks toBlocks onLine idct8 dct8 idct8x8 dct8x8 upsamplePixels lowest highest dequantised nextTerm termOf constants pushed dataAlpha gradientNorm movedBy moved difference bump bumpUnless tvDifferencesAt tvDifferences gNormOf tvChannelDerivatives tvDerivatives store tvGradientPx tvAlpha tvGradient tgvDifferencesAt tgvDifferences g2NormOf tgvBeside tgvUpDown tgvCorners tgvChannelDerivatives tgvDerivatives tgvGradientPx tgvAlpha tgvGradient blended dequantise imageBlock imageData initDctTarget initPixels auxInit cosbOf cosbsOf spread spreadBlock gradientBlock dctGradient dataGradient meanOf change splitAt split clampAt clampBlock clamped keep ontoBox back projectFull projectMeans projectOntoBox isBlown pushing dataJob blending moving projecting
+unfolding low8 c0 b0-0 l0 l1 l2 trailingZeros add sub mul div sum round units odd size span climb ofBits ofFields neg ne eq lt ofInt upto mulAdd fused square product half midpoint isqrt halves root clamp fromBlocks toBlocks onLine idct8 dct8 idct8x8 dct8x8 upsamplePixels lowest highest dequantised mid nextTerm termOf constants pushed dataAlpha gradientNorm movedBy moved difference bump bumpUnless tvDifferencesAt tvDifferences gNormOf tvChannelDerivatives tvDerivatives store tvGradientPx tvAlpha tvGradient tgvDifferencesAt tgvDifferences g2NormOf tgvBeside tgvUpDown tgvCorners tgvChannelDerivatives tgvDerivatives tgvGradientPx tgvAlpha tgvGradient blended dequantise imageBlock imageData initDctTarget initPixels auxInit cosbOf cosbsOf spread spreadBlock gradientBlock dctGradient dataGradient meanOf change splitAt split clampAt clampBlock clamped keep ontoBox back projectFull projectMeans projectOntoBox isBlown pushing dataJob blending moving projecting
 start-0-0 = refl
 
 pub push-1-0 : pushing k0 b0-0 ≡ b1-0
-unfolding low8 c0 b1-0 b0-0 k0 l0 l1 l2 trailingZeros add sub mul div sum round units odd size span climb ofBits ofFields neg ne eq lt ofInt upto mulAdd fused square product half midpoint isqrt halves root clamp fromBlocks toBlocks onLine idct8 dct8 idct8x8 dct8x8 upsamplePixels lowest highest dequantised nextTerm termOf constants pushed dataAlpha gradientNorm movedBy moved difference bump bumpUnless tvDifferencesAt tvDifferences gNormOf tvChannelDerivatives tvDerivatives store tvGradientPx tvAlpha tvGradient tgvDifferencesAt tgvDifferences g2NormOf tgvBeside tgvUpDown tgvCorners tgvChannelDerivatives tgvDerivatives tgvGradientPx tgvAlpha tgvGradient blended dequantise imageBlock imageData initDctTarget initPixels auxInit cosbOf cosbsOf spread spreadBlock gradientBlock dctGradient dataGradient meanOf change splitAt split clampAt clampBlock clamped keep ontoBox back projectFull projectMeans projectOntoBox isBlown pushing dataJob blending moving projecting
+unfolding low8 c0 b1-0 b0-0 k0 l0 l1 l2 trailingZeros add sub mul div sum round units odd size span climb ofBits ofFields neg ne eq lt ofInt upto mulAdd fused square product half midpoint isqrt halves root clamp fromBlocks toBlocks onLine idct8 dct8 idct8x8 dct8x8 upsamplePixels lowest highest dequantised mid nextTerm termOf constants pushed dataAlpha gradientNorm movedBy moved difference bump bumpUnless tvDifferencesAt tvDifferences gNormOf tvChannelDerivatives tvDerivatives store tvGradientPx tvAlpha tvGradient tgvDifferencesAt tgvDifferences g2NormOf tgvBeside tgvUpDown tgvCorners tgvChannelDerivatives tgvDerivatives tgvGradientPx tgvAlpha tgvGradient blended dequantise imageBlock imageData initDctTarget initPixels auxInit cosbOf cosbsOf spread spreadBlock gradientBlock dctGradient dataGradient meanOf change splitAt split clampAt clampBlock clamped keep ontoBox back projectFull projectMeans projectOntoBox isBlown pushing dataJob blending moving projecting
 push-1-0 = refl
 
 pub data-2-0 : dataJob c0 8 8 (ofBits binary32 1017370378) b1-0 ≡ b2-0
-unfolding low8 c0 b2-0 b1-0 k0 l0 l1 l2 trailingZeros add sub mul div sum round units odd size span climb ofBits ofFields neg ne eq lt ofInt upto mulAdd fused square product half midpoint isqrt halves root clamp fromBlocks toBlocks onLine idct8 dct8 idct8x8 dct8x8 upsamplePixels lowest highest dequantised nextTerm termOf constants pushed dataAlpha gradientNorm movedBy moved difference bump bumpUnless tvDifferencesAt tvDifferences gNormOf tvChannelDerivatives tvDerivatives store tvGradientPx tvAlpha tvGradient tgvDifferencesAt tgvDifferences g2NormOf tgvBeside tgvUpDown tgvCorners tgvChannelDerivatives tgvDerivatives tgvGradientPx tgvAlpha tgvGradient blended dequantise imageBlock imageData initDctTarget initPixels auxInit cosbOf cosbsOf spread spreadBlock gradientBlock dctGradient dataGradient meanOf change splitAt split clampAt clampBlock clamped keep ontoBox back projectFull projectMeans projectOntoBox isBlown pushing dataJob blending moving projecting
+unfolding low8 c0 b2-0 b1-0 k0 l0 l1 l2 trailingZeros add sub mul div sum round units odd size span climb ofBits ofFields neg ne eq lt ofInt upto mulAdd fused square product half midpoint isqrt halves root clamp fromBlocks toBlocks onLine idct8 dct8 idct8x8 dct8x8 upsamplePixels lowest highest dequantised mid nextTerm termOf constants pushed dataAlpha gradientNorm movedBy moved difference bump bumpUnless tvDifferencesAt tvDifferences gNormOf tvChannelDerivatives tvDerivatives store tvGradientPx tvAlpha tvGradient tgvDifferencesAt tgvDifferences g2NormOf tgvBeside tgvUpDown tgvCorners tgvChannelDerivatives tgvDerivatives tgvGradientPx tgvAlpha tgvGradient blended dequantise imageBlock imageData initDctTarget initPixels auxInit cosbOf cosbsOf spread spreadBlock gradientBlock dctGradient dataGradient meanOf change splitAt split clampAt clampBlock clamped keep ontoBox back projectFull projectMeans projectOntoBox isBlown pushing dataJob blending moving projecting
 data-2-0 = refl
 
 pub blend-3 : blending 8 8 1 k0 b2-0 ≡ b3-0
-unfolding b2-0 b3-0 k0 l0 l1 l2 l3 l4 l5 trailingZeros add sub mul div sum round units odd size span climb ofBits ofFields neg ne eq lt ofInt upto mulAdd fused square product half midpoint isqrt halves root clamp fromBlocks toBlocks onLine idct8 dct8 idct8x8 dct8x8 upsamplePixels lowest highest dequantised nextTerm termOf constants pushed dataAlpha gradientNorm movedBy moved difference bump bumpUnless tvDifferencesAt tvDifferences gNormOf tvChannelDerivatives tvDerivatives store tvGradientPx tvAlpha tvGradient tgvDifferencesAt tgvDifferences g2NormOf tgvBeside tgvUpDown tgvCorners tgvChannelDerivatives tgvDerivatives tgvGradientPx tgvAlpha tgvGradient blended dequantise imageBlock imageData initDctTarget initPixels auxInit cosbOf cosbsOf spread spreadBlock gradientBlock dctGradient dataGradient meanOf change splitAt split clampAt clampBlock clamped keep ontoBox back projectFull projectMeans projectOntoBox isBlown pushing dataJob blending moving projecting
+unfolding b2-0 b3-0 k0 l0 l1 l2 l3 l4 l5 trailingZeros add sub mul div sum round units odd size span climb ofBits ofFields neg ne eq lt ofInt upto mulAdd fused square product half midpoint isqrt halves root clamp fromBlocks toBlocks onLine idct8 dct8 idct8x8 dct8x8 upsamplePixels lowest highest dequantised mid nextTerm termOf constants pushed dataAlpha gradientNorm movedBy moved difference bump bumpUnless tvDifferencesAt tvDifferences gNormOf tvChannelDerivatives tvDerivatives store tvGradientPx tvAlpha tvGradient tgvDifferencesAt tgvDifferences g2NormOf tgvBeside tgvUpDown tgvCorners tgvChannelDerivatives tgvDerivatives tgvGradientPx tgvAlpha tgvGradient blended dequantise imageBlock imageData initDctTarget initPixels auxInit cosbOf cosbsOf spread spreadBlock gradientBlock dctGradient dataGradient meanOf change splitAt split clampAt clampBlock clamped keep ontoBox back projectFull projectMeans projectOntoBox isBlown pushing dataJob blending moving projecting
 blend-3 = refl
 
 pub move-4-0 : moving k0 b3-0 ≡ b4-0
-unfolding low8 c0 b4-0 b3-0 k0 l0 l2 l3 l4 l5 l6 trailingZeros add sub mul div sum round units odd size span climb ofBits ofFields neg ne eq lt ofInt upto mulAdd fused square product half midpoint isqrt halves root clamp fromBlocks toBlocks onLine idct8 dct8 idct8x8 dct8x8 upsamplePixels lowest highest dequantised nextTerm termOf constants pushed dataAlpha gradientNorm movedBy moved difference bump bumpUnless tvDifferencesAt tvDifferences gNormOf tvChannelDerivatives tvDerivatives store tvGradientPx tvAlpha tvGradient tgvDifferencesAt tgvDifferences g2NormOf tgvBeside tgvUpDown tgvCorners tgvChannelDerivatives tgvDerivatives tgvGradientPx tgvAlpha tgvGradient blended dequantise imageBlock imageData initDctTarget initPixels auxInit cosbOf cosbsOf spread spreadBlock gradientBlock dctGradient dataGradient meanOf change splitAt split clampAt clampBlock clamped keep ontoBox back projectFull projectMeans projectOntoBox isBlown pushing dataJob blending moving projecting
+unfolding low8 c0 b4-0 b3-0 k0 l0 l2 l3 l4 l5 l6 trailingZeros add sub mul div sum round units odd size span climb ofBits ofFields neg ne eq lt ofInt upto mulAdd fused square product half midpoint isqrt halves root clamp fromBlocks toBlocks onLine idct8 dct8 idct8x8 dct8x8 upsamplePixels lowest highest dequantised mid nextTerm termOf constants pushed dataAlpha gradientNorm movedBy moved difference bump bumpUnless tvDifferencesAt tvDifferences gNormOf tvChannelDerivatives tvDerivatives store tvGradientPx tvAlpha tvGradient tgvDifferencesAt tgvDifferences g2NormOf tgvBeside tgvUpDown tgvCorners tgvChannelDerivatives tgvDerivatives tgvGradientPx tgvAlpha tgvGradient blended dequantise imageBlock imageData initDctTarget initPixels auxInit cosbOf cosbsOf spread spreadBlock gradientBlock dctGradient dataGradient meanOf change splitAt split clampAt clampBlock clamped keep ontoBox back projectFull projectMeans projectOntoBox isBlown pushing dataJob blending moving projecting
 move-4-0 = refl
 
 pub project-5-0 : projecting c0 8 8 b4-0 ≡ b5-0
-unfolding low8 c0 b5-0 b4-0 k0 l0 l2 l3 l4 l5 l6 l7 l8 trailingZeros add sub mul div sum round units odd size span climb ofBits ofFields neg ne eq lt ofInt upto mulAdd fused square product half midpoint isqrt halves root clamp fromBlocks toBlocks onLine idct8 dct8 idct8x8 dct8x8 upsamplePixels lowest highest dequantised nextTerm termOf constants pushed dataAlpha gradientNorm movedBy moved difference bump bumpUnless tvDifferencesAt tvDifferences gNormOf tvChannelDerivatives tvDerivatives store tvGradientPx tvAlpha tvGradient tgvDifferencesAt tgvDifferences g2NormOf tgvBeside tgvUpDown tgvCorners tgvChannelDerivatives tgvDerivatives tgvGradientPx tgvAlpha tgvGradient blended dequantise imageBlock imageData initDctTarget initPixels auxInit cosbOf cosbsOf spread spreadBlock gradientBlock dctGradient dataGradient meanOf change splitAt split clampAt clampBlock clamped keep ontoBox back projectFull projectMeans projectOntoBox isBlown pushing dataJob blending moving projecting
+unfolding low8 c0 b5-0 b4-0 k0 l0 l2 l3 l4 l5 l6 l7 l8 trailingZeros add sub mul div sum round units odd size span climb ofBits ofFields neg ne eq lt ofInt upto mulAdd fused square product half midpoint isqrt halves root clamp fromBlocks toBlocks onLine idct8 dct8 idct8x8 dct8x8 upsamplePixels lowest highest dequantised mid nextTerm termOf constants pushed dataAlpha gradientNorm movedBy moved difference bump bumpUnless tvDifferencesAt tvDifferences gNormOf tvChannelDerivatives tvDerivatives store tvGradientPx tvAlpha tvGradient tgvDifferencesAt tgvDifferences g2NormOf tgvBeside tgvUpDown tgvCorners tgvChannelDerivatives tgvDerivatives tgvGradientPx tgvAlpha tgvGradient blended dequantise imageBlock imageData initDctTarget initPixels auxInit cosbOf cosbsOf spread spreadBlock gradientBlock dctGradient dataGradient meanOf change splitAt split clampAt clampBlock clamped keep ontoBox back projectFull projectMeans projectOntoBox isBlown pushing dataJob blending moving projecting
 project-5-0 = refl
 
 pub mark-5-0 : channelBlown low8 0 b5-0 ≡ false
-unfolding low8 b5-0 l0 l3 l5 l7 l8 trailingZeros add sub mul div sum round units odd size span climb ofBits ofFields neg ne eq lt ofInt upto mulAdd fused square product half midpoint isqrt halves root clamp fromBlocks toBlocks onLine idct8 dct8 idct8x8 dct8x8 upsamplePixels lowest highest dequantised nextTerm termOf constants pushed dataAlpha gradientNorm movedBy moved difference bump bumpUnless tvDifferencesAt tvDifferences gNormOf tvChannelDerivatives tvDerivatives store tvGradientPx tvAlpha tvGradient tgvDifferencesAt tgvDifferences g2NormOf tgvBeside tgvUpDown tgvCorners tgvChannelDerivatives tgvDerivatives tgvGradientPx tgvAlpha tgvGradient blended dequantise imageBlock imageData initDctTarget initPixels auxInit cosbOf cosbsOf spread spreadBlock gradientBlock dctGradient dataGradient meanOf change splitAt split clampAt clampBlock clamped keep ontoBox back projectFull projectMeans projectOntoBox isBlown pushing dataJob blending moving projecting
+unfolding low8 b5-0 l0 l3 l5 l7 l8 trailingZeros add sub mul div sum round units odd size span climb ofBits ofFields neg ne eq lt ofInt upto mulAdd fused square product half midpoint isqrt halves root clamp fromBlocks toBlocks onLine idct8 dct8 idct8x8 dct8x8 upsamplePixels lowest highest dequantised mid nextTerm termOf constants pushed dataAlpha gradientNorm movedBy moved difference bump bumpUnless tvDifferencesAt tvDifferences gNormOf tvChannelDerivatives tvDerivatives store tvGradientPx tvAlpha tvGradient tgvDifferencesAt tgvDifferences g2NormOf tgvBeside tgvUpDown tgvCorners tgvChannelDerivatives tgvDerivatives tgvGradientPx tgvAlpha tgvGradient blended dequantise imageBlock imageData initDctTarget initPixels auxInit cosbOf cosbsOf spread spreadBlock gradientBlock dctGradient dataGradient meanOf change splitAt split clampAt clampBlock clamped keep ontoBox back projectFull projectMeans projectOntoBox isBlown pushing dataJob blending moving projecting
 mark-5-0 = refl
 
 pub push-6-0 : pushing k1 b5-0 ≡ b6-0
-unfolding low8 c0 b6-0 b5-0 k1 l0 l3 l5 l7 l8 l9 trailingZeros add sub mul div sum round units odd size span climb ofBits ofFields neg ne eq lt ofInt upto mulAdd fused square product half midpoint isqrt halves root clamp fromBlocks toBlocks onLine idct8 dct8 idct8x8 dct8x8 upsamplePixels lowest highest dequantised nextTerm termOf constants pushed dataAlpha gradientNorm movedBy moved difference bump bumpUnless tvDifferencesAt tvDifferences gNormOf tvChannelDerivatives tvDerivatives store tvGradientPx tvAlpha tvGradient tgvDifferencesAt tgvDifferences g2NormOf tgvBeside tgvUpDown tgvCorners tgvChannelDerivatives tgvDerivatives tgvGradientPx tgvAlpha tgvGradient blended dequantise imageBlock imageData initDctTarget initPixels auxInit cosbOf cosbsOf spread spreadBlock gradientBlock dctGradient dataGradient meanOf change splitAt split clampAt clampBlock clamped keep ontoBox back projectFull projectMeans projectOntoBox isBlown pushing dataJob blending moving projecting
+unfolding low8 c0 b6-0 b5-0 k1 l0 l3 l5 l7 l8 l9 trailingZeros add sub mul div sum round units odd size span climb ofBits ofFields neg ne eq lt ofInt upto mulAdd fused square product half midpoint isqrt halves root clamp fromBlocks toBlocks onLine idct8 dct8 idct8x8 dct8x8 upsamplePixels lowest highest dequantised mid nextTerm termOf constants pushed dataAlpha gradientNorm movedBy moved difference bump bumpUnless tvDifferencesAt tvDifferences gNormOf tvChannelDerivatives tvDerivatives store tvGradientPx tvAlpha tvGradient tgvDifferencesAt tgvDifferences g2NormOf tgvBeside tgvUpDown tgvCorners tgvChannelDerivatives tgvDerivatives tgvGradientPx tgvAlpha tgvGradient blended dequantise imageBlock imageData initDctTarget initPixels auxInit cosbOf cosbsOf spread spreadBlock gradientBlock dctGradient dataGradient meanOf change splitAt split clampAt clampBlock clamped keep ontoBox back projectFull projectMeans projectOntoBox isBlown pushing dataJob blending moving projecting
 push-6-0 = refl
 
 pub data-7-0 : dataJob c0 8 8 (ofBits binary32 1017370378) b6-0 ≡ b7-0
-unfolding low8 c0 b7-0 b6-0 k1 l3 l5 l7 l8 l9 l10 trailingZeros add sub mul div sum round units odd size span climb ofBits ofFields neg ne eq lt ofInt upto mulAdd fused square product half midpoint isqrt halves root clamp fromBlocks toBlocks onLine idct8 dct8 idct8x8 dct8x8 upsamplePixels lowest highest dequantised nextTerm termOf constants pushed dataAlpha gradientNorm movedBy moved difference bump bumpUnless tvDifferencesAt tvDifferences gNormOf tvChannelDerivatives tvDerivatives store tvGradientPx tvAlpha tvGradient tgvDifferencesAt tgvDifferences g2NormOf tgvBeside tgvUpDown tgvCorners tgvChannelDerivatives tgvDerivatives tgvGradientPx tgvAlpha tgvGradient blended dequantise imageBlock imageData initDctTarget initPixels auxInit cosbOf cosbsOf spread spreadBlock gradientBlock dctGradient dataGradient meanOf change splitAt split clampAt clampBlock clamped keep ontoBox back projectFull projectMeans projectOntoBox isBlown pushing dataJob blending moving projecting
+unfolding low8 c0 b7-0 b6-0 k1 l3 l5 l7 l8 l9 l10 trailingZeros add sub mul div sum round units odd size span climb ofBits ofFields neg ne eq lt ofInt upto mulAdd fused square product half midpoint isqrt halves root clamp fromBlocks toBlocks onLine idct8 dct8 idct8x8 dct8x8 upsamplePixels lowest highest dequantised mid nextTerm termOf constants pushed dataAlpha gradientNorm movedBy moved difference bump bumpUnless tvDifferencesAt tvDifferences gNormOf tvChannelDerivatives tvDerivatives store tvGradientPx tvAlpha tvGradient tgvDifferencesAt tgvDifferences g2NormOf tgvBeside tgvUpDown tgvCorners tgvChannelDerivatives tgvDerivatives tgvGradientPx tgvAlpha tgvGradient blended dequantise imageBlock imageData initDctTarget initPixels auxInit cosbOf cosbsOf spread spreadBlock gradientBlock dctGradient dataGradient meanOf change splitAt split clampAt clampBlock clamped keep ontoBox back projectFull projectMeans projectOntoBox isBlown pushing dataJob blending moving projecting
 data-7-0 = refl
 
 pub blend-8 : blending 8 8 1 k1 b7-0 ≡ b8-0
-unfolding b7-0 b8-0 k1 l5 l7 l8 l9 l10 l11 l12 l13 trailingZeros add sub mul div sum round units odd size span climb ofBits ofFields neg ne eq lt ofInt upto mulAdd fused square product half midpoint isqrt halves root clamp fromBlocks toBlocks onLine idct8 dct8 idct8x8 dct8x8 upsamplePixels lowest highest dequantised nextTerm termOf constants pushed dataAlpha gradientNorm movedBy moved difference bump bumpUnless tvDifferencesAt tvDifferences gNormOf tvChannelDerivatives tvDerivatives store tvGradientPx tvAlpha tvGradient tgvDifferencesAt tgvDifferences g2NormOf tgvBeside tgvUpDown tgvCorners tgvChannelDerivatives tgvDerivatives tgvGradientPx tgvAlpha tgvGradient blended dequantise imageBlock imageData initDctTarget initPixels auxInit cosbOf cosbsOf spread spreadBlock gradientBlock dctGradient dataGradient meanOf change splitAt split clampAt clampBlock clamped keep ontoBox back projectFull projectMeans projectOntoBox isBlown pushing dataJob blending moving projecting
+unfolding b7-0 b8-0 k1 l5 l7 l8 l9 l10 l11 l12 l13 trailingZeros add sub mul div sum round units odd size span climb ofBits ofFields neg ne eq lt ofInt upto mulAdd fused square product half midpoint isqrt halves root clamp fromBlocks toBlocks onLine idct8 dct8 idct8x8 dct8x8 upsamplePixels lowest highest dequantised mid nextTerm termOf constants pushed dataAlpha gradientNorm movedBy moved difference bump bumpUnless tvDifferencesAt tvDifferences gNormOf tvChannelDerivatives tvDerivatives store tvGradientPx tvAlpha tvGradient tgvDifferencesAt tgvDifferences g2NormOf tgvBeside tgvUpDown tgvCorners tgvChannelDerivatives tgvDerivatives tgvGradientPx tgvAlpha tgvGradient blended dequantise imageBlock imageData initDctTarget initPixels auxInit cosbOf cosbsOf spread spreadBlock gradientBlock dctGradient dataGradient meanOf change splitAt split clampAt clampBlock clamped keep ontoBox back projectFull projectMeans projectOntoBox isBlown pushing dataJob blending moving projecting
 blend-8 = refl
 
 pub move-9-0 : moving k1 b8-0 ≡ b9-0
-unfolding low8 c0 b9-0 b8-0 k1 l7 l8 l9 l11 l12 l13 l14 trailingZeros add sub mul div sum round units odd size span climb ofBits ofFields neg ne eq lt ofInt upto mulAdd fused square product half midpoint isqrt halves root clamp fromBlocks toBlocks onLine idct8 dct8 idct8x8 dct8x8 upsamplePixels lowest highest dequantised nextTerm termOf constants pushed dataAlpha gradientNorm movedBy moved difference bump bumpUnless tvDifferencesAt tvDifferences gNormOf tvChannelDerivatives tvDerivatives store tvGradientPx tvAlpha tvGradient tgvDifferencesAt tgvDifferences g2NormOf tgvBeside tgvUpDown tgvCorners tgvChannelDerivatives tgvDerivatives tgvGradientPx tgvAlpha tgvGradient blended dequantise imageBlock imageData initDctTarget initPixels auxInit cosbOf cosbsOf spread spreadBlock gradientBlock dctGradient dataGradient meanOf change splitAt split clampAt clampBlock clamped keep ontoBox back projectFull projectMeans projectOntoBox isBlown pushing dataJob blending moving projecting
+unfolding low8 c0 b9-0 b8-0 k1 l7 l8 l9 l11 l12 l13 l14 trailingZeros add sub mul div sum round units odd size span climb ofBits ofFields neg ne eq lt ofInt upto mulAdd fused square product half midpoint isqrt halves root clamp fromBlocks toBlocks onLine idct8 dct8 idct8x8 dct8x8 upsamplePixels lowest highest dequantised mid nextTerm termOf constants pushed dataAlpha gradientNorm movedBy moved difference bump bumpUnless tvDifferencesAt tvDifferences gNormOf tvChannelDerivatives tvDerivatives store tvGradientPx tvAlpha tvGradient tgvDifferencesAt tgvDifferences g2NormOf tgvBeside tgvUpDown tgvCorners tgvChannelDerivatives tgvDerivatives tgvGradientPx tgvAlpha tgvGradient blended dequantise imageBlock imageData initDctTarget initPixels auxInit cosbOf cosbsOf spread spreadBlock gradientBlock dctGradient dataGradient meanOf change splitAt split clampAt clampBlock clamped keep ontoBox back projectFull projectMeans projectOntoBox isBlown pushing dataJob blending moving projecting
 move-9-0 = refl
 
 pub project-10-0 : projecting c0 8 8 b9-0 ≡ b10-0
-unfolding low8 c0 b10-0 b9-0 k1 l7 l8 l11 l12 l13 l14 l15 l16 trailingZeros add sub mul div sum round units odd size span climb ofBits ofFields neg ne eq lt ofInt upto mulAdd fused square product half midpoint isqrt halves root clamp fromBlocks toBlocks onLine idct8 dct8 idct8x8 dct8x8 upsamplePixels lowest highest dequantised nextTerm termOf constants pushed dataAlpha gradientNorm movedBy moved difference bump bumpUnless tvDifferencesAt tvDifferences gNormOf tvChannelDerivatives tvDerivatives store tvGradientPx tvAlpha tvGradient tgvDifferencesAt tgvDifferences g2NormOf tgvBeside tgvUpDown tgvCorners tgvChannelDerivatives tgvDerivatives tgvGradientPx tgvAlpha tgvGradient blended dequantise imageBlock imageData initDctTarget initPixels auxInit cosbOf cosbsOf spread spreadBlock gradientBlock dctGradient dataGradient meanOf change splitAt split clampAt clampBlock clamped keep ontoBox back projectFull projectMeans projectOntoBox isBlown pushing dataJob blending moving projecting
+unfolding low8 c0 b10-0 b9-0 k1 l7 l8 l11 l12 l13 l14 l15 l16 trailingZeros add sub mul div sum round units odd size span climb ofBits ofFields neg ne eq lt ofInt upto mulAdd fused square product half midpoint isqrt halves root clamp fromBlocks toBlocks onLine idct8 dct8 idct8x8 dct8x8 upsamplePixels lowest highest dequantised mid nextTerm termOf constants pushed dataAlpha gradientNorm movedBy moved difference bump bumpUnless tvDifferencesAt tvDifferences gNormOf tvChannelDerivatives tvDerivatives store tvGradientPx tvAlpha tvGradient tgvDifferencesAt tgvDifferences g2NormOf tgvBeside tgvUpDown tgvCorners tgvChannelDerivatives tgvDerivatives tgvGradientPx tgvAlpha tgvGradient blended dequantise imageBlock imageData initDctTarget initPixels auxInit cosbOf cosbsOf spread spreadBlock gradientBlock dctGradient dataGradient meanOf change splitAt split clampAt clampBlock clamped keep ontoBox back projectFull projectMeans projectOntoBox isBlown pushing dataJob blending moving projecting
 project-10-0 = refl
 
 pub mark-10-0 : channelBlown low8 0 b10-0 ≡ false
-unfolding low8 b10-0 l7 l11 l13 l15 l16 trailingZeros add sub mul div sum round units odd size span climb ofBits ofFields neg ne eq lt ofInt upto mulAdd fused square product half midpoint isqrt halves root clamp fromBlocks toBlocks onLine idct8 dct8 idct8x8 dct8x8 upsamplePixels lowest highest dequantised nextTerm termOf constants pushed dataAlpha gradientNorm movedBy moved difference bump bumpUnless tvDifferencesAt tvDifferences gNormOf tvChannelDerivatives tvDerivatives store tvGradientPx tvAlpha tvGradient tgvDifferencesAt tgvDifferences g2NormOf tgvBeside tgvUpDown tgvCorners tgvChannelDerivatives tgvDerivatives tgvGradientPx tgvAlpha tgvGradient blended dequantise imageBlock imageData initDctTarget initPixels auxInit cosbOf cosbsOf spread spreadBlock gradientBlock dctGradient dataGradient meanOf change splitAt split clampAt clampBlock clamped keep ontoBox back projectFull projectMeans projectOntoBox isBlown pushing dataJob blending moving projecting
+unfolding low8 b10-0 l7 l11 l13 l15 l16 trailingZeros add sub mul div sum round units odd size span climb ofBits ofFields neg ne eq lt ofInt upto mulAdd fused square product half midpoint isqrt halves root clamp fromBlocks toBlocks onLine idct8 dct8 idct8x8 dct8x8 upsamplePixels lowest highest dequantised mid nextTerm termOf constants pushed dataAlpha gradientNorm movedBy moved difference bump bumpUnless tvDifferencesAt tvDifferences gNormOf tvChannelDerivatives tvDerivatives store tvGradientPx tvAlpha tvGradient tgvDifferencesAt tgvDifferences g2NormOf tgvBeside tgvUpDown tgvCorners tgvChannelDerivatives tgvDerivatives tgvGradientPx tgvAlpha tgvGradient blended dequantise imageBlock imageData initDctTarget initPixels auxInit cosbOf cosbsOf spread spreadBlock gradientBlock dctGradient dataGradient meanOf change splitAt split clampAt clampBlock clamped keep ontoBox back projectFull projectMeans projectOntoBox isBlown pushing dataJob blending moving projecting
 mark-10-0 = refl

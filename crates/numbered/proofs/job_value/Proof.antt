@@ -1,6 +1,7 @@
 -- `job_value`: the call of the job that the number names.
 use mathlib.Core.Path.{_≡_}
 use native.Mathlib.Omega.{arith}
+use Rattle.start.specs.Coef.{pairs}
 use Rattle.start.specs.Buffers.{Buffers}
 use borrow.Author.Needs.{needs}
 use Rattle.numbered.proofs.job_value.Statement.{statement}
@@ -10,7 +11,7 @@ returns : tie.Need-returns
 returns c =
     let a = c .before .before .before .before .before .before .before .before .before .before .before .before .before .before .before .args in
     let B : Buffers = record { plane = a .plane .now; prior = a .prior .now; gradient = a .gradient .now; across = a .across .now; down = a .down .now; saved = a .saved .now } in
-    rw (c .before .before .before .before .before .before .before .if1 .taken) (c .before .before .before .before .push-value .ensures (a .levels .now) (a .tables .now) B)
+    rw (c .before .before .before .before .before .before .before .if1 .taken) (c .before .before .before .before .push-value .ensures (pairs (a .lows .now) (a .highs .now)) (a .tables .now) B)
 
 returns-2 : tie.Need-returns-2
 returns-2 c =
@@ -22,13 +23,13 @@ returns-3 : tie.Need-returns-3
 returns-3 c =
     let a = c .before .before .before .before .before .before .before .before .before .before .before .before .before .before .before .before .before .before .before .before .before .args in
     let B : Buffers = record { plane = a .plane .now; prior = a .prior .now; gradient = a .gradient .now; across = a .across .now; down = a .down .now; saved = a .saved .now } in
-    rw (c .before .before .before .before .before .before .before .before .before .before .before .if3 .taken) (c .before .before .before .before .before .before .blend-value .ensures (a .levels .now) (a .tables .now) B)
+    rw (c .before .before .before .before .before .before .before .before .before .before .before .if3 .taken) (c .before .before .before .before .before .before .blend-value .ensures (pairs (a .lows .now) (a .highs .now)) (a .tables .now) B)
 
 returns-4 : tie.Need-returns-4
 returns-4 c =
     let a = c .before .before .before .before .before .before .before .before .before .before .before .before .before .before .before .before .args in
     let B : Buffers = record { plane = a .plane .now; prior = a .prior .now; gradient = a .gradient .now; across = a .across .now; down = a .down .now; saved = a .saved .now } in
-    rw (c .before .before .before .before .before .if4 .taken) (c .before .before .move-value .ensures (a .levels .now) (a .tables .now) B)
+    rw (c .before .before .before .before .before .if4 .taken) (c .before .before .move-value .ensures (pairs (a .lows .now) (a .highs .now)) (a .tables .now) B)
 
 returns-5 : tie.Need-returns-5
 returns-5 c =

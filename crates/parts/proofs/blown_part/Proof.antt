@@ -8,11 +8,10 @@ use Rattle.parts.proofs.blown_part.Tie as tie
 
 is-blown-requires : tie.Need-is-blown-requires
 is-blown-requires c κs =
-    let s = c .before .before .before .before .before .before in
-    let r = s .args .run in
+    let r = c .before .before .before .before .before .before .args .run in
     let span = c .before .before .before .span-of .ensures in
-    rw (span .1, span .0, c .before .before .coefs-of .ensures, length-part (r .w * r .h) (s .args .c) (r .count) (s .args .saved .now) (s .pre .3) (s .pre .1))
-    (coefs-fit r (s .pre .0) (s .args .c) (s .pre .1))
+    rw (span .1, span .0, c .before .before .coefs-of .ensures, length-part (r .w * r .h) (c .before .before .before .before .before .before .args .c) (r .count) (c .before .before .before .before .before .before .args .saved .now) (c .before .before .before .before .before .before .pre .3) (c .before .before .before .before .before .before .pre .1))
+    (coefs-fit r (c .before .before .before .before .before .before .pre .0) (c .before .before .before .before .before .before .args .c) (c .before .before .before .before .before .before .pre .1))
 
 returns : tie.Need-returns
 returns c =

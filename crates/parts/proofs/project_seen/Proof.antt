@@ -3,6 +3,7 @@ use mathlib.Core.Path.{_≡_, ap, _∙_}
 use Prim.Native.Nat.{_*_}
 use native.Mathlib.Omega.{arith}
 use lib.ListN.{length}
+use Rattle.start.specs.Coef.{pairs}
 use Rattle.projection.specs.Projection.{Box}
 use Rattle.projection.specs.Blown.{isBlown}
 use Rattle.projection.proofs.Lengths.{BoxLong}
@@ -20,7 +21,7 @@ abbrev box : tie.After-project-part → Box
 box c = record { plane = c .before .before .before .before .before .before .before .before .before .before .args .plane .now; across = c .before .before .before .before .before .before .before .before .before .before .args .across .now; down = c .before .before .before .before .before .before .before .before .before .before .args .down .now; saved = c .before .before .before .before .before .before .before .before .before .before .args .saved .now }
 
 abbrev given : tie.After-project-part → Given
-given c = givenOf (c .before .before .before .before .before .before .before .before .before .before .args .run) (c .before .before .before .before .before .before .before .before .before .before .args .levels .now) (c .before .before .before .before .before .before .before .before .before .before .args .tables .now)
+given c = givenOf (c .before .before .before .before .before .before .before .before .before .before .args .run) (pairs (c .before .before .before .before .before .before .before .before .before .before .args .lows .now) (c .before .before .before .before .before .before .before .before .before .before .args .highs .now)) (c .before .before .before .before .before .before .before .before .before .before .args .tables .now)
 
 long : (c : tie.After-project-part) → BoxLong (c .before .before .before .before .before .before .before .before .before .before .args .run .count * (c .before .before .before .before .before .before .before .before .before .before .args .run .w * c .before .before .before .before .before .before .before .before .before .before .args .run .h)) (box c)
 long c = record { plane-long = c .before .before .before .before .before .before .before .before .before .before .pre .1; across-long = c .before .before .before .before .before .before .before .before .before .before .pre .2; down-long = c .before .before .before .before .before .before .before .before .before .before .pre .3; saved-long = c .before .before .before .before .before .before .before .before .before .before .pre .4 }
@@ -33,8 +34,8 @@ blown-part-requires c κs =
     (f .is-legal, f .below, ap (λ (b : Box). length (b .plane)) e ∙ l .plane-long, ap (λ (b : Box). length (b .saved)) e ∙ l .saved-long)
 
 -- the number is small: no more than the channel's coefficients
-cast-t23 : tie.Need-cast-t23
-cast-t23 c =
+cast-t24 : tie.Need-cast-t24
+cast-t24 c =
     let a = c .before .before .before .before .before .before .before .before .before .before .before .before .before .before .before .before .before .before .before .before .before .args in
     let f = c .before .before .before .before .before .before .before .before .before .before .before .before .before .before .before .before .before .before .before .before .before .pre .0 in
     record {
@@ -62,5 +63,5 @@ returns c =
 pub project-seen-spec : {M : Type 1} → statement M
 project-seen-spec =
     tie.close
-    (tie.spec (λ c κs. search needs) blown-part-requires cast-t23
+    (tie.spec (λ c κs. search needs) blown-part-requires cast-t24
     (λ c. search needs) (λ c. search needs) (λ c. search needs) (λ c. search needs) returns)

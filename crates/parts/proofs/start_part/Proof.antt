@@ -2,6 +2,7 @@
 use mathlib.Core.Path.{_≡_, refl, _∙_}
 use Prim.Native.Nat.{_*_}
 use lib.ListN.{length}
+use Rattle.start.specs.Coef.{pairs}
 use Rattle.calls.proofs.Parts.{length-part}
 use Rattle.parts.proofs.Covered.{covers, lent-long}
 use Rattle.parts.proofs.Started.{part-started}
@@ -16,10 +17,13 @@ own-of-requires : tie.Need-own-of-requires
 own-of-requires c κs = (c .before .before .before .before .before .before .before .before .pre .0 .is-legal, c .before .before .before .before .before .before .before .before .pre .0 .below)
 
 levels-of-requires : tie.Need-levels-of-requires
-levels-of-requires c κs = (c .before .before .before .before .before .before .before .before .before .pre .0 .is-legal, c .before .before .before .before .before .before .before .before .before .pre .0 .below, c .before .before .before .before .before .before .before .before .before .pre .0 .levels-long)
+levels-of-requires c κs = (c .before .before .before .before .before .before .before .before .before .pre .0 .is-legal, c .before .before .before .before .before .before .before .before .before .pre .0 .below, c .before .before .before .before .before .before .before .before .before .pre .0 .levels-long .0)
+
+levels-of-requires-2 : tie.Need-levels-of-requires-2
+levels-of-requires-2 c κs = (c .before .before .before .before .before .before .before .before .before .before .pre .0 .is-legal, c .before .before .before .before .before .before .before .before .before .before .pre .0 .below, c .before .before .before .before .before .before .before .before .before .before .pre .0 .levels-long .1)
 
 table-of-requires : tie.Need-table-of-requires
-table-of-requires c κs = (c .before .before .before .before .before .before .before .before .before .before .pre .0 .below, c .before .before .before .before .before .before .before .before .before .before .pre .0 .tables-long)
+table-of-requires c κs = (c .before .before .before .before .before .before .before .before .before .before .before .pre .0 .below, c .before .before .before .before .before .before .before .before .before .before .before .pre .0 .tables-long)
 
 cast-w : tie.Need-cast-w
 cast-w c = search needs
@@ -49,7 +53,7 @@ part-start-start-2 : tie.Need-part-start-start-2
 part-start-start-2 c = search needs
 
 part-start-end-2 : tie.Need-part-start-end-2
-part-start-end-2 c = search needs
+part-start-end-2 c = search (needs, c .before .before .before .before .before .before .before .before .before .before .before .before .before .before .before .pre)
 
 mul-start-3 : tie.Need-mul-start-3
 mul-start-3 c = search needs
@@ -61,7 +65,7 @@ part-start-start-3 : tie.Need-part-start-start-3
 part-start-start-3 c = search needs
 
 part-start-end-3 : tie.Need-part-start-end-3
-part-start-end-3 c = search needs
+part-start-end-3 c = search (needs, c .before .before .before .before .before .before .before .before .before .before .before .before .before .before .before .before .pre)
 
 mul-start-4 : tie.Need-mul-start-4
 mul-start-4 c = search needs
@@ -73,7 +77,7 @@ part-start-start-4 : tie.Need-part-start-start-4
 part-start-start-4 c = search needs
 
 part-start-end-4 : tie.Need-part-start-end-4
-part-start-end-4 c = search needs
+part-start-end-4 c = search (needs, c .before .before .before .before .before .before .before .before .before .before .before .before .before .before .before .before .before .pre)
 
 mul-start-5 : tie.Need-mul-start-5
 mul-start-5 c = search needs
@@ -85,7 +89,7 @@ part-start-start-5 : tie.Need-part-start-start-5
 part-start-start-5 c = search needs
 
 part-start-end-5 : tie.Need-part-start-end-5
-part-start-end-5 c = search needs
+part-start-end-5 c = search (needs, c .before .before .before .before .before .before .before .before .before .before .before .before .before .before .before .before .before .before .pre)
 
 mul-start-6 : tie.Need-mul-start-6
 mul-start-6 c = search needs
@@ -97,16 +101,16 @@ part-start-start-6 : tie.Need-part-start-start-6
 part-start-start-6 c = search needs
 
 part-start-end-6 : tie.Need-part-start-end-6
-part-start-end-6 c = search (needs, c .before .before .before .before .before .before .before .before .before .before .before .before .before .before .before .before .before .before .pre)
+part-start-end-6 c = search (needs, c .before .before .before .before .before .before .before .before .before .before .before .before .before .before .before .before .before .before .before .pre)
 
 start-requires : tie.Need-start-requires
 start-requires c κs =
-    let a = c .before .before .before .before .before .before .before .before .before .before .before .before .before .before .before .before .before .before .before .args in
-    let p = c .before .before .before .before .before .before .before .before .before .before .before .before .before .before .before .before .before .before .before .pre in
+    let a = c .before .before .before .before .before .before .before .before .before .before .before .before .before .before .before .before .before .before .before .before .args in
+    let p = c .before .before .before .before .before .before .before .before .before .before .before .before .before .before .before .before .before .before .before .before .pre in
     let f = p .0 in
-    let s = c .before .before .before .before .before .before .before .before .before .before .before .span-of in (
-      rw (c .before .before .before .before .before .before .before .before .before .before .own-of .ensures) (covers (a .run) (f .is-legal) (a .c) (f .below)),
-      rw (c .before .before .before .before .before .before .before .before .before .before .own-of .ensures, c .before .before .before .before .before .before .before .before .before .levels-of .ensures, c .before .before .before .before .before .before .before .before .table-of .ensures) (lent-long (a .run) (a .c) (a .levels .now) (a .tables .now) f),
+    let s = c .before .before .before .before .before .before .before .before .before .before .before .before .span-of in (
+      rw (c .before .before .before .before .before .before .before .before .before .before .before .own-of .ensures) (covers (a .run) (f .is-legal) (a .c) (f .below)),
+      rw (c .before .before .before .before .before .before .before .before .before .before .before .own-of .ensures, c .before .before .before .before .before .before .before .before .before .before .levels-of .ensures, c .before .before .before .before .before .before .before .before .before .levels-of2 .ensures, c .before .before .before .before .before .before .before .before .table-of .ensures) (lent-long (a .run) (a .c) (pairs (a .lows .now) (a .highs .now)) (a .tables .now) f),
       rw (s .ensures .1, s .ensures .0) (length-part (a .run .w * a .run .h) (a .c) (a .run .count) (a .plane .now) (p .1) (f .below)),
       rw (s .ensures .1, s .ensures .0) (length-part (a .run .w * a .run .h) (a .c) (a .run .count) (a .prior .now) (p .2) (f .below)),
       rw (s .ensures .1, s .ensures .0) (length-part (a .run .w * a .run .h) (a .c) (a .run .count) (a .gradient .now) (p .3) (f .below)),
@@ -135,10 +139,10 @@ same-length-6 c = search needs
 
 returns : tie.Need-returns
 returns c =
-    let a = c .before .before .before .before .before .before .before .before .before .before .before .before .before .before .before .before .before .before .before .before .before .before .before .before .before .before .before .before .before .before .before .before .args in
-    part-started (a .run) (a .c) (a .levels .now) (a .tables .now) (record { plane = a .plane .now; prior = a .prior .now; gradient = a .gradient .now; across = a .across .now; down = a .down .now; saved = a .saved .now })
-    (c .before .before .before .before .before .before .before .before .before .before .before .before .before .before .before .before .before .before .before .before .before .before .before .before .span-of .ensures .0) (c .before .before .before .before .before .before .before .before .before .before .before .before .before .before .before .before .before .before .before .before .before .before .before .before .span-of .ensures .1)
-    (c .before .before .before .before .before .before .before .before .before .before .before .before .before .before .before .before .before .before .before .before .before .before .before .own-of .ensures) (c .before .before .before .before .before .before .before .before .before .before .before .before .before .before .before .before .before .before .before .before .before .before .levels-of .ensures) (c .before .before .before .before .before .before .before .before .before .before .before .before .before .before .before .before .before .before .before .before .before .table-of .ensures)
+    let a = c .before .before .before .before .before .before .before .before .before .before .before .before .before .before .before .before .before .before .before .before .before .before .before .before .before .before .before .before .before .before .before .before .before .args in
+    part-started (a .run) (a .c) (pairs (a .lows .now) (a .highs .now)) (a .tables .now) (record { plane = a .plane .now; prior = a .prior .now; gradient = a .gradient .now; across = a .across .now; down = a .down .now; saved = a .saved .now })
+    (c .before .before .before .before .before .before .before .before .before .before .before .before .before .before .before .before .before .before .before .before .before .before .before .before .before .span-of .ensures .0) (c .before .before .before .before .before .before .before .before .before .before .before .before .before .before .before .before .before .before .before .before .before .before .before .before .before .span-of .ensures .1)
+    (c .before .before .before .before .before .before .before .before .before .before .before .before .before .before .before .before .before .before .before .before .before .before .before .before .own-of .ensures) (c .before .before .before .before .before .before .before .before .before .before .before .before .before .before .before .before .before .before .before .before .before .before .before .levels-of .ensures) (c .before .before .before .before .before .before .before .before .before .before .before .before .before .before .before .before .before .before .before .before .before .before .levels-of2 .ensures) (c .before .before .before .before .before .before .before .before .before .before .before .before .before .before .before .before .before .before .before .before .before .table-of .ensures)
     (c .before .before .before .before .before .before .before .before .before .before .before .before .start .ensures)
 
 pub start-part-spec : {M : Type 1} → statement M
@@ -147,7 +151,7 @@ start-part-spec =
     (tie.spec
     span-of-requires
     own-of-requires
-    levels-of-requires
+    levels-of-requires levels-of-requires-2
     table-of-requires
     cast-w
     cast-h

@@ -2,6 +2,7 @@
 use mathlib.Core.Path.{_≡_, sym, ap, _∙_}
 use Prim.Native.Nat.{_≤_, _-_, _*_}
 use native.Mathlib.Omega.{arith}
+use Rattle.start.specs.Coef.{pairs}
 use Rattle.fold.specs.Fold.{upto}
 use Rattle.fold.proofs.Loops.{upto-none, upto-call, upto-end}
 use Rattle.start.specs.Buffers.{Buffers}
@@ -15,12 +16,12 @@ use Rattle.parts.proofs.start_parts.Statement.{statement}
 use Rattle.parts.proofs.start_parts.Tie as tie
 
 abbrev Inv-loop : tie.InvT-loop
-Inv-loop run levels tables plane₀ prior₀ gradient₀ across₀ down₀ saved₀ c₀ c-end plane prior gradient across down saved c =
+Inv-loop run lows highs tables plane₀ prior₀ gradient₀ across₀ down₀ saved₀ c₀ c-end plane prior gradient across down saved c =
     (c ≤ c-end)
-    × (record { plane = plane; prior = prior; gradient = gradient; across = across; down = down; saved = saved } ≡ upto (startedPart (givenOf run levels tables)) c (record { plane = plane₀; prior = prior₀; gradient = gradient₀; across = across₀; down = down₀; saved = saved₀ }))
+    × (record { plane = plane; prior = prior; gradient = gradient; across = across; down = down; saved = saved } ≡ upto (startedPart (givenOf run (pairs lows highs) tables)) c (record { plane = plane₀; prior = prior₀; gradient = gradient₀; across = across₀; down = down₀; saved = saved₀ }))
 
 abbrev μ-loop : tie.MeasureT-loop
-μ-loop run levels tables plane₀ prior₀ gradient₀ across₀ down₀ saved₀ c₀ c-end plane prior gradient across down saved c = c-end - c
+μ-loop run lows highs tables plane₀ prior₀ gradient₀ across₀ down₀ saved₀ c₀ c-end plane prior gradient across down saved c = c-end - c
 
 -- the six have the record's length after each channel
 six : (c : tie.At-loop Inv-loop μ-loop)
@@ -30,7 +31,7 @@ six c =
     let a = c .before .before .before .before .before .before .before .before .args in
     let p = c .before .before .before .before .before .before .before .before .pre in
     let B : Buffers = record { plane = a .plane .now; prior = a .prior .now; gradient = a .gradient .now; across = a .across .now; down = a .down .now; saved = a .saved .now } in
-    loop-sized (givenOf (a .run) (a .levels .now) (a .tables .now)) B
+    loop-sized (givenOf (a .run) (pairs (a .lows .now) (a .highs .now)) (a .tables .now)) B
     (six-long (a .run .count * (a .run .w * a .run .h)) B (p .1) (p .2) (p .3) (p .4) (p .5) (p .6))
     (c .loop .c) (c .loop .inv .0) (c .loop .inv .1)
 
@@ -42,9 +43,8 @@ loop-holds c = (omega arith, upto-none _ _)
 
 start-part-requires : tie.Need-start-part-requires Inv-loop μ-loop
 start-part-requires c κs =
-    let l = c .before .before .before .before .before .before .before in
-    let z = six l in
-    (c .before .before .before .before .before .before .before .before .before .before .before .before .before .before .before .pre .0 (l .loop .c) (c .before .before .before .before .before .before .loop-test .taken), z Plane, z Prior, z Gradient, z Across, z Down, z Saved)
+    let z = six (c .before .before .before .before .before .before .before) in
+    (c .before .before .before .before .before .before .before .before .before .before .before .before .before .before .before .pre .0 (c .before .before .before .before .before .before .before .loop .c) (c .before .before .before .before .before .before .loop-test .taken), z Plane, z Prior, z Gradient, z Across, z Down, z Saved)
 
 add-c : tie.Need-add-c Inv-loop μ-loop
 add-c c = record { fits = omega (arith, c .before .before .before .before .before .before .before .before .before .before .before .before .before .before .before .before .before .before .before .loop-test .taken, three (c .before .before .before .before .before .before .before .before .before .before .before .before .before .before .before .before .before .before .before)) }

@@ -2,6 +2,7 @@
 use mathlib.Core.Path.{sym, _∙_}
 use native.Mathlib.Omega.{arith}
 use lib.ListN.{length}
+use Rattle.start.specs.Coef.{pairs}
 use Rattle.calls.specs.Calls.{startRefusal, allSix, lengths}
 use Rattle.record.specs.Model.{placesOf, givenOf}
 use Rattle.serve.proofs.Served.{passed, refused-whole, done-whole}
@@ -12,12 +13,12 @@ use Rattle.serve.proofs.serve_value.Tie as tie
 returns : tie.Need-returns
 returns c =
     let a = c .before .before .before .before .before .before .before .before .before .before .before .before .before .args in
-    refused-whole (a .run) (a .jobs .now) (a .channels .now) (a .answers .now) (a .levels .now) (a .tables .now) (record { plane = a .plane .now; prior = a .prior .now; gradient = a .gradient .now; across = a .across .now; down = a .down .now; saved = a .saved .now }) (c .before .serve-refusal .result) (c .before .serve-refusal .ensures) (c .if1 .taken)
+    refused-whole (a .run) (a .jobs .now) (a .channels .now) (a .answers .now) (pairs (a .lows .now) (a .highs .now)) (a .tables .now) (record { plane = a .plane .now; prior = a .prior .now; gradient = a .gradient .now; across = a .across .now; down = a .down .now; saved = a .saved .now }) (c .before .serve-refusal .result) (c .before .serve-refusal .ensures) (c .if1 .taken)
 
 list-value-requires : tie.Need-list-value-requires
 list-value-requires c κs =
     let a = c .before .before .before .before .before .before .before .before .before .before .before .before .before .before .before .before .before .before .before .before .before .before .before .before .before .before .before .before .before .before .before .before .before .before .before .before .before .before .before .before .args in
-    let p = passed (startRefusal (givenOf (a .run) (a .levels .now) (a .tables .now)) (placesOf (a .run)) (lengths allSix (record { plane = a .plane .now; prior = a .prior .now; gradient = a .gradient .now; across = a .across .now; down = a .down .now; saved = a .saved .now }))) (a .jobs .now) (length (a .channels .now)) (length (a .answers .now))
+    let p = passed (startRefusal (givenOf (a .run) (pairs (a .lows .now) (a .highs .now)) (a .tables .now)) (placesOf (a .run)) (lengths allSix (record { plane = a .plane .now; prior = a .prior .now; gradient = a .gradient .now; across = a .across .now; down = a .down .now; saved = a .saved .now }))) (a .jobs .now) (length (a .channels .now)) (length (a .answers .now))
     (sym (c .before .before .before .before .before .before .before .before .before .before .before .before .before .before .before .before .before .before .before .before .before .before .before .before .before .before .before .before .serve-refusal .ensures) ∙ c .before .before .before .before .before .before .before .before .before .before .before .before .before .before .before .before .before .before .before .before .before .before .before .before .before .before .before .if1 .left) in
     (p .channels-long, p .bytes-long, p .all-jobs)
 
@@ -42,7 +43,7 @@ same-length-7 c = omega (arith, c .before .saved2 .given, c .before .before .bef
 returns-2 : tie.Need-returns-2
 returns-2 c =
     let a = c .before .before .before .before .before .before .before .before .before .before .before .before .before .before .before .before .before .before .before .before .before .before .before .before .before .before .before .before .before .before .before .before .before .before .before .before .before .before .before .before .before .before .before .before .before .before .before .before .before .before .before .before .before .before .before .args in
-    done-whole (a .run) (a .jobs .now) (a .channels .now) (a .answers .now) (a .levels .now) (a .tables .now) (record { plane = a .plane .now; prior = a .prior .now; gradient = a .gradient .now; across = a .across .now; down = a .down .now; saved = a .saved .now })
+    done-whole (a .run) (a .jobs .now) (a .channels .now) (a .answers .now) (pairs (a .lows .now) (a .highs .now)) (a .tables .now) (record { plane = a .plane .now; prior = a .prior .now; gradient = a .gradient .now; across = a .across .now; down = a .down .now; saved = a .saved .now })
     (sym (c .before .before .before .before .before .before .before .before .before .before .before .before .before .before .before .before .before .before .before .before .before .before .before .before .before .before .before .before .before .before .before .before .before .before .before .before .before .before .before .before .before .before .before .serve-refusal .ensures) ∙ c .before .before .before .before .before .before .before .before .before .before .before .before .before .before .before .before .before .before .before .before .before .before .before .before .before .before .before .before .before .before .before .before .before .before .before .before .before .before .before .before .before .before .if1 .left) (c .before .before .before .before .before .before .before .before .before .before .before .before .before .before .before .before .before .before .before .before .before .before .before .before .before .before .before .before .before .before .before .before .before .before .before .start-value .result .answer) (c .before .before .before .before .before .before .before .before .before .before .before .before .before .before .before .before .before .before .before .before .before .before .before .before .before .before .before .before .before .before .before .before .before .before .before .start-value .ensures) (c .before .before .before .before .before .before .before .before .before .before .before .before .before .before .list-value .ensures)
 
 pub serve-value-spec : {M : Type 1} → statement M

@@ -2,6 +2,7 @@
 use mathlib.Core.Path.{_≡_, sym, _∙_}
 use mathlib.Core.Bool.{false}
 use mathlib.Core.List.{[]}
+use Rattle.start.specs.Coef.{pairs}
 use Rattle.calls.specs.Jobs.{blend}
 use Rattle.calls.proofs.Tests.{by-lent, by-turn, lent-of}
 use Rattle.record.specs.Model.{givenOf, placesOf}
@@ -16,7 +17,7 @@ returns c =
 
 blend-turn-refusal-requires : tie.Need-blend-turn-refusal-requires
 blend-turn-refusal-requires c κs =
-    lent-of (givenOf (c .before .before .before .args .run) [] []) (placesOf (c .before .before .before .args .run)) (c .before .before .before .args .lengths .now) false (sym (c .before .lend-refusal .ensures [] []) ∙ c .if1 .left) .is-legal
+    lent-of (givenOf (c .before .before .before .args .run) (pairs [] []) []) (placesOf (c .before .before .before .args .run)) (c .before .before .before .args .lengths .now) false (sym (c .before .lend-refusal .ensures (pairs [] []) []) ∙ c .if1 .left) .is-legal
 
 returns-2 : tie.Need-returns-2
 returns-2 c =

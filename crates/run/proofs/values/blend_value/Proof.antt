@@ -3,6 +3,7 @@ use mathlib.Core.Path.{_≡_, refl, sym, ap, _∙_}
 use mathlib.Core.List.{[], _∷_}
 use Prim.Native.Nat.{_/_}
 use lib.ListN.{length}
+use Rattle.start.specs.Coef.{pairs}
 use Rattle.calls.specs.Run.{place}
 use Rattle.calls.specs.Jobs.{blend}
 use Rattle.calls.specs.Calls as Calls
@@ -18,7 +19,7 @@ use Rattle.run.proofs.values.blend_value.Statement.{statement}
 use Rattle.run.proofs.values.blend_value.Tie as tie
 
 passed : (c : tie.Else1) → Blendable (c .before .before .before .before .before .before .before .args .run) (length (c .before .before .before .before .before .before .before .args .plane .now) ∷ length (c .before .before .before .before .before .before .before .args .gradient .now) ∷ length (c .before .before .before .before .before .before .before .args .across .now) ∷ length (c .before .before .before .before .before .before .before .args .down .now) ∷ [])
-passed c = blendable (c .before .before .before .before .before .before .before .args .run) [] [] (length (c .before .before .before .before .before .before .before .args .plane .now) ∷ length (c .before .before .before .before .before .before .before .args .gradient .now) ∷ length (c .before .before .before .before .before .before .before .args .across .now) ∷ length (c .before .before .before .before .before .before .before .args .down .now) ∷ []) (sym (c .before .blend-refusal .ensures [] []) ∙ c .if1 .left)
+passed c = blendable (c .before .before .before .before .before .before .before .args .run) (pairs [] []) [] (length (c .before .before .before .before .before .before .before .args .plane .now) ∷ length (c .before .before .before .before .before .before .before .args .gradient .now) ∷ length (c .before .before .before .before .before .before .before .args .across .now) ∷ length (c .before .before .before .before .before .before .before .args .down .now) ∷ []) (sym (c .before .blend-refusal .ensures (pairs [] []) []) ∙ c .if1 .left)
 
 returns : tie.Need-returns
 returns c =

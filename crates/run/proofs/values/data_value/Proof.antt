@@ -3,6 +3,7 @@ use mathlib.Core.Path.{_≡_, refl, sym, ap, _∙_}
 use mathlib.Core.List.{List, [], _∷_}
 use lib.Ieee.{Float}
 use lib.ListN.{length}
+use Rattle.start.specs.Coef.{pairs}
 use Rattle.calls.specs.Jobs.{fidelity, on}
 use Rattle.record.specs.Model.{givenOf}
 use Rattle.parts.specs.Parts.{Fed}
@@ -15,19 +16,19 @@ use Rattle.run.proofs.values.data_value.Tie as tie
 
 passed : (c : tie.Else1) → Accepted (c .before .before .before .before .before .before .args .run) fidelity (c .before .before .before .before .before .before .args .c) (length (c .before .before .before .before .before .before .args .gradient .now) ∷ length (c .before .before .before .before .before .before .args .saved .now) ∷ [])
 passed c =
-    accepted (c .before .before .before .before .before .before .args .run) (c .before .before .before .before .before .before .args .levels .now) (c .before .before .before .before .before .before .args .tables .now) fidelity (c .before .before .before .before .before .before .args .c) (length (c .before .before .before .before .before .before .args .gradient .now) ∷ length (c .before .before .before .before .before .before .args .saved .now) ∷ [])
+    accepted (c .before .before .before .before .before .before .args .run) (pairs (c .before .before .before .before .before .before .args .lows .now) (c .before .before .before .before .before .before .args .highs .now)) (c .before .before .before .before .before .before .args .tables .now) fidelity (c .before .before .before .before .before .before .args .c) (length (c .before .before .before .before .before .before .args .gradient .now) ∷ length (c .before .before .before .before .before .before .args .saved .now) ∷ [])
     (sym (c .before .fed-refusal .ensures fidelity refl refl) ∙ c .if1 .left)
 
-given : (c : tie.Else1) → Fed (c .before .before .before .before .before .before .args .run) (c .before .before .before .before .before .before .args .c) (c .before .before .before .before .before .before .args .levels .now) (c .before .before .before .before .before .before .args .tables .now)
+given : (c : tie.Else1) → Fed (c .before .before .before .before .before .before .args .run) (c .before .before .before .before .before .before .args .c) (pairs (c .before .before .before .before .before .before .args .lows .now) (c .before .before .before .before .before .before .args .highs .now)) (c .before .before .before .before .before .before .args .tables .now)
 given c =
-    fed (c .before .before .before .before .before .before .args .run) (c .before .before .before .before .before .before .args .levels .now) (c .before .before .before .before .before .before .args .tables .now) fidelity (c .before .before .before .before .before .before .args .c) (length (c .before .before .before .before .before .before .args .gradient .now) ∷ length (c .before .before .before .before .before .before .args .saved .now) ∷ []) refl
+    fed (c .before .before .before .before .before .before .args .run) (pairs (c .before .before .before .before .before .before .args .lows .now) (c .before .before .before .before .before .before .args .highs .now)) (c .before .before .before .before .before .before .args .tables .now) fidelity (c .before .before .before .before .before .before .args .c) (length (c .before .before .before .before .before .before .args .gradient .now) ∷ length (c .before .before .before .before .before .before .args .saved .now) ∷ []) refl
     (sym (c .before .fed-refusal .ensures fidelity refl refl) ∙ c .if1 .left)
 
 returns : tie.Need-returns
 returns c =
     let a = c .before .before .before .before .before .before .args in
     λ o.
-    call-refused (a .run) (a .levels .now) (a .tables .now) (on fidelity (a .c)) (forData o (a .gradient .now) (a .saved .now)) (c .before .fed-refusal .result)
+    call-refused (a .run) (pairs (a .lows .now) (a .highs .now)) (a .tables .now) (on fidelity (a .c)) (forData o (a .gradient .now) (a .saved .now)) (c .before .fed-refusal .result)
     (c .before .fed-refusal .ensures fidelity refl refl) (c .if1 .taken)
 
 data-part-requires : tie.Need-data-part-requires
@@ -41,10 +42,10 @@ returns-2 c =
     let a = c .before .before .before .before .before .before .before .before .before .before .before .args in
     let r = a .run in
     λ o.
-    job-result r (a .levels .now) (a .tables .now) fidelity (a .c) (forData o (a .gradient .now) (a .saved .now))
+    job-result r (pairs (a .lows .now) (a .highs .now)) (a .tables .now) fidelity (a .c) (forData o (a .gradient .now) (a .saved .now))
     (sym (c .before .before .before .before .before .before .fed-refusal .ensures fidelity refl refl) ∙ c .before .before .before .before .before .if1 .left)
     (c .advanced .ensures)
-    (data-buffers (givenOf r (a .levels .now) (a .tables .now)) (a .c) o (a .gradient .now) (a .saved .now)
+    (data-buffers (givenOf r (pairs (a .lows .now) (a .highs .now)) (a .tables .now)) (a .c) o (a .gradient .now) (a .saved .now)
     ∙ sym (ap (λ (g : List Float). forData o g (a .saved .now)) (c .before .before .before .data-part .ensures)))
 
 pub data-value-spec : {M : Type 1} → statement M

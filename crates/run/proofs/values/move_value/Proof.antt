@@ -4,6 +4,7 @@ use mathlib.Core.List.{List, [], _∷_}
 use lib.Ieee.{Float}
 use Prim.Native.Nat.{_*_, _/_}
 use lib.ListN.{length}
+use Rattle.start.specs.Coef.{pairs}
 use Rattle.calls.specs.Run.{place}
 use Rattle.calls.specs.Jobs.{move, on}
 use Rattle.demand.specs.Solver.{constantsOf}
@@ -17,7 +18,7 @@ use Rattle.run.proofs.values.move_value.Statement.{statement}
 use Rattle.run.proofs.values.move_value.Tie as tie
 
 passed : (c : tie.Else1) → Accepted (c .before .before .before .before .before .args .run) move (c .before .before .before .before .before .args .c) (length (c .before .before .before .before .before .args .plane .now) ∷ length (c .before .before .before .before .before .args .gradient .now) ∷ [])
-passed c = accepted (c .before .before .before .before .before .args .run) [] [] move (c .before .before .before .before .before .args .c) (length (c .before .before .before .before .before .args .plane .now) ∷ length (c .before .before .before .before .before .args .gradient .now) ∷ []) (sym (c .before .job-refusal .ensures move [] [] refl refl) ∙ c .if1 .left)
+passed c = accepted (c .before .before .before .before .before .args .run) (pairs [] []) [] move (c .before .before .before .before .before .args .c) (length (c .before .before .before .before .before .args .plane .now) ∷ length (c .before .before .before .before .before .args .gradient .now) ∷ []) (sym (c .before .job-refusal .ensures move (pairs [] []) [] refl refl) ∙ c .if1 .left)
 
 returns : tie.Need-returns
 returns c =

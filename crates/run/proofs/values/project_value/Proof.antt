@@ -3,6 +3,7 @@ use mathlib.Core.Path.{_≡_, refl, sym, ap, _∙_}
 use mathlib.Core.List.{List, [], _∷_}
 use Prim.Native.Nat.{ℕ}
 use lib.ListN.{length}
+use Rattle.start.specs.Coef.{pairs}
 use Rattle.projection.specs.Projection.{Box}
 use Rattle.calls.specs.Jobs.{project, on}
 use Rattle.record.specs.Model.{givenOf, seenOf}
@@ -19,19 +20,19 @@ lens c = length (c .before .before .before .before .before .before .before .befo
 
 passed : (c : tie.Else1) → Accepted (c .before .before .before .before .before .before .before .before .args .run) project (c .before .before .before .before .before .before .before .before .args .c) (lens c)
 passed c =
-    accepted (c .before .before .before .before .before .before .before .before .args .run) (c .before .before .before .before .before .before .before .before .args .levels .now) (c .before .before .before .before .before .before .before .before .args .tables .now) project (c .before .before .before .before .before .before .before .before .args .c) (lens c)
+    accepted (c .before .before .before .before .before .before .before .before .args .run) (pairs (c .before .before .before .before .before .before .before .before .args .lows .now) (c .before .before .before .before .before .before .before .before .args .highs .now)) (c .before .before .before .before .before .before .before .before .args .tables .now) project (c .before .before .before .before .before .before .before .before .args .c) (lens c)
     (sym (c .before .fed-refusal .ensures project refl refl) ∙ c .if1 .left)
 
-given : (c : tie.Else1) → Fed (c .before .before .before .before .before .before .before .before .args .run) (c .before .before .before .before .before .before .before .before .args .c) (c .before .before .before .before .before .before .before .before .args .levels .now) (c .before .before .before .before .before .before .before .before .args .tables .now)
+given : (c : tie.Else1) → Fed (c .before .before .before .before .before .before .before .before .args .run) (c .before .before .before .before .before .before .before .before .args .c) (pairs (c .before .before .before .before .before .before .before .before .args .lows .now) (c .before .before .before .before .before .before .before .before .args .highs .now)) (c .before .before .before .before .before .before .before .before .args .tables .now)
 given c =
-    fed (c .before .before .before .before .before .before .before .before .args .run) (c .before .before .before .before .before .before .before .before .args .levels .now) (c .before .before .before .before .before .before .before .before .args .tables .now) project (c .before .before .before .before .before .before .before .before .args .c) (lens c) refl
+    fed (c .before .before .before .before .before .before .before .before .args .run) (pairs (c .before .before .before .before .before .before .before .before .args .lows .now) (c .before .before .before .before .before .before .before .before .args .highs .now)) (c .before .before .before .before .before .before .before .before .args .tables .now) project (c .before .before .before .before .before .before .before .before .args .c) (lens c) refl
     (sym (c .before .fed-refusal .ensures project refl refl) ∙ c .if1 .left)
 
 returns : tie.Need-returns
 returns c =
     let a = c .before .before .before .before .before .before .before .before .args in
     λ o.
-    call-refused (a .run) (a .levels .now) (a .tables .now) (on project (a .c)) (forProject o (a .plane .now) (a .across .now) (a .down .now) (a .saved .now)) (c .before .fed-refusal .result)
+    call-refused (a .run) (pairs (a .lows .now) (a .highs .now)) (a .tables .now) (on project (a .c)) (forProject o (a .plane .now) (a .across .now) (a .down .now) (a .saved .now)) (c .before .fed-refusal .result)
     (c .before .fed-refusal .ensures project refl refl) (c .if1 .taken)
 
 project-seen-requires : tie.Need-project-seen-requires
@@ -45,10 +46,10 @@ projected-requires c κs = (passed (c .before .before .before .before .before .b
 returns-2 : tie.Need-returns-2
 returns-2 c =
     let a = c .before .before .before .before .before .before .before .before .before .before .before .before .before .before .before .before .before .before .before .before .before .before .before .args in
-    let G = givenOf (a .run) (a .levels .now) (a .tables .now) in
+    let G = givenOf (a .run) (pairs (a .lows .now) (a .highs .now)) (a .tables .now) in
     let p = c .before .before .before .before .before .before .before .before .before .before .project-seen .ensures in
     λ o.
-    project-result (a .run) (a .levels .now) (a .tables .now) (a .c) (forProject o (a .plane .now) (a .across .now) (a .down .now) (a .saved .now))
+    project-result (a .run) (pairs (a .lows .now) (a .highs .now)) (a .tables .now) (a .c) (forProject o (a .plane .now) (a .across .now) (a .down .now) (a .saved .now))
     (sym (c .before .before .before .before .before .before .before .before .before .before .before .before .before .before .before .before .fed-refusal .ensures project refl refl) ∙ c .before .before .before .before .before .before .before .before .before .before .before .before .before .before .before .if1 .left)
     (seenOf (c .before .before .before .before .before .before .before .before .before .before .project-seen .result)) (λ i.
     record {

@@ -3,6 +3,7 @@ use mathlib.Core.Path.{_≡_, refl, sym, ap, _∙_}
 use mathlib.Core.List.{[], _∷_}
 use Prim.Native.Nat.{_*_, _/_}
 use lib.ListN.{length}
+use Rattle.start.specs.Coef.{pairs}
 use Rattle.calls.specs.Run.{place}
 use Rattle.calls.specs.Jobs.{push, on}
 use Rattle.steps.specs.Solve.{Planes}
@@ -17,7 +18,7 @@ use Rattle.run.proofs.values.push_value.Statement.{statement}
 use Rattle.run.proofs.values.push_value.Tie as tie
 
 passed : (c : tie.Else1) → Accepted (c .before .before .before .before .before .args .run) push (c .before .before .before .before .before .args .c) (length (c .before .before .before .before .before .args .plane .now) ∷ length (c .before .before .before .before .before .args .prior .now) ∷ [])
-passed c = accepted (c .before .before .before .before .before .args .run) [] [] push (c .before .before .before .before .before .args .c) (length (c .before .before .before .before .before .args .plane .now) ∷ length (c .before .before .before .before .before .args .prior .now) ∷ []) (sym (c .before .job-refusal .ensures push [] [] refl refl) ∙ c .if1 .left)
+passed c = accepted (c .before .before .before .before .before .args .run) (pairs [] []) [] push (c .before .before .before .before .before .args .c) (length (c .before .before .before .before .before .args .plane .now) ∷ length (c .before .before .before .before .before .args .prior .now) ∷ []) (sym (c .before .job-refusal .ensures push (pairs [] []) [] refl refl) ∙ c .if1 .left)
 
 returns : tie.Need-returns
 returns c =

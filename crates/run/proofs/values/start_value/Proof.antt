@@ -1,5 +1,6 @@
 -- `start_value`: refused as it was, or every channel started and the record cleared.
 use mathlib.Core.Path.{_≡_, sym, _∙_}
+use Rattle.start.specs.Coef.{pairs}
 use Rattle.start.specs.Buffers.{Buffers}
 use Rattle.calls.specs.Calls.{lengths, allSix}
 use Rattle.run.proofs.Startable.{start-refused, Startable, startable, start-result}
@@ -9,15 +10,15 @@ use Rattle.run.proofs.values.start_value.Tie as tie
 
 passed : (c : tie.Else1)
     → let a = c .before .before .before .before .before .before .before .before .before .before .args in
-    Startable (a .run) (a .levels .now) (a .tables .now) (lengths allSix (record { plane = a .plane .now; prior = a .prior .now; gradient = a .gradient .now; across = a .across .now; down = a .down .now; saved = a .saved .now }))
+    Startable (a .run) (pairs (a .lows .now) (a .highs .now)) (a .tables .now) (lengths allSix (record { plane = a .plane .now; prior = a .prior .now; gradient = a .gradient .now; across = a .across .now; down = a .down .now; saved = a .saved .now }))
 passed c =
     let a = c .before .before .before .before .before .before .before .before .before .before .args in
-    startable (a .run) (a .levels .now) (a .tables .now) (lengths allSix (record { plane = a .plane .now; prior = a .prior .now; gradient = a .gradient .now; across = a .across .now; down = a .down .now; saved = a .saved .now })) (sym (c .before .start-refusal .ensures) ∙ c .if1 .left)
+    startable (a .run) (pairs (a .lows .now) (a .highs .now)) (a .tables .now) (lengths allSix (record { plane = a .plane .now; prior = a .prior .now; gradient = a .gradient .now; across = a .across .now; down = a .down .now; saved = a .saved .now })) (sym (c .before .start-refusal .ensures) ∙ c .if1 .left)
 
 returns : tie.Need-returns
 returns c =
     let a = c .before .before .before .before .before .before .before .before .before .before .args in
-    start-refused (a .run) (a .levels .now) (a .tables .now) (record { plane = a .plane .now; prior = a .prior .now; gradient = a .gradient .now; across = a .across .now; down = a .down .now; saved = a .saved .now }) (c .before .start-refusal .result)
+    start-refused (a .run) (pairs (a .lows .now) (a .highs .now)) (a .tables .now) (record { plane = a .plane .now; prior = a .prior .now; gradient = a .gradient .now; across = a .across .now; down = a .down .now; saved = a .saved .now }) (c .before .start-refusal .result)
     (c .before .start-refusal .ensures) (c .if1 .taken)
 
 start-parts-requires : tie.Need-start-parts-requires
@@ -31,7 +32,7 @@ cleared-requires c κs = passed (c .before .before .before .before .before .befo
 returns-2 : tie.Need-returns-2
 returns-2 c =
     let a = c .before .before .before .before .before .before .before .before .before .before .before .before .before .before .before .before .before .before .before .before .before .before .before .before .before .before .before .before .before .before .args in
-    start-result (a .run) (a .levels .now) (a .tables .now) (record { plane = a .plane .now; prior = a .prior .now; gradient = a .gradient .now; across = a .across .now; down = a .down .now; saved = a .saved .now })
+    start-result (a .run) (pairs (a .lows .now) (a .highs .now)) (a .tables .now) (record { plane = a .plane .now; prior = a .prior .now; gradient = a .gradient .now; across = a .across .now; down = a .down .now; saved = a .saved .now })
     (sym (c .before .before .before .before .before .before .before .before .before .before .before .before .before .before .before .before .before .before .before .before .before .start-refusal .ensures) ∙ c .before .before .before .before .before .before .before .before .before .before .before .before .before .before .before .before .before .before .before .before .if1 .left)
     (c .cleared .ensures) (c .before .before .before .before .before .before .before .before .before .before .before .before .before .start-parts .ensures)
 
