@@ -11,7 +11,7 @@ use lib.IntN.{ℤ, pos, negsuc}
 use lib.Ieee.{Float, nan, inf, fin}
 use lib.Ieee.Fits.{and-i, eq→eqb}
 use lib.ListN.{length, getD}
-use Rattle.contents.specs.Legal.{Between, LegalSide, LegalWeight, LegalLevel, LegalChannel, LegalSheet, LegalQuantisers, LegalLevels}
+use Rattle.contents.specs.Legal.{Between, LegalSide, LegalWeight, LegalLevel, LegalChannel, LegalSheet, LegalQuantisers, LegalLevels, LegalRanges}
 use Rattle.contents.specs.Weights.{valueOf, plain}
 use Rattle.contents.specs.declared.Weight.{Weight}
 use Rattle.contents.proofs.ValueLaws as ValueLaws
@@ -19,10 +19,11 @@ use Rattle.contents.specs.declared.Limits.{Limits}
 use Rattle.contents.specs.declared.Sheet.{Sheet}
 use Rattle.contents.specs.declared.Header.{Header}
 use Rattle.contents.specs.declared.Channel as Line
-use Rattle.contents.specs.Sheets.{held, channelAt, levelsTo}
+use Rattle.contents.specs.Sheets.{Lent, channelAt, levelsTo}
+use Rattle.start.specs.Coef.{Levels, pairs}
 use Rattle.calls.specs.Run.{coefs, count, levelsBefore, Numbers, fresh, own, place, side, fullSide, factor, weight, ownOk, headerOk, sheetOk, placesOk, legal, every}
 use Rattle.calls.specs.Run as Model
-use Rattle.calls.specs.Calls.{all, tableOk, levelOk, lendTests, startRefusal}
+use Rattle.calls.specs.Calls.{all, tableOk, levelOk, levelsFault, lendTests, startRefusal}
 use Rattle.calls.proofs.Tests.{every-of, never, skip, of-lent}
 use Rattle.calls.specs.Between.{PlaceIs}
 use Rattle.calls.proofs.Legal.{places-ok}
@@ -32,6 +33,7 @@ use Rattle.record.specs.Model.{sheetOf, placesOf, ownOf, placeOf, noChannel}
 use Rattle.record.proofs.Channels.{at-own, at-place, at-position, at-mark, first-long}
 use Rattle.solve.proofs.Alone.{then-start}
 use Rattle.solve.specs.Solve.{joint, alone, runChannel, jointGiven, blendCount, isLegal, allLegal, solveRefusal}
+use Rattle.program.specs.Printed.{levelsOf}
 
 -- ---- tests from facts
 
@@ -157,15 +159,23 @@ level-test : (z : ℤ) → LegalLevel z → T (levelOk z)
 level-test (pos n) h = le→leb n 2047 h
 level-test (negsuc n) h = le→leb (suc n) 2047 (omega arith)
 
-levels-test : (zs : List ℤ) → LegalLevels zs → T (all levelOk zs)
-levels-test [] h = tt
-levels-test (z ∷ zs) h = and-i (levelOk z) (all levelOk zs) (level-test z (h .0)) (levels-test zs (h .1))
-
 pub is-true : (b : Bool) → T b → b ≡ true
 is-true true t = refl
 is-true false t = absurd t
 
-module _ (limits : Limits) (S : Sheet) (ls : List ℤ) (ts : List ℕ) (l : LegalSheet limits S (held ls ts)) where
+-- no pair of legal levels, low not above high, is 5 or 14
+pairs-test : (ls hs : List ℤ) → LegalLevels ls → LegalLevels hs → LegalRanges ls hs → levelsFault (pairs ls hs) ≡ 0
+pairs-test [] hs l h o = refl
+pairs-test (x ∷ ls) [] l h o = refl
+pairs-test (x ∷ ls) (y ∷ hs) l h o = rw (is-true (levelOk x) (level-test x (l .0)), is-true (levelOk y) (level-test y (h .0)), o .0) (pairs-test ls hs (l .1) (h .1) (o .1))
+
+module _ (limits : Limits) (S : Sheet) (b : Lent) (l : LegalSheet limits S b) where
+  abbrev ls : Levels
+  ls = levelsOf b
+
+  abbrev ts : List ℕ
+  ts = b .tables
+
   full : (n : ℕ) → LegalSide (limits .side) n → LegalSide 512 n
   full n s = wider (limits .side) 512 n s (l .limits-legal .side .top)
 
@@ -254,10 +264,10 @@ module _ (limits : Limits) (S : Sheet) (ls : List ℤ) (ts : List ℕ) (l : Lega
       record {
         is-legal = run-legal (joint S) joint-fine;
         long = t;
-        levels-long = λ e. l .levels-count ∙ sym (levels-same (S .header .channels) (omega arith));
+        levels-long = λ e. let same = sym (levels-same (S .header .channels) (omega arith)) in (l .lows-count ∙ same, l .highs-count ∙ same);
         tables-long = λ e. l .tables-count ∙ mul-comm 64 (S .header .channels);
         tables-ok = λ e. tables-test ts (l .tables);
-        levels-ok = λ e. levels-test ls (l .levels);
+        levels-ok = λ e. pairs-test (b .lows) (b .highs) (l .lows) (l .highs) (l .ranges);
       })
 
   pub accepts : (lens : List ℕ) → T (all (λ n. eqb n (S .header .channels * (S .header .width * S .header .height))) lens) → (k : ℕ) → k ≡ blendCount S * 2

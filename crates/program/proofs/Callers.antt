@@ -5,7 +5,7 @@ use mathlib.Core.List.{List}
 use Rattle.contents.specs.declared.Limits.{Limits}
 use Rattle.sheet.specs.Reading.{Contents, readText}
 use Rattle.sheet.specs.Reading.Outcome.{Gives}
-use Rattle.sheet.proofs.PageLaws.{both-callers}
+use Rattle.grammar.proofs.PageLaws.{both-callers}
 use Rattle.program.specs.Printed.{says}
 use Rattle.program.specs.Callers.{planesOf, BothShown}
 

@@ -6,13 +6,13 @@ use Prim.Native.Nat.{ℕ, _+_, _-_, _*_, _≤_, _<_}
 use native.Mathlib.Nat.{mul-le-mul}
 use native.Mathlib.Numerals.{add-one}
 use native.Mathlib.Omega.{arith}
-use lib.IntN.{ℤ}
 use lib.ListN.{length}
 use Rattle.fold.specs.Fold.{upto}
 use Rattle.fold.proofs.Loops.{upto-ext}
 use Rattle.contents.specs.declared.Sheet.{Sheet}
 use Rattle.contents.specs.Legal.{LegalSheet}
-use Rattle.contents.specs.Sheets.{held, channelAt}
+use Rattle.contents.specs.Sheets.{Lent, channelAt}
+use Rattle.start.specs.Coef.{Levels}
 use Rattle.calls.specs.Run.{coefs}
 use Rattle.calls.specs.Jobs.{kept}
 use Rattle.demand.specs.Solver.{jobs}
@@ -23,11 +23,17 @@ use Rattle.solve.specs.Solve.{joint, alone, jointGiven, aloneGiven, separately,
 use Rattle.output.specs.Output.{Wrote, clippedText, clippedInto}
 use Rattle.output.proofs.Sizes.{clipped-into, clipped-room-32}
 use Rattle.output.proofs.Fronts.{wrote-as, wrote-more}
-use Rattle.program.specs.Printed.{limits, clippedLines, mostPicture}
+use Rattle.program.specs.Printed.{limits, levelsOf, clippedLines, mostPicture}
 use Rattle.program.proofs.Accepts.{same-sides}
 
 -- at the program's limit no channel has more than 1,024 coefficients
-module _ (S : Sheet) (ls : List ℤ) (ts : List ℕ) (l : LegalSheet limits S (held ls ts)) (c : ℕ) (h : c < S .header .channels) where
+module _ (S : Sheet) (b : Lent) (l : LegalSheet limits S b) (c : ℕ) (h : c < S .header .channels) where
+  abbrev ls : Levels
+  ls = levelsOf b
+
+  abbrev ts : List ℕ
+  ts = b .tables
+
   own-small : channelAt S c .width * channelAt S c .height ≤ 1024
   own-small =
       let x = l .channel c h in
@@ -38,7 +44,7 @@ module _ (S : Sheet) (ls : List ℤ) (ts : List ℕ) (l : LegalSheet limits S (h
   alone-coefs = refl
 
   joint-kept : kept jobs (jointGiven S ls ts) (jobCount (jointGiven S ls ts)) c ≤ 1024
-  joint-kept = omega (arith, kept-most (jointGiven S ls ts) (jobCount (jointGiven S ls ts)) c, same-sides limits S ls ts l c h, own-small)
+  joint-kept = omega (arith, kept-most (jointGiven S ls ts) (jobCount (jointGiven S ls ts)) c, same-sides limits S b l c h, own-small)
 
   alone-kept : kept jobs (aloneGiven S ls ts c) (jobCount (aloneGiven S ls ts c)) 0 ≤ 1024
   alone-kept = omega (arith, kept-most (aloneGiven S ls ts c) (jobCount (aloneGiven S ls ts c)) 0, alone-coefs, own-small)

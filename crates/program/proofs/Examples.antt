@@ -14,8 +14,8 @@ use Rattle.float.specs.Ops.{mulAdd, product, clamp}
 use Rattle.utils.specs.Blocks.{fromBlocks}
 use Rattle.utils.specs.Dct.{onLine, idct8, idct8x8}
 use Rattle.utils.specs.Auxiliary.{upsamplePixels}
-use Rattle.interval.specs.Interval.{dequantised}
-use Rattle.start.specs.Coef.{dequantise, imageBlock, imageData, initDctTarget}
+use Rattle.interval.specs.Interval.{dequantised, mid}
+use Rattle.start.specs.Coef.{Levels, pairs, dequantise, imageBlock, imageData, initDctTarget}
 use Rattle.start.specs.Auxiliary.{initPixels, auxInit}
 use Rattle.calls.specs.Jobs.{fixed, kept}
 use Rattle.demand.specs.Solver.{coefOf}
@@ -27,7 +27,7 @@ use Rattle.text.specs.Fields.{fieldOf}
 use Rattle.digits.specs.Written.{decimal}
 use Rattle.contents.specs.declared.Sheet.{Sheet}
 use Rattle.sheet.specs.Lines.{rulesOf, fieldsFault, headerOf, channelOf, recordOf}
-use Rattle.contents.specs.Sheets.{held, noChannel, noSettings}
+use Rattle.contents.specs.Sheets.{lent, held, noChannel, noSettings}
 use Rattle.sheet.specs.Reading.{contents, blank, lineTag, takenOf, lineFault, readText}
 use Rattle.rounds.specs.Whole.{runBlows, last, runOf}
 use Rattle.solve.specs.Solve.{joint, alone, separately, wholeOf, planes, blows, totalsOf, clippedAt}
@@ -81,19 +81,22 @@ sheet =
       third = noChannel;
     }
 
-abbrev levels : List ℤ
-levels = pos 1 ∷ replicate 63 (pos 0)
+abbrev ones : List ℤ
+ones = pos 1 ∷ replicate 63 (pos 0)
+
+abbrev levels : Levels
+levels = pairs ones ones
 
 abbrev tables : List ℕ
 tables = replicate 64 8
 
-reads : readText limits example ≡ contents sheet (held levels tables)
+reads : readText limits example ≡ contents sheet (held (lent ones ones tables) (false ∷ []))
 unfolding readText blank lineTag takenOf recordOf headerOf channelOf lineFault fieldsFault rulesOf numberAt weightAt numberOf bitForm weightOf levelOf fieldOf
 reads = refl
 
 -- N = 0: the unprojected start, "all 64 are v = 1 − 2⁻²⁴, not 1"
 start : planes sheet levels tables ≡ replicate 64 (ofBits binary32 0x3f7fffff)
-unfolding wholeOf runOf separately last joined fixed coefOf joint alone auxInit initPixels imageData imageBlock initDctTarget dequantise dequantised idct8x8 onLine idct8 fromBlocks upsamplePixels upto trailingZeros add sub mul div sum round units odd size span climb ofBits ofFields neg ne eq lt ofInt mulAdd product clamp
+unfolding wholeOf runOf separately last joined fixed coefOf joint alone auxInit initPixels imageData imageBlock initDctTarget dequantise dequantised mid idct8x8 onLine idct8 fromBlocks upsamplePixels upto trailingZeros add sub mul div sum round units odd size span climb ofBits ofFields neg ne eq lt ofInt mulAdd product clamp
 start = refl
 
 unblown : blows sheet levels tables ≡ false

@@ -10,7 +10,6 @@ use denote.Enum.Declared.{tagOf}
 use types.Run.{OneOf}
 use borrow.Author.Tests.{eq-eqb, le-leb}
 use lib.Dec.{T, eqb}
-use lib.IntN.{ℤ}
 use lib.Ieee.{Float}
 use lib.Ieee.Fits.{and-i, eq→eqb}
 use lib.ListN.{length, take}
@@ -22,14 +21,15 @@ use Rattle.sheet.specs.declared.Measured.the-variants as measured
 use Rattle.sheet.specs.declared.Answer as Read
 use Rattle.sheet.specs.declared.Answer.the-variants as read
 use Rattle.contents.specs.Legal.{LegalHeader, LegalSheet}
-use Rattle.contents.specs.Sheets.{channelAt, levelsTo, Held, held}
+use Rattle.contents.specs.Sheets.{channelAt, levelsTo, Lent, held}
 use Rattle.sheet.specs.Reading.{Outcome, Contents, contents, readText}
 use Rattle.sheet.specs.Reading.Outcome.{Gives, Refused}
-use Rattle.sheet.specs.Calls.{Lengths, measuredSays, answerSays, lengthsOf, measuring, fitted, sheetIn, heldAfter, Reads}
-use Rattle.sheet.proofs.LegalLaws.{legal}
-use Rattle.sheet.specs.Longest.{longest, decisive}
-use Rattle.sheet.proofs.PrefixLaws.{decides}
+use Rattle.sheet.specs.Calls.{Lengths, measuredSays, answerSays, lengthsOf, measuring, fitted, sheetIn, lentAfter, Reads}
+use Rattle.grammar.proofs.LegalLaws.{legal}
+use Rattle.grammar.specs.Longest.{longest, decisive}
+use Rattle.grammar.proofs.PrefixLaws.{decides}
 use Rattle.digits.specs.Written.{decimal}
+use Rattle.start.specs.Coef.{Levels}
 use Rattle.start.specs.Buffers.{Buffers}
 use Rattle.calls.specs.Buffers.{Name, Plane, Prior, Gradient, Across, Down, Saved, get, Sized}
 use Rattle.calls.specs.Calls.{all, allSix, lengths}
@@ -46,10 +46,10 @@ use Rattle.picture.specs.Finish as Finish
 use Rattle.picture.proofs.Pixels.{picture-length}
 use Rattle.output.specs.Output.{Wrote, pictureInto, refusalText, refusalInto}
 use Rattle.output.proofs.Fronts.{wrote-as, wrote-more}
-use Rattle.program.specs.Printed.{limits, roundingOf, painted, totalsLines, clippedLines, sheetText, says, printed, mostPicture, mostTotals, mostPrinted, printedInto, SixLong}
+use Rattle.program.specs.Printed.{limits, levelsOf, roundingOf, painted, totalsLines, clippedLines, sheetText, says, printed, mostPicture, mostTotals, mostPrinted, printedInto, SixLong}
 use Rattle.program.proofs.Clipped.{clipped-small, lines-same}
 use Rattle.program.proofs.Accepts.{at-most, accepts}
-use Rattle.sheet.proofs.BoundLaws.{LineTo, line-bound}
+use Rattle.grammar.proofs.BoundLaws.{LineTo, line-bound}
 use Rattle.program.proofs.Sizes.{values-small, finished, written, refused}
 
 -- ---- paint_with: what finish leaves, written out
@@ -68,9 +68,15 @@ paints f h l ps long rgb rgb′ room t e at out r out′ m w =
 
 -- ---- solved_with: how solving a legal sheet ends
 
-module _ (S : Sheet) (ls : List ℤ) (ts : List ℕ) (l : LegalSheet limits S (held ls ts)) (B : Buffers)
+module _ (S : Sheet) (b : Lent) (l : LegalSheet limits S b) (B : Buffers)
     (long : SixLong (S .header) (B .plane) (B .prior) (B .gradient) (B .across) (B .down) (B .saved)) (T₀ : List Float) (room : length T₀ ≡ blendCount S * 2)
-    (a : Answer) (ks : List ℕ) (L′ : Loan) (said : SolveIs S ls ts (loan B T₀) a ks L′) where
+    (a : Answer) (ks : List ℕ) (L′ : Loan) (said : SolveIs S (levelsOf b) (b .tables) (loan B T₀) a ks L′) where
+  abbrev ls : Levels
+  ls = levelsOf b
+
+  abbrev ts : List ℕ
+  ts = b .tables
+
   abbrev size : ℕ
   size = S .header .channels * (S .header .width * S .header .height)
 
@@ -85,7 +91,7 @@ module _ (S : Sheet) (ls : List ℤ) (ts : List ℕ) (l : LegalSheet limits S (h
   ended : Ended (blows S ls ts) (wholeOf S ls ts) (loan B T₀) (answerOf a) (numberIn ks) L′
   ended =
       subst (λ (n : ℕ). Ends n (wholeOf S ls ts) (loan B T₀) (answerOf a) (numberIn ks) L′)
-      (accepts limits S ls ts l (lengths allSix B) (sized-names size B sized allSix) (length T₀) room) said
+      (accepts limits S b l (lengths allSix B) (sized-names size B sized allSix) (length T₀) room) said
 
   -- done: it did not blow, and the planes, the totals and the numbers are there
   module _ (one : OneOf (1 ∷ []) (tagOf the-type a)) where
@@ -99,7 +105,7 @@ module _ (S : Sheet) (ls : List ℤ) (ts : List ℕ) (l : LegalSheet limits S (h
     numbers c h = not-blown (blows S ls ts) ended .3 c (omega (arith, whole-channels S ls ts))
 
     pub numbers-small : (c : ℕ) → c < S .header .channels → numberIn ks c ≤ 1024
-    numbers-small c h = omega (arith, numbers c h, clipped-small S ls ts l c h)
+    numbers-small c h = omega (arith, numbers c h, clipped-small S b l c h)
 
     pub done-long : length (L′ .buffers .plane) ≡ size
     done-long = not-blown (blows S ls ts) ended .2
@@ -137,50 +143,56 @@ module _ (S : Sheet) (ls : List ℤ) (ts : List ℕ) (l : LegalSheet limits S (h
 given : (a b : Lengths) → Gives a ≡ Gives b → a ≡ b
 given a b e = cc
 
-fits : (lent : Held) (T : Outcome Contents) → lengthsOf T ≡ Gives (record { levels = length (lent .levels); tables = length (lent .tables) }) → fitted lent T ≡ T
-fits lent (Gives c) e =
-    let l : length (c .held .levels) ≡ length (lent .levels) = ap (λ (x : Lengths). x .levels) (given _ _ e) in
-    let t : length (c .held .tables) ≡ length (lent .tables) = ap (λ (x : Lengths). x .tables) (given _ _ e) in
-    rw (eq-eqb (length (c .held .levels)) (length (lent .levels)) l, eq-eqb (length (c .held .tables)) (length (lent .tables)) t) refl
-fits lent (Refused k at) e = refl
-
-module _ (text : List ℕ) (l₀ l : List ℤ) (t₀ t : List ℕ) (r : Read.Answer)
-    (room : measuring limits text ≡ Gives (record { levels = length l₀; tables = length t₀ })) (said : Reads limits text (held l₀ t₀) (held l t) r) where
-  whole : fitted (held l₀ t₀) (readText limits text) ≡ readText limits text
-  whole = fits (held l₀ t₀) (readText limits text) room
-
-  pub sheet-read : (s : Sheet) → r ≡ read.Sheet s → readText limits text ≡ contents s (held l t)
-  sheet-read s p =
-      by (readText limits text) (sym (ap answerSays p) ∙ said .answer ∙ ap sheetIn whole) (said .held ∙ ap (λ (o : Outcome Contents). heldAfter o (held l₀ t₀)) whole)
+module _ (text : List ℕ) (into after : Lent) (r : Read.Answer)
+    (room : measuring limits text ≡ Gives (record { levels = length (into .lows); tables = length (into .tables) })) (even : length (into .highs) ≡ length (into .lows))
+    (said : Reads limits text into after r) where
+  -- what is read has as many highs as lows
+  whole : fitted into (readText limits text) ≡ readText limits text
+  whole = by (readText limits text) refl room
     where
-      by : (T : Outcome Contents) → Gives s ≡ sheetIn T → held l t ≡ heldAfter T (held l₀ t₀) → T ≡ contents s (held l t)
-      by (Gives c) e p = let same : c .sheet ≡ s = cc in λ i. Gives (record { sheet = same i; held = sym p i })
+      by : (T : Outcome Contents) → readText limits text ≡ T → lengthsOf T ≡ Gives (record { levels = length (into .lows); tables = length (into .tables) }) → fitted into T ≡ T
+      by (Gives c) q e =
+          let b = c .held .lent in
+          let k = legal limits text (c .sheet) (c .held) q in
+          let l : length (b .lows) ≡ length (into .lows) = ap (λ (x : Lengths). x .levels) (given _ _ e) in
+          let h : length (b .highs) ≡ length (into .highs) = k .highs-count ∙ sym (k .lows-count) ∙ l ∙ sym even in
+          let t : length (b .tables) ≡ length (into .tables) = ap (λ (x : Lengths). x .tables) (given _ _ e) in
+          rw (eq-eqb (length (b .lows)) (length (into .lows)) l, eq-eqb (length (b .highs)) (length (into .highs)) h, eq-eqb (length (b .tables)) (length (into .tables)) t) refl
+      by (Refused k at) q e = refl
+
+  -- the sheet and the buffers are what was read, with some kinds of its blocks
+  sheet-read : (s : Sheet) → r ≡ read.Sheet s → (rs : List Bool) × (readText limits text ≡ contents s (held after rs))
+  sheet-read s p =
+      by (readText limits text) (sym (ap answerSays p) ∙ said .answer ∙ ap sheetIn whole) (said .lent ∙ ap (λ (o : Outcome Contents). lentAfter o into) whole)
+    where
+      by : (T : Outcome Contents) → Gives s ≡ sheetIn T → after ≡ lentAfter T into → (rs : List Bool) × (T ≡ contents s (held after rs))
+      by (Gives c) e p = let same : c .sheet ≡ s = cc in (c .held .ranged, λ i. Gives (record { sheet = same i; held = held (sym p i) (c .held .ranged) }))
       by (Refused k at) e p = absurd (let z : _≡_ {A = ℕ} 0 1 = cc in omega arith)
 
-  pub sheet-legal : (s : Sheet) → r ≡ read.Sheet s → LegalSheet limits s (held l t)
-  sheet-legal s p = legal limits text s (held l t) (sheet-read s p)
+  pub sheet-legal : (s : Sheet) → r ≡ read.Sheet s → LegalSheet limits s after
+  sheet-legal s p = let q = sheet-read s p in legal limits text s (held after (q .0)) (q .1)
 
-  pub sheet-text : (s : Sheet) → r ≡ read.Sheet s → (out : List ℕ) (n : ℕ) (out′ : List ℕ) → Wrote 0 (sheetText s l t) out n out′ → Wrote 0 (printed text) out n out′
+  pub sheet-text : (s : Sheet) → r ≡ read.Sheet s → (out : List ℕ) (n : ℕ) (out′ : List ℕ) → Wrote 0 (sheetText s (levelsOf after) (after .tables)) out n out′ → Wrote 0 (printed text) out n out′
   unfolding printed says
-  sheet-text s p out n out′ w = wrote-as (ap says (sym (sheet-read s p))) w
+  sheet-text s p out n out′ w = wrote-as (ap says (sym (sheet-read s p .1))) w
 
   -- a refusal was measured before
   pub not-refused : (k line : ℕ) → r ≡ read.Refused k line → ⊥
   not-refused k line p = by (readText limits text) room (sym (ap answerSays p) ∙ said .answer ∙ ap sheetIn whole)
     where
-      by : (T : Outcome Contents) → lengthsOf T ≡ Gives (record { levels = length l₀; tables = length t₀ }) → Refused k line ≡ sheetIn T → ⊥
+      by : (T : Outcome Contents) → lengthsOf T ≡ Gives (record { levels = length (into .lows); tables = length (into .tables) }) → Refused k line ≡ sheetIn T → ⊥
       by (Gives c) m e = let z : _≡_ {A = ℕ} 0 1 = cc in omega arith
       by (Refused k at) m e = let z : _≡_ {A = ℕ} 0 1 = cc in omega arith
 
 -- ---- read_and_solve: how much room that is at most
 
-levels-most : (S : Sheet) (ls : List ℤ) (ts : List ℕ) → LegalSheet limits S (held ls ts) → (n : ℕ) → n ≤ S .header .channels → levelsTo S n ≤ n * (S .header .width * S .header .height)
-levels-most S ls ts l zero h = omega arith
-levels-most S ls ts l (suc n) h =
+levels-most : (S : Sheet) (b : Lent) → LegalSheet limits S b → (n : ℕ) → n ≤ S .header .channels → levelsTo S n ≤ n * (S .header .width * S .header .height)
+levels-most S b l zero h = omega arith
+levels-most S b l (suc n) h =
     let x = l .channel n h in
     omega (
       arith,
-      levels-most S ls ts l n (omega arith),
+      levels-most S b l n (omega arith),
       suc-mul n (S .header .width * S .header .height),
       mul-le-mul (x .width .top) (x .height .top),
     )
@@ -192,9 +204,9 @@ room-small text n m e = by (readText limits text) refl e
     by (Gives c) q e =
         let s = c .sheet in
         let l = legal limits text s (c .held) q in
-        let ln : length (c .held .levels) ≡ n = ap (λ (x : Lengths). x .levels) (given _ _ e) in
-        let lm : length (c .held .tables) ≡ m = ap (λ (x : Lengths). x .tables) (given _ _ e) in (
-          omega (arith, l .levels-count, levels-most s (c .held .levels) (c .held .tables) l (s .header .channels) (omega arith), values-small (s .header) (l .header)),
+        let ln : length (c .held .lent .lows) ≡ n = ap (λ (x : Lengths). x .levels) (given _ _ e) in
+        let lm : length (c .held .lent .tables) ≡ m = ap (λ (x : Lengths). x .tables) (given _ _ e) in (
+          omega (arith, l .lows-count, levels-most s (c .held .lent) l (s .header .channels) (omega arith), values-small (s .header) (l .header)),
           omega (arith, l .tables-count, at-most (s .header .channels) (l .header .channels)),
         )
     by (Refused k at) q e = absurd (let z : _≡_ {A = ℕ} 0 1 = cc in omega arith)
@@ -210,7 +222,7 @@ same-room o n m n′ m′ e p q = e ∙ (λ i. Gives (record { levels = sym p i;
 
 -- the code's constant
 abbrev decided : ℕ
-decided = 20461
+decided = 38893
 
 pub decisive-32 : decisive 32 ≡ decided
 unfolding decisive longest decimal

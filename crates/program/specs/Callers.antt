@@ -8,11 +8,11 @@ use Rattle.contents.specs.declared.Limits.{Limits}
 use Rattle.sheet.specs.Reading.{Contents, readText}
 use Rattle.sheet.specs.Reading.Outcome.{Gives}
 use Rattle.solve.specs.Solve.{planes}
-use Rattle.program.specs.Printed.{says}
+use Rattle.program.specs.Printed.{levelsOf, says}
 
 -- the solved planes of what was read
 abbrev pub planesOf : Contents → List Float
-planesOf c = planes (c .sheet) (c .held .levels) (c .held .tables)
+planesOf c = planes (c .sheet) (levelsOf (c .held .lent)) (c .held .lent .tables)
 
 -- "A sheet that both callers accept gives both the same planes", and so the same text of a picture or of 10
 pub record BothShown (one other : Limits) (text : List ℕ) (c d : Contents) : Type 0 where

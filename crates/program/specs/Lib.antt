@@ -1,3 +1,4 @@
 -- What the program prints.
 pub mod Printed
 pub mod Callers
+pub mod Equal

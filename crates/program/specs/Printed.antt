@@ -5,15 +5,16 @@ use mathlib.Core.Bool.{cond}
 use mathlib.Core.List.{List, [], _++_}
 use lib.Dec.{leb}
 use lib.ListN.{length}
-use lib.IntN.{ℤ}
 use lib.Ieee.{Float}
 use Rattle.contents.specs.declared.Limits.{Limits}
 use Rattle.contents.specs.declared.Choice.{Choice}
 use Rattle.contents.specs.declared.Choice.the-variants as choice
 use Rattle.contents.specs.declared.Header.{Header}
 use Rattle.contents.specs.declared.Sheet.{Sheet}
+use Rattle.contents.specs.Sheets.{Lent}
 use Rattle.sheet.specs.Reading.{Outcome, Contents, readText}
 use Rattle.sheet.specs.Reading.Outcome.{Gives, Refused}
+use Rattle.start.specs.Coef.{Levels, pairs}
 use Rattle.fold.specs.Join.{joinUpto}
 use Rattle.fold.specs.Part.{part}
 use Rattle.solve.specs.Solve.{iterationsAt, stepsBefore, planes, blows, totalsOf, clippedAt}
@@ -50,15 +51,19 @@ clippedLines n f = joinUpto (λ c. clippedText c (f c)) n
 
 -- "A blown channel ends the program with 10"; "The line is 0 for 10"; "A sheet that ends with 10 prints no `T` line". Else the lines `T` of all runs, the
 -- lines `K` "between the `T` lines and `I`", and the picture.
-unfoldable pub sheetText : Sheet → List ℤ → List ℕ → List ℕ
+unfoldable pub sheetText : Sheet → Levels → List ℕ → List ℕ
 sheetText s levels tables =
     cond (blows s levels tables) (refusalText 10 0)
     (totalsLines s (totalsOf s levels tables)
     ++ (clippedLines (s .header .channels) (clippedAt s levels tables) ++ painted (roundingOf (s .settings .rounding)) (s .header) (planes s levels tables)))
 
+-- the levels of what was read, "lows and highs" (M-105)
+abbrev pub levelsOf : Lent → Levels
+levelsOf b = pairs (b .lows) (b .highs)
+
 -- "A refusal prints only `X`, number and line"
 unfoldable pub says : Outcome Contents → List ℕ
-says (Gives c) = sheetText (c .sheet) (c .held .levels) (c .held .tables)
+says (Gives c) = sheetText (c .sheet) (levelsOf (c .held .lent)) (c .held .lent .tables)
 says (Refused k line) = refusalText k line
 
 -- "W and H above 32 are 2 there"; "the batch program keeps 1,000" (M-106)

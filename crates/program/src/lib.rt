@@ -15,9 +15,10 @@ ghost use Prim.Native.Nat.{ℕ, _+_, _*_, _≤_, _<_};
 ghost use mathlib.Core.Bool.{false};
 ghost use lib.ListN.{length};
 ghost use Rattle.fold.specs.Join.{joinUpto};
-ghost use Rattle.contents.specs.Sheets.{held};
+ghost use Rattle.contents.specs.Sheets.{lent};
+ghost use Rattle.start.specs.Coef.{pairs};
 ghost use Rattle.sheet.specs.Calls.{measuring, Lengths};
-ghost use Rattle.sheet.specs.Longest.{decisive};
+ghost use Rattle.grammar.specs.Longest.{decisive};
 ghost use Rattle.sheet.specs.Reading.Outcome.{Gives};
 ghost use Rattle.contents.specs.Legal.{LegalHeader, LegalSheet};
 ghost use Rattle.solve.specs.Solve.{blendCount, numberIn};
@@ -25,7 +26,7 @@ ghost use Rattle.output.specs.Output.{Wrote};
 ghost use Rattle.program.specs.Printed.{limits, roundingOf, painted, runLines, totalsLines, clippedLines, sheetText, printed, mostPicture, mostTotals, mostPrinted, printedInto, SixLong};
 
 // So many bytes of a text decide what is printed for it: `decisive 32`.
-const DECISIVE: usize = 20461;
+const DECISIVE: usize = 38893;
 // No text that is printed takes more bytes: `mostPrinted`.
 const MOST_PRINTED: usize = 136269;
 
@@ -120,7 +121,8 @@ fn paint(rounding: Rounding, h: Header, planes: &[f32], out: &mut [u8], at: usiz
 // The text of a sheet that was read: its lines `T` and `K` and its picture, or 10. The six and the totals are room for its runs.
 fn solved_with(
     s: Sheet,
-    levels: &[i16],
+    lows: &[i16],
+    highs: &[i16],
     tables: &[u16],
     plane: &mut [f32],
     prior: &mut [f32],
@@ -131,9 +133,9 @@ fn solved_with(
     totals: &mut [f64],
     out: &mut [u8],
 ) -> usize
-    requires { ⌜ LegalSheet limits s (held (now levels) (now tables)) × SixLong (s .header) (now plane) (now prior) (now gradient) (now across) (now down) (now saved)
+    requires { ⌜ LegalSheet limits s (lent (now lows) (now highs) (now tables)) × SixLong (s .header) (now plane) (now prior) (now gradient) (now across) (now down) (now saved)
         × (length (now totals) ≡ blendCount s * 2) × (mostPrinted ≤ length (now out)) ⌝ }
-    ensures { λ r. ⌜ Wrote 0 (sheetText s (now (levels .entry)) (now (tables .entry))) (now (out .entry)) r (now (out .exit)) ⌝ }
+    ensures { λ r. ⌜ Wrote 0 (sheetText s (pairs (now (lows .entry)) (now (highs .entry))) (now (tables .entry))) (now (out .entry)) r (now (out .exit)) ⌝ }
 {
     let h = s.header;
     let settings = s.settings;
@@ -141,7 +143,8 @@ fn solved_with(
     let rounding = rounding_of(choice);
     let t = solve(
         s,
-        levels,
+        lows,
+        highs,
         tables,
         plane,
         prior,
@@ -162,9 +165,9 @@ fn solved_with(
 }
 
 // The same, with room of its own.
-fn solved(s: Sheet, levels: &[i16], tables: &[u16], out: &mut [u8]) -> usize
-    requires { ⌜ LegalSheet limits s (held (now levels) (now tables)) × (mostPrinted ≤ length (now out)) ⌝ }
-    ensures { λ r. ⌜ Wrote 0 (sheetText s (now (levels .entry)) (now (tables .entry))) (now (out .entry)) r (now (out .exit)) ⌝ }
+fn solved(s: Sheet, lows: &[i16], highs: &[i16], tables: &[u16], out: &mut [u8]) -> usize
+    requires { ⌜ LegalSheet limits s (lent (now lows) (now highs) (now tables)) × (mostPrinted ≤ length (now out)) ⌝ }
+    ensures { λ r. ⌜ Wrote 0 (sheetText s (pairs (now (lows .entry)) (now (highs .entry))) (now (tables .entry))) (now (out .entry)) r (now (out .exit)) ⌝ }
 {
     let mut plane = [0.0f32; 3072];
     let mut prior = [0.0f32; 3072];
@@ -178,7 +181,8 @@ fn solved(s: Sheet, levels: &[i16], tables: &[u16], out: &mut [u8]) -> usize
     let m = blend_count(s) * 2;
     solved_with(
         s,
-        levels,
+        lows,
+        highs,
         tables,
         &mut plane[0..n],
         &mut prior[0..n],
@@ -191,9 +195,15 @@ fn solved(s: Sheet, levels: &[i16], tables: &[u16], out: &mut [u8]) -> usize
     )
 }
 
-// The text of a sheet; levels and tables are room for its levels and tables.
-fn read_with(text: &[u8], levels: &mut [i16], tables: &mut [u16], out: &mut [u8]) -> usize
-    requires { ⌜ (measuring limits (now text) ≡ Gives (record { levels = length (now levels); tables = length (now tables) })) × (mostPrinted ≤ length (now out)) ⌝ }
+// The text of a sheet; lows, highs and tables are room for its levels and tables.
+fn read_with(
+    text: &[u8],
+    lows: &mut [i16],
+    highs: &mut [i16],
+    tables: &mut [u16],
+    out: &mut [u8],
+) -> usize
+    requires { ⌜ (measuring limits (now text) ≡ Gives (record { levels = length (now lows); tables = length (now tables) })) × (length (now highs) ≡ length (now lows)) × (mostPrinted ≤ length (now out)) ⌝ }
     ensures { λ r. ⌜ Wrote 0 (printed (now (text .entry))) (now (out .entry)) r (now (out .exit)) ⌝ }
 {
     match sheet::read(
@@ -202,10 +212,11 @@ fn read_with(text: &[u8], levels: &mut [i16], tables: &mut [u16], out: &mut [u8]
             side: 32,
             iterations: 1000,
         },
-        levels,
+        lows,
+        highs,
         tables,
     ) {
-        sheet::Answer::Sheet(s) => solved(s, &levels[..], &tables[..], out),
+        sheet::Answer::Sheet(s) => solved(s, &lows[..], &highs[..], &tables[..], out),
         sheet::Answer::Refused { number, line } => output::write_refusal(number, line, out),
     }
 }
@@ -215,9 +226,16 @@ fn read_and_solve(text: &[u8], n: usize, m: usize, out: &mut [u8]) -> usize
     requires { ⌜ (measuring limits (now text) ≡ Gives (record { levels = n; tables = m })) × (mostPrinted ≤ length (now out)) ⌝ }
     ensures { λ r. ⌜ Wrote 0 (printed (now (text .entry))) (now (out .entry)) r (now (out .exit)) ⌝ }
 {
-    let mut levels = [0i16; 3072];
+    let mut lows = [0i16; 3072];
+    let mut highs = [0i16; 3072];
     let mut tables = [0u16; 192];
-    read_with(text, &mut levels[0..n], &mut tables[0..m], out)
+    read_with(
+        text,
+        &mut lows[0..n],
+        &mut highs[0..n],
+        &mut tables[0..m],
+        out,
+    )
 }
 
 // The text of a refusal, or of a sheet. What is read is short enough that a line's number has few digits.

@@ -10,9 +10,9 @@ use native.Mathlib.Omega.{arith}
 use native.Mathlib.Numerals.{add-one}
 use lib.ListN.{length, drop, set, length-append, length-drop}
 use lib.Dec.{eqb}
-use lib.IntN.{ℤ}
 use lib.Ieee.{Float}
 use lib.Ieee.Fits.{and-r}
+use Rattle.start.specs.Coef.{Levels, pairs}
 use Rattle.fold.specs.Join.{joinUpto}
 use Rattle.fold.specs.Part.{splice}
 use Rattle.fold.proofs.Joins.{join-length, fill-none, fill-more, fill-all}
@@ -138,7 +138,7 @@ pub record Rounding (G : Given) (n p : ℕ) (r : Run) (B₀ : Buffers) (T₀ : L
   pub summed : Summed G p T₀ T
   pub totals-long : length T ≡ length T₀
 
-module _ (r₀ : Run) (levels : List ℤ) (tables : List ℕ) (B₀ : Buffers) (T₀ : List Float) (asks : RunAsks r₀ levels tables B₀ T₀) where
+module _ (r₀ : Run) (levels : Levels) (tables : List ℕ) (B₀ : Buffers) (T₀ : List Float) (asks : RunAsks r₀ levels tables B₀ T₀) where
   abbrev G : Given
   G = givenOf r₀ levels tables
 
@@ -254,7 +254,7 @@ not-done Done one e = ⊎-elim (λ e. omega arith) (λ o. ⊎-elim (λ e. omega 
 not-done Blown one e = let z : _≡_ {A = ℕ} 0 1 = cc in omega arith
 not-done (Blended tv tgv) one e = let z : _≡_ {A = ℕ} 0 1 = cc in omega arith
 
-module _ (r : Run) (levels : List ℤ) (tables : List ℕ) (B : Buffers) (T : List Float) (a : Answer) (r′ : Run) (B′ : Buffers) (h : StartIs r levels tables B a r′ B′) where
+module _ (r : Run) (levels : Levels) (tables : List ℕ) (B : Buffers) (T : List Float) (a : Answer) (r′ : Run) (B′ : Buffers) (h : StartIs r levels tables B a r′ B′) where
   abbrev H : Given
   H = givenOf r levels tables
 

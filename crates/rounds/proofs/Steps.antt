@@ -11,9 +11,9 @@ use native.Mathlib.Numerals.{add-one}
 use native.Mathlib.Decide.{ℕ-discrete, decLt}
 use lib.ListN.{length, set}
 use lib.Dec.{eqb, ltb}
-use lib.IntN.{ℤ}
 use lib.Ieee.{Float}
 use borrow.Author.Tests.{lt-ltb, le-ltb}
+use Rattle.start.specs.Coef.{Levels}
 use Rattle.start.specs.Buffers.{Buffers}
 use Rattle.calls.specs.Run.{Given, Sheet, Place, fresh, place, count, area, among}
 use Rattle.calls.specs.Buffers.{Plane, Prior, Gradient, Across, Down, Saved, Sized}
@@ -382,7 +382,7 @@ pub record Passing (G : Given) (p n i : ℕ) (r : Run) (B₀ B : Buffers) : Type
   pub other-job : 0 < i → p % 5 ≢ 2
   pub kept : Kept B₀ B
 
-module _ (r₀ : Run) (p : ℕ) (levels : List ℤ) (tables : List ℕ) (B₀ : Buffers) (asks : RoundAsks r₀ p levels tables B₀) where
+module _ (r₀ : Run) (p : ℕ) (levels : Levels) (tables : List ℕ) (B₀ : Buffers) (asks : RoundAsks r₀ p levels tables B₀) where
   abbrev G : Given
   G = givenOf r₀ levels tables
 

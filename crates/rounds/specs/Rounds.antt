@@ -4,10 +4,10 @@ use mathlib.Core.Path.{_≡_}
 use mathlib.Core.Logic.{_≢_}
 use mathlib.Core.Bool.{Bool, true, false, cond}
 use mathlib.Core.List.{List, [], _∷_}
-use lib.IntN.{ℤ}
 use lib.Dec.{eqb, ltb}
 use lib.Ieee.{Float}
 use lib.ListN.{length}
+use Rattle.start.specs.Coef.{Levels}
 use Rattle.fold.specs.Part.{splice}
 use Rattle.start.specs.Buffers.{Buffers}
 use Rattle.calls.specs.Run.{Given, place, count, area, among}
@@ -49,7 +49,7 @@ abbrev pub roundBlows : Given → ℕ → Bool
 roundBlows G p = among (count G) (λ c. blowsAt G c p)
 
 -- a round is asked for while jobs are left
-pub record RoundAsks (r : Run) (p : ℕ) (levels : List ℤ) (tables : List ℕ) (B : Buffers) : Type 0 where
+pub record RoundAsks (r : Run) (p : ℕ) (levels : Levels) (tables : List ℕ) (B : Buffers) : Type 0 where
   pub ok : GivenOk (givenOf r levels tables)
   pub left : p < jobCount (givenOf r levels tables)
   pub all : AllAt (givenOf r levels tables) p r B
@@ -76,7 +76,7 @@ goes Blown = false
 goes (Blended tv tgv) = true
 
 -- all rounds are asked for where a run stands at its start, with room for its totals
-pub record RunAsks (r : Run) (levels : List ℤ) (tables : List ℕ) (B : Buffers) (T : List Float) : Type 0 where
+pub record RunAsks (r : Run) (levels : Levels) (tables : List ℕ) (B : Buffers) (T : List Float) : Type 0 where
   pub ok : GivenOk (givenOf r levels tables)
   pub all : AllAt (givenOf r levels tables) 0 r B
   pub long : length T ≡ r .n * 2

@@ -3,10 +3,10 @@ use Prim.Native.Nat.{ℕ, zero, suc, _+_, _*_, _%_, _<_}
 use mathlib.Core.Path.{_≡_}
 use mathlib.Core.Bool.{Bool, true, false, _&&_}
 use mathlib.Core.List.{List, [], _∷_}
-use lib.IntN.{ℤ}
 use lib.ListN.{length}
 use lib.Dec.{eqb}
 use lib.Ieee.{Float}
+use Rattle.start.specs.Coef.{Levels}
 use Rattle.fold.specs.Join.{joinUpto}
 use Rattle.start.specs.Buffers.{Buffers}
 use Rattle.calls.specs.Run.{Given, count, among}
@@ -107,7 +107,7 @@ Ends (suc n) w L a k L′ = (a ≡ Calls.refused (suc n)) × (L′ ≡ L)
 Ends zero w L a k L′ = Ended (w .blown) w L a k L′
 
 -- the run of one record, from its start to its last job, which leaves the record r′
-abbrev pub RunIs : Run → List ℤ → List ℕ → Loan → Answer → Run → Loan → Type 0
+abbrev pub RunIs : Run → Levels → List ℕ → Loan → Answer → Run → Loan → Type 0
 RunIs r levels tables L a r′ L′ =
     let G = givenOf r levels tables in
     Ends (startRefusal G (placesOf r) (lengths allSix (L .buffers))) (runOf G) L (answerOf a) (clippedOf r′) L′

@@ -8,6 +8,7 @@ ghost use mathlib.Core.Path.{_≡_};
 ghost use mathlib.Core.List.{[], _∷_};
 ghost use Prim.Native.Nat.{_+_, _*_, _≤_};
 ghost use lib.ListN.{length};
+ghost use Rattle.start.specs.Coef.{pairs};
 ghost use Rattle.record.specs.Model.{givenOf, answerOf, clippedOf};
 ghost use Rattle.rounds.specs.Whole.{six, loan, runOf, Ends, RunIs};
 ghost use Rattle.rounds.specs.Rounds.{turns, RoundAsks, RoundIs, withPair, goes, RunAsks};
@@ -23,7 +24,8 @@ fn turns_of(job: u32, count: u32) -> u32
 fn round(
     run: Run,
     p: u32,
-    levels: &[i16],
+    lows: &[i16],
+    highs: &[i16],
     tables: &[u16],
     plane: &mut [f32],
     prior: &mut [f32],
@@ -32,8 +34,8 @@ fn round(
     down: &mut [f32],
     saved: &mut [f32],
 ) -> Answered
-    requires { ⌜ RoundAsks run p (now levels) (now tables) (six (now plane) (now prior) (now gradient) (now across) (now down) (now saved)) ⌝ }
-    ensures { λ r. ⌜ RoundIs (givenOf run (now (levels .entry)) (now (tables .entry))) p (r .answer) (r .run)
+    requires { ⌜ RoundAsks run p (pairs (now lows) (now highs)) (now tables) (six (now plane) (now prior) (now gradient) (now across) (now down) (now saved)) ⌝ }
+    ensures { λ r. ⌜ RoundIs (givenOf run (pairs (now (lows .entry)) (now (highs .entry))) (now (tables .entry))) p (r .answer) (r .run)
         (six (now (plane .exit)) (now (prior .exit)) (now (gradient .exit)) (now (across .exit)) (now (down .exit)) (now (saved .exit))) ⌝ }
 {
     let job = p % 5;
@@ -43,7 +45,8 @@ fn round(
             next,
             job as u8,
             c,
-            levels,
+            lows,
+            highs,
             tables,
             plane,
             prior,
@@ -101,7 +104,8 @@ fn goes(a: Answer) -> bool
 // All rounds of a run that stands at its start: 5N of them. Both totals of each blend are stored, step after step. Gives the record as it is after them.
 fn all_rounds(
     run: Run,
-    levels: &[i16],
+    lows: &[i16],
+    highs: &[i16],
     tables: &[u16],
     plane: &mut [f32],
     prior: &mut [f32],
@@ -111,8 +115,8 @@ fn all_rounds(
     saved: &mut [f32],
     totals: &mut [f64],
 ) -> Answered
-    requires { ⌜ RunAsks run (now levels) (now tables) (six (now plane) (now prior) (now gradient) (now across) (now down) (now saved)) (now totals) ⌝ }
-    ensures { λ r. ⌜ Ends 0 (runOf (givenOf run (now (levels .entry)) (now (tables .entry))))
+    requires { ⌜ RunAsks run (pairs (now lows) (now highs)) (now tables) (six (now plane) (now prior) (now gradient) (now across) (now down) (now saved)) (now totals) ⌝ }
+    ensures { λ r. ⌜ Ends 0 (runOf (givenOf run (pairs (now (lows .entry)) (now (highs .entry))) (now (tables .entry))))
         (loan (six (now (plane .entry)) (now (prior .entry)) (now (gradient .entry)) (now (across .entry)) (now (down .entry)) (now (saved .entry))) (now (totals .entry))) (answerOf (r .answer)) (clippedOf (r .run))
         (loan (six (now (plane .exit)) (now (prior .exit)) (now (gradient .exit)) (now (across .exit)) (now (down .exit)) (now (saved .exit))) (now (totals .exit))) ⌝ }
 {
@@ -121,7 +125,8 @@ fn all_rounds(
         let t = round(
             next,
             p,
-            levels,
+            lows,
+            highs,
             tables,
             plane,
             prior,
@@ -153,7 +158,8 @@ fn all_rounds(
 // number that the last one clipped; the totals of the planes after a step for those of the planes that its blend was lent.
 pub fn run_value(
     run: Run,
-    levels: &[i16],
+    lows: &[i16],
+    highs: &[i16],
     tables: &[u16],
     plane: &mut [f32],
     prior: &mut [f32],
@@ -164,13 +170,14 @@ pub fn run_value(
     totals: &mut [f64],
 ) -> Answered
     requires { ⌜ length (now totals) ≡ run .n * 2 ⌝ }
-    ensures { λ r. ⌜ RunIs run (now (levels .entry)) (now (tables .entry))
+    ensures { λ r. ⌜ RunIs run (pairs (now (lows .entry)) (now (highs .entry))) (now (tables .entry))
         (loan (six (now (plane .entry)) (now (prior .entry)) (now (gradient .entry)) (now (across .entry)) (now (down .entry)) (now (saved .entry))) (now (totals .entry))) (r .answer) (r .run)
         (loan (six (now (plane .exit)) (now (prior .exit)) (now (gradient .exit)) (now (across .exit)) (now (down .exit)) (now (saved .exit))) (now (totals .exit))) ⌝ }
 {
     let t = start_value(
         run,
-        levels,
+        lows,
+        highs,
         tables,
         plane,
         prior,
@@ -186,7 +193,8 @@ pub fn run_value(
     let started = t.run;
     all_rounds(
         started,
-        levels,
+        lows,
+        highs,
         tables,
         plane,
         prior,

@@ -13,20 +13,21 @@ use lib.ListN.{length, getD, set, drop, length-set}
 use lib.Seq.{getD-set-same, getD-set-other}
 use lib.Dec.{T, eqb, eqb→eq}
 use borrow.Author.Tests.{eq-eqb, ne-eqb}
-use lib.IntN.{ℤ}
 use lib.Ieee.{Float}
 use lib.Ieee.Fits.{and-l, and-r}
+use lib.IntN.{ℤ}
+use Rattle.start.specs.Coef.{Levels, Long}
 use Rattle.fold.specs.Join.{joinUpto}
 use Rattle.fold.specs.Part.{part, splice}
 use Rattle.fold.proofs.Parts.{part-length, splice-length}
 use Rattle.fold.proofs.Joins.{filled-none, filled-more, filled-all}
 use Rattle.start.specs.Buffers.{Buffers}
 use Rattle.contents.specs.declared.Sheet.{Sheet}
-use Rattle.calls.specs.Run.{Numbers, Given, own, count, coefs, levelsBefore, every, among}
+use Rattle.calls.specs.Run.{Numbers, Given, own, count, coefs, levelsBefore, levelsPart, every, among}
 use Rattle.calls.specs.Buffers.{Plane, Prior, Gradient, Across, Down, Saved, get, joined, channel, putChannel, Sized}
-use Rattle.calls.specs.Calls.{done, blown, all, allSix, lengths, tableOk, levelOk, lendTests, startRefusal}
+use Rattle.calls.specs.Calls.{done, blown, all, allSix, lengths, tableOk, levelsFault, lendTests, startRefusal}
 use Rattle.calls.proofs.Parts.{channel-sized, put-sized, put-same, put-other, joined-channels}
-use Rattle.calls.proofs.Tests.{every-at, among-true, all-part, skip, sized-names, sized-of, Lent, lent-of, of-lent}
+use Rattle.calls.proofs.Tests.{every-at, among-true, all-part, faultless-of, of-faultless, part-faultless, skip, sized-names, sized-of, Lent, lent-of, of-lent}
 use Rattle.record.specs.declared.Run.{Run}
 use Rattle.record.specs.declared.Answer.{Answer}
 use Rattle.record.specs.declared.Answer.the-variants.{Refused, Done}
@@ -50,10 +51,10 @@ accepts true n k f e = (tt, e)
 accepts false n k f e = absurd (f e)
 
 -- a sheet is not refused with what is lent
-abbrev pub Taken : Sheet → List ℤ → List ℕ → Loan → Type 0
+abbrev pub Taken : Sheet → Levels → List ℕ → Loan → Type 0
 Taken S levels tables L = solveRefusal S levels tables (lengths allSix (L .buffers)) (length (L .totals)) ≡ 0
 
-module _ (S : Sheet) (levels : List ℤ) (tables : List ℕ) (L : Loan) (z : Taken S levels tables L) where
+module _ (S : Sheet) (levels : Levels) (tables : List ℕ) (L : Loan) (z : Taken S levels tables L) where
   abbrev G : Given
   G = jointGiven S levels tables
 
@@ -94,7 +95,7 @@ module _ (S : Sheet) (levels : List ℤ) (tables : List ℕ) (L : Loan) (z : Tak
   unfolding joint
   sized = sized-of (S .header .channels * areaOf S) (L .buffers) (passed .long)
 
-  pub levels-long : length levels ≡ levelsBefore (sheetOf (joint S)) (S .header .channels)
+  pub levels-long : Long levels (levelsBefore (sheetOf (joint S)) (S .header .channels))
   unfolding joint
   levels-long = passed .levels-long refl
 
@@ -105,7 +106,7 @@ module _ (S : Sheet) (levels : List ℤ) (tables : List ℕ) (L : Loan) (z : Tak
   pub tables-ok : T (all tableOk tables)
   tables-ok = passed .tables-ok refl
 
-  pub levels-ok : T (all levelOk levels)
+  pub levels-ok : levelsFault levels ≡ 0
   levels-ok = passed .levels-ok refl
 
 -- ---- the joint record's numbers
@@ -168,7 +169,7 @@ own-room S c T long below =
     ∙ omega (arith, steps-next S c)
 
 -- all totals of its run
-run-room : (S : Sheet) (levels : List ℤ) (tables : List ℕ) (c : ℕ) → totalsFrom S (suc c) ≡ totalsFrom S c + length (runTotals (aloneGiven S levels tables c))
+run-room : (S : Sheet) (levels : Levels) (tables : List ℕ) (c : ℕ) → totalsFrom S (suc c) ≡ totalsFrom S c + length (runTotals (aloneGiven S levels tables c))
 unfolding alone
 run-room S levels tables c = omega (arith, steps-next S c, totals-length (aloneGiven S levels tables c))
 
@@ -209,7 +210,7 @@ module _ (S : Sheet) (c : ℕ) (ok : Legal (joint S)) (below : c < S .header .ch
       }
 
 -- a run on these parts is the channel's
-module _ (S : Sheet) (c : ℕ) (levels : List ℤ) (tables : List ℕ) (L : Loan) (from to l m t u x y : ℕ) (p : PartsAre S c from to l m t u x y) where
+module _ (S : Sheet) (c : ℕ) (levels : Levels) (tables : List ℕ) (L : Loan) (from to l m t u x y : ℕ) (p : PartsAre S c from to l m t u x y) where
   abbrev B : Buffers
   B = L .buffers
 
@@ -226,12 +227,12 @@ module _ (S : Sheet) (c : ℕ) (levels : List ℤ) (tables : List ℕ) (L : Loan
       (splice (B .across) from to (o .buffers .across)) (splice (B .down) from to (o .buffers .down)) (splice (B .saved) from to (o .buffers .saved)))
       (splice (L .totals) x y (o .totals))
 
-  alone-run : (r : Run) → r ≡ alone S c → (a : Answer) (r′ : Run) (o : Loan) → RunIs r (part levels l m) (part tables t u) lentTo a r′ o
+  alone-run : (r : Run) → r ≡ alone S c → (a : Answer) (r′ : Run) (o : Loan) → RunIs r (levelsPart levels l m) (part tables t u) lentTo a r′ o
       → RunIs (alone S c) (levelsFor S levels c) (tablesFor tables c) (loanOf S c L) a r′ o
   unfolding channel
   alone-run r e a r′ o h = rw (e, p .from-is, p .to-is, p .l-is, p .m-is, p .t-is, p .u-is, p .x-is, p .y-is) at h
 
-  pub alone-is : (r : Run) → r ≡ alone S c → (a : Answer) (r′ : Run) (o : Loan) → RunIs r (part levels l m) (part tables t u) lentTo a r′ o
+  pub alone-is : (r : Run) → r ≡ alone S c → (a : Answer) (r′ : Run) (o : Loan) → RunIs r (levelsPart levels l m) (part tables t u) lentTo a r′ o
       → AloneIs S c levels tables L a r′ (back o)
   unfolding putChannel
   alone-is r e a r′ o h = record { own = o; run = alone-run r e a r′ o h; put = rw (p .from-is, p .to-is, p .x-is, p .y-is) }
@@ -241,7 +242,7 @@ module _ (S : Sheet) (c : ℕ) (levels : List ℤ) (tables : List ℕ) (L : Loan
 sized-kept : (m : ℕ) (B₀ B : Buffers) → Sized m B₀ → Kept B₀ B → Sized m B
 sized-kept m B₀ B h k b = same-lengths B₀ B k b ∙ h b
 
-module _ (S : Sheet) (levels : List ℤ) (tables : List ℕ) (L₀ : Loan) (z : Taken S levels tables L₀) where
+module _ (S : Sheet) (levels : Levels) (tables : List ℕ) (L₀ : Loan) (z : Taken S levels tables L₀) where
   ok : Legal (joint S)
   ok = joint-legal S levels tables L₀ z
 
@@ -252,11 +253,27 @@ module _ (S : Sheet) (levels : List ℤ) (tables : List ℕ) (L₀ : Loan) (z : 
     part-sized : Sized (areaOf S) (channel (areaOf S) c B)
     part-sized = channel-sized (areaOf S) c (S .header .channels) B long below
 
-    own-levels : length (levelsFor S levels c) ≡ levelsBefore (sheetOf (alone S c)) 1
-    own-levels =
-        part-length levels (levelsBefore (sheetOf (joint S)) c) (levelsBefore (sheetOf (joint S)) (suc c)) (omega arith)
-        (omega (arith, levels-rise (sheetOf (joint S)) c (S .header .channels) below, levels-long S levels tables L₀ z))
+    abbrev at : ℕ
+    at = levelsBefore (sheetOf (joint S)) c
+
+    abbrev end : ℕ
+    end = levelsBefore (sheetOf (joint S)) (suc c)
+
+    own-part : (values : List ℤ) → length values ≡ levelsBefore (sheetOf (joint S)) (S .header .channels)
+        → length (part values at end) ≡ levelsBefore (sheetOf (alone S c)) 1
+    own-part values long =
+        part-length values at end (omega arith) (omega (arith, levels-rise (sheetOf (joint S)) c (S .header .channels) below))
         ∙ omega (arith, same-coefs S ok c below)
+
+    own-levels : Long (levelsFor S levels c) (levelsBefore (sheetOf (alone S c)) 1)
+    own-levels =
+        let long = levels-long S levels tables L₀ z in
+        (own-part (levels .lows) (long .0), own-part (levels .highs) (long .1))
+
+    own-faultless : levelsFault (levelsFor S levels c) ≡ 0
+    own-faultless =
+        let fine = faultless-of levels (levelsBefore (sheetOf (joint S)) (S .header .channels)) (levels-long S levels tables L₀ z) (levels-ok S levels tables L₀ z) in
+        of-faultless (part (levels .lows) at end) (part (levels .highs) at end) (part-faultless levels fine at end)
 
     own-tables : length (tablesFor tables c) ≡ 64
     own-tables = part-length tables (c * 64) (c * 64 + 64) (omega arith) (omega (arith, tables-long S levels tables L₀ z)) ∙ omega arith
@@ -271,7 +288,7 @@ module _ (S : Sheet) (levels : List ℤ) (tables : List ℕ) (L₀ : Loan) (z : 
           levels-long = λ e. own-levels;
           tables-long = λ e. own-tables;
           tables-ok = λ e. all-part tableOk tables (c * 64) (c * 64 + 64) (tables-ok S levels tables L₀ z);
-          levels-ok = λ e. all-part levelOk levels (levelsBefore (sheetOf (joint S)) c) (levelsBefore (sheetOf (joint S)) (suc c)) (levels-ok S levels tables L₀ z);
+          levels-ok = λ e. own-faultless;
         }
 
     accepted : startRefusal (aloneGiven S levels tables c) (placesOf (alone S c)) (lengths allSix (channel (areaOf S) c B)) ≡ 0
@@ -385,10 +402,10 @@ module _ (S : Sheet) (levels : List ℤ) (tables : List ℕ) (L₀ : Loan) (z : 
 -- ---- the loop over the channels
 
 -- the totals of the runs of the first i channels stand at the front
-abbrev SummedUpto : Sheet → List ℤ → List ℕ → ℕ → List Float → List Float → Type 0
+abbrev SummedUpto : Sheet → Levels → List ℕ → ℕ → List Float → List Float → Type 0
 SummedUpto S levels tables i T₀ T = T ≡ joinUpto (λ c. runTotals (aloneGiven S levels tables c)) i ++ drop (totalsFrom S i) T₀
 
-pub record Parting (S : Sheet) (levels : List ℤ) (tables : List ℕ) (n i : ℕ) (L₀ L : Loan) (ks : List ℕ) : Type 0 where
+pub record Parting (S : Sheet) (levels : Levels) (tables : List ℕ) (n i : ℕ) (L₀ L : Loan) (ks : List ℕ) : Type 0 where
   pub most : i ≤ n
   pub each : (c : ℕ) → c < i → channel (areaOf S) c (L .buffers) ≡ last (aloneGiven S levels tables c) 0
   pub none : among i (λ c. runBlows (aloneGiven S levels tables c)) ≡ false
@@ -398,7 +415,7 @@ pub record Parting (S : Sheet) (levels : List ℤ) (tables : List ℕ) (n i : �
   pub three : length ks ≡ 3
   pub numbers : (c : ℕ) → c < i → numberIn ks c ≡ aloneClipped S levels tables c
 
-module _ (S : Sheet) (levels : List ℤ) (tables : List ℕ) (L₀ : Loan) (asks : SeparateAsks S levels tables L₀) where
+module _ (S : Sheet) (levels : Levels) (tables : List ℕ) (L₀ : Loan) (asks : SeparateAsks S levels tables L₀) where
   abbrev z : Taken S levels tables L₀
   z = asks .accepted
 
@@ -506,7 +523,7 @@ module _ (S : Sheet) (levels : List ℤ) (tables : List ℕ) (L₀ : Loan) (asks
 
 -- ---- solve
 
-module _ (S : Sheet) (levels : List ℤ) (tables : List ℕ) (L : Loan) where
+module _ (S : Sheet) (levels : Levels) (tables : List ℕ) (L : Loan) where
   pub solve-refused : (n : ℕ) → n ≡ solveRefusal S levels tables (lengths allSix (L .buffers)) (length (L .totals)) → n ≢ 0 → (ks : List ℕ)
       → SolveIs S levels tables L (Refused n) ks L
   solve-refused zero e f ks = absurd (f refl)
@@ -552,7 +569,7 @@ module _ (S : Sheet) (levels : List ℤ) (tables : List ℕ) (L : Loan) where
 
 -- ---- the tests of both modes' records, and of the totals' room
 
-module _ (S : Sheet) (levels : List ℤ) (tables : List ℕ) (ls : List ℕ) (t : ℕ) where
+module _ (S : Sheet) (levels : Levels) (tables : List ℕ) (ls : List ℕ) (t : ℕ) where
   pub not-legal : allLegal S ≡ false → 13 ≡ solveRefusal S levels tables ls t
   unfolding solveRefusal
   not-legal e = rw e

@@ -4,9 +4,9 @@ use mathlib.Core.Bool.{Bool, true, false, cond}
 use mathlib.Core.List.{List, [], map}
 use Prim.Native.Nat.{ℕ, _-_, _*_}
 use native.Mathlib.Omega.{arith}
-use lib.IntN.{ℤ}
 use lib.ListN.{length, take}
 use lib.Seq.{take-all}
+use Rattle.start.specs.Coef.{Levels, pairs}
 use Rattle.fold.specs.Fold.{upto}
 use Rattle.fold.specs.Join.{joinUpto}
 use Rattle.contents.specs.declared.Sheet.{Sheet}
@@ -40,7 +40,7 @@ unfolding runTotals upto
 no-steps-totals G e = ap (λ (n : ℕ). joinUpto (pairAt G) n) e
 
 -- both modes have the sheet's channels
-pub whole-channels : (S : Sheet) (levels : List ℤ) (tables : List ℕ) → wholeOf S levels tables .channels ≡ S .header .channels
+pub whole-channels : (S : Sheet) (levels : Levels) (tables : List ℕ) → wholeOf S levels tables .channels ≡ S .header .channels
 unfolding wholeOf runOf separately joint
 whole-channels S levels tables = go (S .header .joint)
   where
@@ -49,7 +49,7 @@ whole-channels S levels tables = go (S .header .joint)
     go false = refl
 
 -- "With one channel the letters act alike": the runs of both modes are given the same, so what they leave is the same.
-module _ (S : Sheet) (levels : List ℤ) (tables : List ℕ) (L : Loan) (accepted : Taken S levels tables L) (one : S .header .channels ≡ 1) where
+module _ (S : Sheet) (levels : Levels) (tables : List ℕ) (L : Loan) (accepted : Taken S levels tables L) (one : S .header .channels ≡ 1) where
   same-sheet : sheetOf (joint S) ≡ sheetOf (alone S 0)
   unfolding joint alone
   same-sheet =
@@ -68,8 +68,11 @@ module _ (S : Sheet) (levels : List ℤ) (tables : List ℕ) (L : Loan) (accepte
 
   all-levels : levelsFor S levels 0 ≡ levels
   all-levels =
-      let long : length levels ≡ levelsBefore (sheetOf (joint S)) 1 = levels-long S levels tables L accepted ∙ ap (levelsBefore (sheetOf (joint S))) one in
-      take-all (levelsBefore (sheetOf (joint S)) 1 - 0) levels (omega arith)
+      let n = levelsBefore (sheetOf (joint S)) in
+      let long = levels-long S levels tables L accepted in
+      let lows : length (levels .lows) ≡ n 1 = long .0 ∙ ap n one in
+      let highs : length (levels .highs) ≡ n 1 = long .1 ∙ ap n one in
+      λ i. pairs (take-all (n 1 - 0) (levels .lows) (omega arith) i) (take-all (n 1 - 0) (levels .highs) (omega arith) i)
 
   all-tables : tablesFor tables 0 ≡ tables
   all-tables = take-all 64 tables (omega (arith, tables-long S levels tables L accepted))

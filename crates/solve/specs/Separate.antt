@@ -3,8 +3,8 @@ use Prim.Native.Nat.{ℕ, suc, _+_, _*_, _≤_, _<_}
 use mathlib.Core.Path.{_≡_}
 use mathlib.Core.Bool.{false}
 use mathlib.Core.List.{List}
-use lib.IntN.{ℤ}
 use lib.ListN.{length}
+use Rattle.start.specs.Coef.{Levels, Long}
 use Rattle.fold.specs.Part.{part, splice}
 use Rattle.contents.specs.declared.Sheet.{Sheet}
 use Rattle.calls.specs.Run.{levelsBefore}
@@ -30,7 +30,7 @@ putLoan S c L own =
     loan (putChannel (S .header .width * S .header .height) c (L .buffers) (own .buffers)) (splice (L .totals) (totalsFrom S c) (totalsFrom S (suc c)) (own .totals))
 
 -- channel c's run, on its part of the six and of the totals, which leaves the record r
-pub record AloneIs (S : Sheet) (c : ℕ) (levels : List ℤ) (tables : List ℕ) (L : Loan) (a : Answer) (r : Run) (L′ : Loan) : Type 0 where
+pub record AloneIs (S : Sheet) (c : ℕ) (levels : Levels) (tables : List ℕ) (L : Loan) (a : Answer) (r : Run) (L′ : Loan) : Type 0 where
   pub own : Loan
   pub run : RunIs (alone S c) (levelsFor S levels c) (tablesFor tables c) (loanOf S c L) a r own
   pub put : L′ ≡ putLoan S c L own
@@ -57,10 +57,10 @@ pub record PartsAre (S : Sheet) (c from to l m t u x y : ℕ) : Type 0 where
   pub y-small : y ≤ 25769803770
 
 -- asked: a legal sheet, one of its channels, and the lengths
-pub record AloneAsks (S : Sheet) (c : ℕ) (levels : List ℤ) (tables : List ℕ) (L : Loan) : Type 0 where
+pub record AloneAsks (S : Sheet) (c : ℕ) (levels : Levels) (tables : List ℕ) (L : Loan) : Type 0 where
   pub is-legal : Legal (joint S)
   pub below : c < S .header .channels
-  pub levels-long : length levels ≡ levelsBefore (sheetOf (joint S)) (S .header .channels)
+  pub levels-long : Long levels (levelsBefore (sheetOf (joint S)) (S .header .channels))
   pub tables-long : length tables ≡ S .header .channels * 64
   pub plane-long : length (L .buffers .plane) ≡ S .header .channels * (S .header .width * S .header .height)
   pub prior-long : length (L .buffers .prior) ≡ S .header .channels * (S .header .width * S .header .height)
@@ -71,9 +71,9 @@ pub record AloneAsks (S : Sheet) (c : ℕ) (levels : List ℤ) (tables : List �
   pub totals-long : length (L .totals) ≡ totalsFrom S (S .header .channels)
 
 -- the channels' runs, one after the other, of a sheet in separate mode that is not refused
-pub record SeparateAsks (S : Sheet) (levels : List ℤ) (tables : List ℕ) (L : Loan) : Type 0 where
+pub record SeparateAsks (S : Sheet) (levels : Levels) (tables : List ℕ) (L : Loan) : Type 0 where
   pub apart : S .header .joint ≡ false
   pub accepted : solveRefusal S levels tables (lengths allSix (L .buffers)) (length (L .totals)) ≡ 0
 
-abbrev pub SeparateIs : Sheet → List ℤ → List ℕ → Loan → Answer → List ℕ → Loan → Type 0
+abbrev pub SeparateIs : Sheet → Levels → List ℕ → Loan → Answer → List ℕ → Loan → Type 0
 SeparateIs S levels tables L a ks L′ = Ends 0 (separately S levels tables) L (answerOf a) (numberIn ks) L′

@@ -2,10 +2,10 @@
 use Prim.Native.Nat.{ℕ, zero, suc, _+_, _*_}
 use mathlib.Core.Bool.{Bool, false, _&&_, cond}
 use mathlib.Core.List.{List, [], _∷_}
-use lib.IntN.{ℤ}
 use lib.ListN.{length, getD}
 use lib.Dec.{eqb}
 use lib.Ieee.{Float}
+use Rattle.start.specs.Coef.{Levels}
 use Rattle.fold.specs.Join.{joinUpto}
 use Rattle.fold.specs.Part.{part}
 use Rattle.contents.specs.declared.Weight.{Weight}
@@ -18,7 +18,7 @@ use Rattle.contents.specs.Sheets.{channelAt}
 use Rattle.start.specs.declared.coef.Reorder.{Reorder}
 use Rattle.start.specs.declared.coef.Reorder.the-variants.{Each, Once}
 use Rattle.start.specs.Buffers.{Buffers}
-use Rattle.calls.specs.Run.{Given, levelsBefore, every, among, legal}
+use Rattle.calls.specs.Run.{Given, levelsBefore, levelsPart, every, among, legal}
 use Rattle.calls.specs.Buffers.{joined}
 use Rattle.calls.specs.Calls.{lengths, allSix, startRefusal}
 use Rattle.record.specs.declared.Run.{Run}
@@ -89,26 +89,26 @@ alone S c =
 
 -- ---- what each run is given: in joint mode all levels and tables, in separate mode the channel's
 
-abbrev pub jointGiven : Sheet → List ℤ → List ℕ → Given
+abbrev pub jointGiven : Sheet → Levels → List ℕ → Given
 jointGiven S levels tables = givenOf (joint S) levels tables
 
-abbrev pub levelsFor : Sheet → List ℤ → ℕ → List ℤ
-levelsFor S levels c = part levels (levelsBefore (sheetOf (joint S)) c) (levelsBefore (sheetOf (joint S)) (suc c))
+abbrev pub levelsFor : Sheet → Levels → ℕ → Levels
+levelsFor S levels c = levelsPart levels (levelsBefore (sheetOf (joint S)) c) (levelsBefore (sheetOf (joint S)) (suc c))
 
 abbrev pub tablesFor : List ℕ → ℕ → List ℕ
 tablesFor tables c = part tables (c * 64) (c * 64 + 64)
 
-abbrev pub aloneGiven : Sheet → List ℤ → List ℕ → ℕ → Given
+abbrev pub aloneGiven : Sheet → Levels → List ℕ → ℕ → Given
 aloneGiven S levels tables c = givenOf (alone S c) (levelsFor S levels c) (tablesFor tables c)
 
 -- ---- what the runs leave, by what they are given
 
 -- the number that channel c's run alone leaves (M-104)
-abbrev pub aloneClipped : Sheet → List ℤ → List ℕ → ℕ → ℕ
+abbrev pub aloneClipped : Sheet → Levels → List ℕ → ℕ → ℕ
 aloneClipped S levels tables c = kept jobs (aloneGiven S levels tables c) (jobCount (aloneGiven S levels tables c)) 0
 
 -- in separate mode the runs of all channels
-unfoldable pub separately : Sheet → List ℤ → List ℕ → Whole
+unfoldable pub separately : Sheet → Levels → List ℕ → Whole
 separately S levels tables =
     record {
       buffers = joined (S .header .channels) (λ c. last (aloneGiven S levels tables c) 0);
@@ -119,23 +119,23 @@ separately S levels tables =
     }
 
 -- both modes
-unfoldable pub wholeOf : Sheet → List ℤ → List ℕ → Whole
+unfoldable pub wholeOf : Sheet → Levels → List ℕ → Whole
 wholeOf S levels tables = cond (S .header .joint) (runOf (jointGiven S levels tables)) (separately S levels tables)
 
 -- the planes of all channels, one after the other
-abbrev pub planes : Sheet → List ℤ → List ℕ → List Float
+abbrev pub planes : Sheet → Levels → List ℕ → List Float
 planes S levels tables = wholeOf S levels tables .buffers .plane
 
 -- "A blown channel ends the program with 10."
-abbrev pub blows : Sheet → List ℤ → List ℕ → Bool
+abbrev pub blows : Sheet → Levels → List ℕ → Bool
 blows S levels tables = wholeOf S levels tables .blown
 
 -- both totals of each blend, run after run and step after step (M-103)
-abbrev pub totalsOf : Sheet → List ℤ → List ℕ → List Float
+abbrev pub totalsOf : Sheet → Levels → List ℕ → List Float
 totalsOf S levels tables = wholeOf S levels tables .totals
 
 -- how many coefficients the last project of channel c clipped, "Without steps it is 0" (M-104)
-abbrev pub clippedAt : Sheet → List ℤ → List ℕ → ℕ → ℕ
+abbrev pub clippedAt : Sheet → Levels → List ℕ → ℕ → ℕ
 clippedAt S levels tables = wholeOf S levels tables .clipped
 
 -- ---- what solve promises
@@ -148,8 +148,8 @@ unfoldable pub allLegal : Sheet → Bool
 allLegal S = isLegal (joint S) && every (S .header .channels) (λ c. isLegal (alone S c))
 
 -- 13 for any other sheet; 8 where the totals, of which t places are lent, have not two for each blend; then what start refuses, of the whole
--- buffers: 8, 4, 5
-unfoldable pub solveRefusal : Sheet → List ℤ → List ℕ → List ℕ → ℕ → ℕ
+-- buffers: 8, 4, then pair by pair 5 and 14
+unfoldable pub solveRefusal : Sheet → Levels → List ℕ → List ℕ → ℕ → ℕ
 solveRefusal S levels tables ls t =
     cond (allLegal S) (cond (eqb t (blendCount S * 2)) (startRefusal (jointGiven S levels tables) (placesOf (joint S)) ls) 8) 13
 
@@ -159,6 +159,6 @@ numberIn ks c = getD ks c 0
 
 -- How `solve` ends: refused, with the six and the totals as they were; blown; or done, with the six that the sheet's mode gives after 5N jobs, both
 -- totals of each blend, and each channel's number ks.
-abbrev pub SolveIs : Sheet → List ℤ → List ℕ → Loan → Answer → List ℕ → Loan → Type 0
+abbrev pub SolveIs : Sheet → Levels → List ℕ → Loan → Answer → List ℕ → Loan → Type 0
 SolveIs S levels tables L a ks L′ =
     Ends (solveRefusal S levels tables (lengths allSix (L .buffers)) (length (L .totals))) (wholeOf S levels tables) L (answerOf a) (numberIn ks) L′

@@ -10,6 +10,7 @@ use record::places::clipped_of;
 use rounds::run_value;
 ghost use mathlib.Core.Path.{_≡_};
 ghost use mathlib.Core.List.{[], _∷_};
+ghost use Rattle.start.specs.Coef.{pairs};
 ghost use Rattle.record.specs.Model.{clippedOf};
 ghost use Rattle.rounds.specs.Whole.{six, loan};
 ghost use Rattle.solve.specs.Solve.{SolveIs};
@@ -32,7 +33,8 @@ fn numbers_of(run: Run) -> [u32; 3]
 // one step short, for those after the last job; in separate mode the number of the last channel for each; the totals of the runs step by step.
 pub fn solve(
     s: Sheet,
-    levels: &[i16],
+    lows: &[i16],
+    highs: &[i16],
     tables: &[u16],
     plane: &mut [f32],
     prior: &mut [f32],
@@ -42,7 +44,7 @@ pub fn solve(
     saved: &mut [f32],
     totals: &mut [f64],
 ) -> Solved
-    ensures { λ r. ⌜ SolveIs s (now (levels .entry)) (now (tables .entry))
+    ensures { λ r. ⌜ SolveIs s (pairs (now (lows .entry)) (now (highs .entry))) (now (tables .entry))
         (loan (six (now (plane .entry)) (now (prior .entry)) (now (gradient .entry)) (now (across .entry)) (now (down .entry)) (now (saved .entry))) (now (totals .entry))) (r .answer) (r .clipped)
         (loan (six (now (plane .exit)) (now (prior .exit)) (now (gradient .exit)) (now (across .exit)) (now (down .exit)) (now (saved .exit))) (now (totals .exit))) ⌝ }
 {
@@ -54,7 +56,7 @@ pub fn solve(
         down.len(),
         saved.len(),
     ];
-    let r = modes::solve_refusal(s, &lengths, totals.len(), levels, tables);
+    let r = modes::solve_refusal(s, &lengths, totals.len(), lows, highs, tables);
     if r != 0 {
         let none = [0u32; 3];
         return Solved {
@@ -67,7 +69,8 @@ pub fn solve(
         let run = modes::joint_of(s);
         let t = run_value(
             run,
-            levels,
+            lows,
+            highs,
             tables,
             plane,
             prior,
@@ -83,7 +86,8 @@ pub fn solve(
     }
     separate::separate(
         s,
-        levels,
+        lows,
+        highs,
         tables,
         plane,
         prior,

@@ -11,6 +11,7 @@ use record::Run;
 use record::legal::legal;
 use start::coef::Reorder;
 ghost use mathlib.Core.Path.{_≡_};
+ghost use Rattle.start.specs.Coef.{pairs};
 ghost use Rattle.contents.specs.Sheets.{channelAt};
 ghost use Rattle.solve.specs.Solve.{runChannel, reorderOf, joint, alone, smoothingAt, allLegal, solveRefusal};
 
@@ -133,15 +134,16 @@ pub fn all_legal(s: Sheet) -> bool
     ok
 }
 
-// 13, 8, 4 and 5, in this order; 0 is no refusal. `lengths` are those of the six, `totals` is that of the totals.
+// 13, 8, 4, then pair by pair 5 and 14, in this order; 0 is no refusal. `lengths` are those of the six, `totals` is that of the totals.
 pub fn solve_refusal(
     s: Sheet,
     lengths: &[usize],
     totals: usize,
-    levels: &[i16],
+    lows: &[i16],
+    highs: &[i16],
     tables: &[u16],
 ) -> u8
-    ensures { λ r. ⌜ r ≡ solveRefusal s (now (levels .entry)) (now (tables .entry)) (now (lengths .entry)) totals ⌝ }
+    ensures { λ r. ⌜ r ≡ solveRefusal s (pairs (now (lows .entry)) (now (highs .entry))) (now (tables .entry)) (now (lengths .entry)) totals ⌝ }
 {
     if !all_legal(s) {
         return 13;
@@ -149,5 +151,5 @@ pub fn solve_refusal(
     if totals != blend_count(s) * 2 {
         return 8;
     }
-    record::refusals::start_refusal(joint_of(s), lengths, levels, tables)
+    record::refusals::start_refusal(joint_of(s), lengths, lows, highs, tables)
 }

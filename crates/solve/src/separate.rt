@@ -9,6 +9,7 @@ use record::Answered;
 use record::places::clipped_of;
 use rounds::run_value;
 ghost use Prim.Native.Nat.{_<_};
+ghost use Rattle.start.specs.Coef.{pairs};
 ghost use Rattle.record.specs.Model.{Legal};
 ghost use Rattle.rounds.specs.Whole.{six, loan};
 ghost use Rattle.solve.specs.Solve.{joint};
@@ -53,7 +54,8 @@ fn parts_of(s: Sheet, c: u32) -> Parts
 fn alone_value(
     s: Sheet,
     c: u32,
-    levels: &[i16],
+    lows: &[i16],
+    highs: &[i16],
     tables: &[u16],
     plane: &mut [f32],
     prior: &mut [f32],
@@ -63,8 +65,8 @@ fn alone_value(
     saved: &mut [f32],
     totals: &mut [f64],
 ) -> Answered
-    requires { ⌜ AloneAsks s c (now levels) (now tables) (loan (six (now plane) (now prior) (now gradient) (now across) (now down) (now saved)) (now totals)) ⌝ }
-    ensures { λ r. ⌜ AloneIs s c (now (levels .entry)) (now (tables .entry))
+    requires { ⌜ AloneAsks s c (pairs (now lows) (now highs)) (now tables) (loan (six (now plane) (now prior) (now gradient) (now across) (now down) (now saved)) (now totals)) ⌝ }
+    ensures { λ r. ⌜ AloneIs s c (pairs (now (lows .entry)) (now (highs .entry))) (now (tables .entry))
         (loan (six (now (plane .entry)) (now (prior .entry)) (now (gradient .entry)) (now (across .entry)) (now (down .entry)) (now (saved .entry))) (now (totals .entry))) (r .answer) (r .run)
         (loan (six (now (plane .exit)) (now (prior .exit)) (now (gradient .exit)) (now (across .exit)) (now (down .exit)) (now (saved .exit))) (now (totals .exit))) ⌝ }
 {
@@ -79,7 +81,8 @@ fn alone_value(
     let y = p.totals_to;
     run_value(
         alone_of(s, c),
-        &levels[l..m],
+        &lows[l..m],
+        &highs[l..m],
         &tables[t..u],
         &mut plane[from..to],
         &mut prior[from..to],
@@ -94,7 +97,8 @@ fn alone_value(
 // The channels' runs, from the first to the last. It stops at one that is blown.
 pub fn separate(
     s: Sheet,
-    levels: &[i16],
+    lows: &[i16],
+    highs: &[i16],
     tables: &[u16],
     plane: &mut [f32],
     prior: &mut [f32],
@@ -104,8 +108,8 @@ pub fn separate(
     saved: &mut [f32],
     totals: &mut [f64],
 ) -> Solved
-    requires { ⌜ SeparateAsks s (now levels) (now tables) (loan (six (now plane) (now prior) (now gradient) (now across) (now down) (now saved)) (now totals)) ⌝ }
-    ensures { λ r. ⌜ SeparateIs s (now (levels .entry)) (now (tables .entry))
+    requires { ⌜ SeparateAsks s (pairs (now lows) (now highs)) (now tables) (loan (six (now plane) (now prior) (now gradient) (now across) (now down) (now saved)) (now totals)) ⌝ }
+    ensures { λ r. ⌜ SeparateIs s (pairs (now (lows .entry)) (now (highs .entry))) (now (tables .entry))
         (loan (six (now (plane .entry)) (now (prior .entry)) (now (gradient .entry)) (now (across .entry)) (now (down .entry)) (now (saved .entry))) (now (totals .entry))) (r .answer) (r .clipped)
         (loan (six (now (plane .exit)) (now (prior .exit)) (now (gradient .exit)) (now (across .exit)) (now (down .exit)) (now (saved .exit))) (now (totals .exit))) ⌝ }
 {
@@ -115,7 +119,8 @@ pub fn separate(
         let t = alone_value(
             s,
             c,
-            levels,
+            lows,
+            highs,
             tables,
             plane,
             prior,

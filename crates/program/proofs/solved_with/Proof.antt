@@ -2,6 +2,7 @@
 use borrow.Author.Needs.{needs}
 use native.Mathlib.Omega.{arith}
 use mathlib.Core.Path.{refl}
+use Rattle.contents.specs.Sheets.{lent}
 use Rattle.rounds.specs.Whole.{six}
 use Rattle.program.proofs.Accepts.{at-most}
 use Rattle.program.proofs.Printing.{done-long, done-room, done-text, numbers-small, blown-text}
@@ -13,7 +14,7 @@ returns c =
     let a = c .before .before .before .before .before .before .before .before .before .before .before .before .before .before .before .before .before .before .before .before .before .before .before .before .before .before .before .before .before .before .before .before .before .before .before .before .before .before .before .args in
     let p = c .before .before .before .before .before .before .before .before .before .before .before .before .before .before .before .before .before .before .before .before .before .before .before .before .before .before .before .before .before .before .before .before .before .before .before .before .before .before .before .pre in
     let o = c .before .before .before .before .before .before .before .before .before .before .before .before .before .before .before .before .before .before .before .solve in
-    blown-text (a .s) (a .levels .now) (a .tables .now) (p .0) (six (a .plane .now) (a .prior .now) (a .gradient .now) (a .across .now) (a .down .now) (a .saved .now)) (p .1) (a .totals .now) (p .2)
+    blown-text (a .s) (lent (a .lows .now) (a .highs .now) (a .tables .now)) (p .0) (six (a .plane .now) (a .prior .now) (a .gradient .now) (a .across .now) (a .down .now) (a .saved .now)) (p .1) (a .totals .now) (p .2)
     (o .result .answer) (o .result .clipped) _ (o .ensures) (c .before .before .before .before .match .keys2) (a .out .now) _ _ _ _ (p .3) (c .before .before .write-refusal .ensures) refl refl
 
 write-sums-requires : tie.Need-write-sums-requires
@@ -21,7 +22,7 @@ write-sums-requires c κs =
     let a = c .before .before .before .before .before .before .before .before .before .before .before .before .before .before .before .before .before .before .before .before .before .before .before .before .before .before .before .before .before .before .before .before .before .before .before .before .before .before .before .args in
     let p = c .before .before .before .before .before .before .before .before .before .before .before .before .before .before .before .before .before .before .before .before .before .before .before .before .before .before .before .before .before .before .before .before .before .before .before .before .before .before .before .pre in
     let o = c .before .before .before .before .before .before .before .before .before .before .before .before .before .before .before .before .before .before .before .solve in
-    (p .0 .header, done-room (a .s) (a .levels .now) (a .tables .now) (p .0) (six (a .plane .now) (a .prior .now) (a .gradient .now) (a .across .now) (a .down .now) (a .saved .now)) (p .1) (a .totals .now) (p .2) (o .result .answer) (o .result .clipped) _ (o .ensures) (c .before .before .before .before .match .keys1), p .3)
+    (p .0 .header, done-room (a .s) (lent (a .lows .now) (a .highs .now) (a .tables .now)) (p .0) (six (a .plane .now) (a .prior .now) (a .gradient .now) (a .across .now) (a .down .now) (a .saved .now)) (p .1) (a .totals .now) (p .2) (o .result .answer) (o .result .clipped) _ (o .ensures) (c .before .before .before .before .match .keys1), p .3)
 
 write-numbers-requires : tie.Need-write-numbers-requires
 write-numbers-requires c κs =
@@ -29,7 +30,7 @@ write-numbers-requires c κs =
     let p = c .before .before .before .before .before .before .before .before .before .before .before .before .before .before .before .before .before .before .before .before .before .before .before .before .before .before .before .before .before .before .before .before .before .before .before .before .before .before .before .before .before .before .before .pre in
     let o = c .before .before .before .before .before .before .before .before .before .before .before .before .before .before .before .before .before .before .before .before .before .before .before .solve in (
       at-most (a .s .header .channels) (p .0 .header .channels),
-      numbers-small (a .s) (a .levels .now) (a .tables .now) (p .0) (six (a .plane .now) (a .prior .now) (a .gradient .now) (a .across .now) (a .down .now) (a .saved .now)) (p .1) (a .totals .now) (p .2) (o .result .answer) (o .result .clipped) _ (o .ensures) (c .before .before .before .before .before .before .before .before .match .keys1),
+      numbers-small (a .s) (lent (a .lows .now) (a .highs .now) (a .tables .now)) (p .0) (six (a .plane .now) (a .prior .now) (a .gradient .now) (a .across .now) (a .down .now) (a .saved .now)) (p .1) (a .totals .now) (p .2) (o .result .answer) (o .result .clipped) _ (o .ensures) (c .before .before .before .before .before .before .before .before .match .keys1),
       omega (arith, p .3, c .before .before .before .write-sums .ensures .1, c .before .before .out2 .given),
     )
 
@@ -39,7 +40,7 @@ paint-requires c κs =
     let p = c .before .before .before .before .before .before .before .before .before .before .before .before .before .before .before .before .before .before .before .before .before .before .before .before .before .before .before .before .before .before .before .before .before .before .before .before .before .before .before .before .before .before .before .before .before .before .before .before .pre in
     let o = c .before .before .before .before .before .before .before .before .before .before .before .before .before .before .before .before .before .before .before .before .before .before .before .before .before .before .before .before .solve in (
       p .0 .header,
-      done-long (a .s) (a .levels .now) (a .tables .now) (p .0) (six (a .plane .now) (a .prior .now) (a .gradient .now) (a .across .now) (a .down .now) (a .saved .now)) (p .1) (a .totals .now) (p .2)
+      done-long (a .s) (lent (a .lows .now) (a .highs .now) (a .tables .now)) (p .0) (six (a .plane .now) (a .prior .now) (a .gradient .now) (a .across .now) (a .down .now) (a .saved .now)) (p .1) (a .totals .now) (p .2)
           (o .result .answer) (o .result .clipped) _ (o .ensures) (c .before .before .before .before .before .before .before .before .before .before .before .before .before .match .keys1),
       omega (arith, p .3, c .before .before .before .before .before .before .before .before .write-sums .ensures .1, c .before .before .before .before .write-numbers .ensures .1, c .before .before .before .before .before .before .before .out2 .given, c .before .before .before .out3 .given),
     )
@@ -52,7 +53,7 @@ returns-2 c =
     let f = c .before .before .before .before .before .before .before .before .before .before .before .before .before .before .before .before .before .before .before .before .before .before .before .before .before .before .before .before .before .before .before .before .before .before .before .before .before .before .before .rounding-of in
     let t = c .before .before .before .before .before .before .before .before .before .before .before .write-sums in
     let k = c .before .before .before .before .before .before .before .write-numbers in
-    done-text (a .s) (a .levels .now) (a .tables .now) (p .0) (six (a .plane .now) (a .prior .now) (a .gradient .now) (a .across .now) (a .down .now) (a .saved .now)) (p .1) (a .totals .now) (p .2)
+    done-text (a .s) (lent (a .lows .now) (a .highs .now) (a .tables .now)) (p .0) (six (a .plane .now) (a .prior .now) (a .gradient .now) (a .across .now) (a .down .now) (a .saved .now)) (p .1) (a .totals .now) (p .2)
     (o .result .answer) (o .result .clipped) _ (o .ensures) (c .before .before .before .before .before .before .before .before .before .before .before .before .before .before .before .before .match .keys1) (f .result) (f .ensures) (a .out .now) (t .result) _ (t .ensures .0) (omega (arith, p .3, t .ensures .1)) (c .before .before .before .before .before .before .before .before .before .before .out2 .given) (k .result) _ (k .ensures .0) (omega (arith, p .3, t .ensures .1, k .ensures .1)) _ _ (c .before .before .paint .ensures)
 
 pub solved-with-spec : {M : Type 1} → statement M

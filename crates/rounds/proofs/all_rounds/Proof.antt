@@ -3,6 +3,7 @@ use mathlib.Core.Path.{sym, _∙_}
 use Prim.Native.Nat.{_-_}
 use native.Mathlib.Omega.{arith}
 use borrow.Author.Tests.{not-true, not-false}
+use Rattle.start.specs.Coef.{pairs}
 use Rattle.record.specs.Model.{givenOf}
 use Rattle.rounds.specs.Whole.{six}
 use Rattle.rounds.proofs.Ends.{Rounding, few, begins, round-asks, room, goes-on, stops, ends}
@@ -11,11 +12,11 @@ use Rattle.rounds.proofs.all_rounds.Statement.{statement}
 use Rattle.rounds.proofs.all_rounds.Tie as tie
 
 abbrev Inv-loop : tie.InvT-loop
-Inv-loop levels tables plane₀ prior₀ gradient₀ across₀ down₀ saved₀ totals₀ next₀ p₀ p-end plane prior gradient across down saved totals next p =
-    Rounding (givenOf next₀ levels tables) p-end p next (six plane₀ prior₀ gradient₀ across₀ down₀ saved₀) totals₀ (six plane prior gradient across down saved) totals
+Inv-loop lows highs tables plane₀ prior₀ gradient₀ across₀ down₀ saved₀ totals₀ next₀ p₀ p-end plane prior gradient across down saved totals next p =
+    Rounding (givenOf next₀ (pairs lows highs) tables) p-end p next (six plane₀ prior₀ gradient₀ across₀ down₀ saved₀) totals₀ (six plane prior gradient across down saved) totals
 
 abbrev μ-loop : tie.MeasureT-loop
-μ-loop levels tables plane₀ prior₀ gradient₀ across₀ down₀ saved₀ totals₀ next₀ p₀ p-end plane prior gradient across down saved totals next p = p-end - p
+μ-loop lows highs tables plane₀ prior₀ gradient₀ across₀ down₀ saved₀ totals₀ next₀ p₀ p-end plane prior gradient across down saved totals next p = p-end - p
 
 mul-p-end : tie.Need-mul-p-end Inv-loop μ-loop
 mul-p-end c = omega (arith, few _ _ _ _ _ (c .before .before .before .before .before .before .before .before .before .pre))

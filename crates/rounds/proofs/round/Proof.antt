@@ -1,5 +1,6 @@
 -- `round`: the channels passed have had the job.
 use Prim.Native.Nat.{_-_}
+use Rattle.start.specs.Coef.{pairs}
 use Rattle.record.specs.Model.{givenOf}
 use Rattle.rounds.specs.Whole.{six}
 use Rattle.rounds.proofs.Steps.{Passing, begins, goes-on, stops, ends}
@@ -8,11 +9,11 @@ use Rattle.rounds.proofs.round.Statement.{statement}
 use Rattle.rounds.proofs.round.Tie as tie
 
 abbrev Inv-loop : tie.InvT-loop
-Inv-loop p levels tables plane₀ prior₀ gradient₀ across₀ down₀ saved₀ job next₀ c₀ c-end plane prior gradient across down saved next c =
-    Passing (givenOf next₀ levels tables) p c-end c next (six plane₀ prior₀ gradient₀ across₀ down₀ saved₀) (six plane prior gradient across down saved)
+Inv-loop p lows highs tables plane₀ prior₀ gradient₀ across₀ down₀ saved₀ job next₀ c₀ c-end plane prior gradient across down saved next c =
+    Passing (givenOf next₀ (pairs lows highs) tables) p c-end c next (six plane₀ prior₀ gradient₀ across₀ down₀ saved₀) (six plane prior gradient across down saved)
 
 abbrev μ-loop : tie.MeasureT-loop
-μ-loop p levels tables plane₀ prior₀ gradient₀ across₀ down₀ saved₀ job next₀ c₀ c-end plane prior gradient across down saved next c = c-end - c
+μ-loop p lows highs tables plane₀ prior₀ gradient₀ across₀ down₀ saved₀ job next₀ c₀ c-end plane prior gradient across down saved next c = c-end - c
 
 loop-holds : tie.Need-loop-holds Inv-loop μ-loop
 loop-holds c =

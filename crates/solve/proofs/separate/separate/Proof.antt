@@ -2,6 +2,7 @@
 use mathlib.Core.Path.{refl}
 use Prim.Native.Nat.{_-_}
 use native.Mathlib.Omega.{arith}
+use Rattle.start.specs.Coef.{pairs}
 use Rattle.rounds.specs.Whole.{six, loan}
 use Rattle.solve.proofs.Alone.{joint-legal, few-channels, Parting, begins, alone-asks, goes-on, stops, ends}
 use borrow.Author.Needs.{needs}
@@ -9,11 +10,11 @@ use Rattle.solve.proofs.separate.separate.Statement.{statement}
 use Rattle.solve.proofs.separate.separate.Tie as tie
 
 abbrev Inv-loop : tie.InvT-loop
-Inv-loop s levels tables plane₀ prior₀ gradient₀ across₀ down₀ saved₀ totals₀ clipped₀ c₀ c-end plane prior gradient across down saved totals clipped c =
-    Parting s levels tables c-end c (loan (six plane₀ prior₀ gradient₀ across₀ down₀ saved₀) totals₀) (loan (six plane prior gradient across down saved) totals) clipped
+Inv-loop s lows highs tables plane₀ prior₀ gradient₀ across₀ down₀ saved₀ totals₀ clipped₀ c₀ c-end plane prior gradient across down saved totals clipped c =
+    Parting s (pairs lows highs) tables c-end c (loan (six plane₀ prior₀ gradient₀ across₀ down₀ saved₀) totals₀) (loan (six plane prior gradient across down saved) totals) clipped
 
 abbrev μ-loop : tie.MeasureT-loop
-μ-loop s levels tables plane₀ prior₀ gradient₀ across₀ down₀ saved₀ totals₀ clipped₀ c₀ c-end plane prior gradient across down saved totals clipped c = c-end - c
+μ-loop s lows highs tables plane₀ prior₀ gradient₀ across₀ down₀ saved₀ totals₀ clipped₀ c₀ c-end plane prior gradient across down saved totals clipped c = c-end - c
 
 loop-holds : tie.Need-loop-holds Inv-loop μ-loop
 loop-holds c = begins _ _ _ _ (c .before .before .before .before .before .before .before .before .before .pre) _ refl
@@ -32,22 +33,22 @@ returns c =
 cast-clipped : tie.Need-cast-clipped Inv-loop μ-loop
 cast-clipped c =
     let a = c .before .before .before .before .before .before .before .before .before .before .before .before .before .before .before .before .before .before .before .before .before .before .before .before .before .before .before .before .before .before .before .before .before .before .before .before .before .args in
-    record { fits = omega (arith, few-channels (a .s) (joint-legal (a .s) (a .levels .now) (a .tables .now) (loan (six (a .plane .now) (a .prior .now) (a .gradient .now) (a .across .now) (a .down .now) (a .saved .now)) (a .totals .now)) (c .before .before .before .before .before .before .before .before .before .before .before .before .before .before .before .before .before .before .before .before .before .before .before .before .before .before .before .before .before .before .before .before .before .before .before .before .before .pre .accepted)), c .before .before .before .before .before .before .before .before .before .before .before .before .before .before .before .before .before .before .before .before .before .before .before .before .before .before .loop-test .taken) }
+    record { fits = omega (arith, few-channels (a .s) (joint-legal (a .s) (pairs (a .lows .now) (a .highs .now)) (a .tables .now) (loan (six (a .plane .now) (a .prior .now) (a .gradient .now) (a .across .now) (a .down .now) (a .saved .now)) (a .totals .now)) (c .before .before .before .before .before .before .before .before .before .before .before .before .before .before .before .before .before .before .before .before .before .before .before .before .before .before .before .before .before .before .before .before .before .before .before .before .before .pre .accepted)), c .before .before .before .before .before .before .before .before .before .before .before .before .before .before .before .before .before .before .before .before .before .before .before .before .before .before .loop-test .taken) }
 
 mul-clipped : tie.Need-mul-clipped Inv-loop μ-loop
 mul-clipped c =
     let a = c .before .before .before .before .before .before .before .before .before .before .before .before .before .before .before .before .before .before .before .before .before .before .before .before .before .before .before .before .before .before .before .before .before .before .before .before .before .args in
-    omega (arith, few-channels (a .s) (joint-legal (a .s) (a .levels .now) (a .tables .now) (loan (six (a .plane .now) (a .prior .now) (a .gradient .now) (a .across .now) (a .down .now) (a .saved .now)) (a .totals .now)) (c .before .before .before .before .before .before .before .before .before .before .before .before .before .before .before .before .before .before .before .before .before .before .before .before .before .before .before .before .before .before .before .before .before .before .before .before .before .pre .accepted)), c .before .before .before .before .before .before .before .before .before .before .before .before .before .before .before .before .before .before .before .before .before .before .before .before .before .before .loop-test .taken)
+    omega (arith, few-channels (a .s) (joint-legal (a .s) (pairs (a .lows .now) (a .highs .now)) (a .tables .now) (loan (six (a .plane .now) (a .prior .now) (a .gradient .now) (a .across .now) (a .down .now) (a .saved .now)) (a .totals .now)) (c .before .before .before .before .before .before .before .before .before .before .before .before .before .before .before .before .before .before .before .before .before .before .before .before .before .before .before .before .before .before .before .before .before .before .before .before .before .pre .accepted)), c .before .before .before .before .before .before .before .before .before .before .before .before .before .before .before .before .before .before .before .before .before .before .before .before .before .before .loop-test .taken)
 
 array-write-clipped : tie.Need-array-write-clipped Inv-loop μ-loop
 array-write-clipped c =
     let a = c .before .before .before .before .before .before .before .before .before .before .before .before .before .before .before .before .before .before .before .before .before .before .before .before .before .before .before .before .before .before .before .before .before .before .before .before .before .args in
-    omega (arith, few-channels (a .s) (joint-legal (a .s) (a .levels .now) (a .tables .now) (loan (six (a .plane .now) (a .prior .now) (a .gradient .now) (a .across .now) (a .down .now) (a .saved .now)) (a .totals .now)) (c .before .before .before .before .before .before .before .before .before .before .before .before .before .before .before .before .before .before .before .before .before .before .before .before .before .before .before .before .before .before .before .before .before .before .before .before .before .pre .accepted)), c .before .before .before .before .before .before .before .before .before .before .before .before .before .before .before .before .before .before .before .before .before .before .before .before .before .before .loop-test .taken)
+    omega (arith, few-channels (a .s) (joint-legal (a .s) (pairs (a .lows .now) (a .highs .now)) (a .tables .now) (loan (six (a .plane .now) (a .prior .now) (a .gradient .now) (a .across .now) (a .down .now) (a .saved .now)) (a .totals .now)) (c .before .before .before .before .before .before .before .before .before .before .before .before .before .before .before .before .before .before .before .before .before .before .before .before .before .before .before .before .before .before .before .before .before .before .before .before .before .pre .accepted)), c .before .before .before .before .before .before .before .before .before .before .before .before .before .before .before .before .before .before .before .before .before .before .before .before .before .before .loop-test .taken)
 
 add-c : tie.Need-add-c Inv-loop μ-loop
 add-c c =
     let a = c .before .before .before .before .before .before .before .before .before .before .before .before .before .before .before .before .before .before .before .before .before .before .before .before .before .before .before .before .before .before .before .before .before .before .before .before .before .args in
-    omega (arith, few-channels (a .s) (joint-legal (a .s) (a .levels .now) (a .tables .now) (loan (six (a .plane .now) (a .prior .now) (a .gradient .now) (a .across .now) (a .down .now) (a .saved .now)) (a .totals .now)) (c .before .before .before .before .before .before .before .before .before .before .before .before .before .before .before .before .before .before .before .before .before .before .before .before .before .before .before .before .before .before .before .before .before .before .before .before .before .pre .accepted)), c .before .before .before .before .before .before .before .before .before .before .before .before .before .before .before .before .before .before .before .before .before .before .before .before .before .before .loop-test .taken)
+    omega (arith, few-channels (a .s) (joint-legal (a .s) (pairs (a .lows .now) (a .highs .now)) (a .tables .now) (loan (six (a .plane .now) (a .prior .now) (a .gradient .now) (a .across .now) (a .down .now) (a .saved .now)) (a .totals .now)) (c .before .before .before .before .before .before .before .before .before .before .before .before .before .before .before .before .before .before .before .before .before .before .before .before .before .before .before .before .before .before .before .before .before .before .before .before .before .pre .accepted)), c .before .before .before .before .before .before .before .before .before .before .before .before .before .before .before .before .before .before .before .before .before .before .before .before .before .before .loop-test .taken)
 
 loop-again : tie.Need-loop-again Inv-loop μ-loop
 loop-again c =
