@@ -43,6 +43,7 @@ enum smoother_answer {
     SMOOTHER_DONE = 11,    /* the channel, or for blend any channel, has had all its steps */
     SMOOTHER_CHANNEL = 12, /* there is no such channel */
     SMOOTHER_RECORD = 13,  /* sizes, factors, weights, iterations, letter, positions, marks or clipped numbers of no legal record */
+    SMOOTHER_RANGE = 14,   /* a lowest level above the highest of its place */
     SMOOTHER_PAGE = 15,    /* an iteration count within 1,000 but above the caller's limit */
     SMOOTHER_SEGMENT = 19,   /* a DQT segment with a wrong marker or stated length, or with fewer than 64 bytes left for a table */
     SMOOTHER_PRECISION = 20, /* a table of a DQT segment with a precision other than 0 or a destination above 3 */
@@ -57,8 +58,8 @@ enum smoother_answer {
 
 /* Measures a text of `text_len` bytes. `side` is the largest full side that is accepted, a multiple of 8, 8 to 512; `iterations` the largest
  * iteration count, 0 to 1,000, of spare ones too. Another limit is 2 at line 0, before the text is looked at.
- * 0: *levels and *tables are the lengths that smoother_read needs, *line is 0. Whatever the limits, a text that is accepted reads as the same sheet.
- * 1 to 7, 15: *line is the line at fault, counted from 1; *levels and *tables are unchanged. 15 is a count above `iterations`, at its field;
+ * 0: *levels (of lows, and of highs) and *tables are the lengths that smoother_read needs, *line is 0. Whatever the limits, a text that is accepted reads as the same sheet.
+ * 1 to 7, 14, 15: *line is the line at fault, counted from 1; *levels and *tables are unchanged. 15 is a count above `iterations`, at its field;
  * one above 1,000 is 2. */
 uint32_t smoother_measure(const uint8_t *text, size_t text_len, uint32_t side, uint32_t iterations, size_t *levels, size_t *tables, size_t *line);
 
@@ -80,11 +81,12 @@ enum smoother_header {
     SMOOTHER_NUMBERS = 29
 };
 
-/* Reads a text. `levels` and `tables` have the measured lengths, `header` has SMOOTHER_NUMBERS places.
- * 0: all three are filled, *line is 0. Levels are w x h values a channel, as in the B lines; tables are 64 quantisers a channel.
- * 1 to 7, 15: as measure answers for this text. 8, with *line 0: the text is legal, a length is wrong. A refusal leaves the three as they were. */
-uint32_t smoother_read(const uint8_t *text, size_t text_len, uint32_t side, uint32_t iterations, int16_t *levels, size_t levels_len,
-                       uint16_t *tables, size_t tables_len, uint32_t *header, size_t header_len, size_t *line);
+/* Reads a text. `lows` and `highs` have the measured length of levels, `tables` that of tables, `header` has SMOOTHER_NUMBERS places.
+ * 0: all four are filled, *line is 0. Lows and highs are w x h values a channel: the pairs of the G lines, and each level of a B line in both;
+ * tables are 64 quantisers a channel.
+ * 1 to 7, 14, 15: as measure answers for this text. 8, with *line 0: the text is legal, a length is wrong. A refusal leaves the four as they were. */
+uint32_t smoother_read(const uint8_t *text, size_t text_len, uint32_t side, uint32_t iterations, int16_t *lows, size_t lows_len,
+                       int16_t *highs, size_t highs_len, uint16_t *tables, size_t tables_len, uint32_t *header, size_t header_len, size_t *line);
 
 /* ---- A run ---- */
 
@@ -118,23 +120,25 @@ struct smoother_run {
 uint32_t smoother_run_bytes(void);
 uint32_t smoother_sheet_numbers(void);
 
-/* The buffers. plane, prior, gradient, across, down and saved have count x W x H values each, channel after channel, row by row; levels
- * and tables are those of the run's channels, in their order: w x h levels and 64 quantisers a channel. A call is lent those buffers
- * that it reads or writes, whole. All calls look for 13 first, then 8, then (where levels and tables are lent) 4 and 5 in all
- * channels, then 12, 10, 11, 9. */
+/* The buffers. plane, prior, gradient, across, down and saved have count x W x H values each, channel after channel, row by row; lows,
+ * highs and tables are those of the run's channels, in their order: w x h lows, w x h highs and 64 quantisers a channel. A level that is known stands
+ * in both, at the same place. A call is lent those buffers that it reads or writes, whole. All calls look for 13 first, then 8, then (where levels
+ * and tables are lent) 4 in all channels, then 5 and 14 in each pair, place after place and channel after channel, then 12, 10, 11, 9. */
 
-/* A fresh run: plane and prior are the start, saved is level x quantiser, the rest 0; positions become 0, marks and clipped numbers are cleared.
- * Takes any legal record, at any position. 0, 13, 8, 4, 5. */
-uint32_t smoother_start(struct smoother_run *run, const int16_t *levels, size_t levels_len, const uint16_t *tables, size_t tables_len,
-                        float *plane, size_t plane_len, float *prior, size_t prior_len, float *gradient, size_t gradient_len,
-                        float *across, size_t across_len, float *down, size_t down_len, float *saved, size_t saved_len);
+/* A fresh run: plane and prior are the start, saved is (low + high) / 2 x quantiser, the rest 0; positions become 0, marks and clipped numbers are cleared.
+ * Takes any legal record, at any position. 0, 13, 8, 4, 5, 14. */
+uint32_t smoother_start(struct smoother_run *run, const int16_t *lows, size_t lows_len, const int16_t *highs, size_t highs_len,
+                        const uint16_t *tables, size_t tables_len, float *plane, size_t plane_len, float *prior, size_t prior_len,
+                        float *gradient, size_t gradient_len, float *across, size_t across_len, float *down, size_t down_len,
+                        float *saved, size_t saved_len);
 
 /* Job 0 of channel c (from 0): the plane goes on in the direction of its last change. 0, 13, 8, 12, 10, 11, 9. */
 uint32_t smoother_push(struct smoother_run *run, uint32_t c, float *plane, size_t plane_len, float *prior, size_t prior_len);
 
-/* Job 1 of channel c: the gradient of the distance from the levels. 0, 13, 8, 4, 5, 12, 10, 11, 9. */
-uint32_t smoother_data(struct smoother_run *run, uint32_t c, const int16_t *levels, size_t levels_len, const uint16_t *tables,
-                       size_t tables_len, float *gradient, size_t gradient_len, const float *saved, size_t saved_len);
+/* Job 1 of channel c: the gradient of the distance from (low + high) / 2. 0, 13, 8, 4, 5, 14, 12, 10, 11, 9. */
+uint32_t smoother_data(struct smoother_run *run, uint32_t c, const int16_t *lows, size_t lows_len, const int16_t *highs,
+                       size_t highs_len, const uint16_t *tables, size_t tables_len, float *gradient, size_t gradient_len,
+                       const float *saved, size_t saved_len);
 
 /* Job 2, once for all channels: adds the gradients of both orders. totals has two places (totals_len is 2, else 8), which become the totals of the first
  * and of the second order: what the smoothing is to lower. A NaN among them has some NaN's bits. 0, 13, 8, 10, 11, 9. */
@@ -146,20 +150,20 @@ uint32_t smoother_move(struct smoother_run *run, uint32_t c, float *plane, size_
 
 /* Job 4 of channel c: back into the intervals that the levels allow. 0, or 255 where a plane value or saved coefficient is now NaN or
  * infinite: the job is done, and the channel is marked. Either way run->channels[c].clipped is the number of coefficients that were clipped:
- * those that lay below or above their interval, not at an end of it; a NaN is none. 13, 8, 4, 5, 12, 10, 11, 9. */
-uint32_t smoother_project(struct smoother_run *run, uint32_t c, const int16_t *levels, size_t levels_len, const uint16_t *tables,
-                          size_t tables_len, float *plane, size_t plane_len, float *across, size_t across_len, float *down,
-                          size_t down_len, float *saved, size_t saved_len);
+ * those that lay below or above their interval, not at an end of it; a NaN is none. 13, 8, 4, 5, 14, 12, 10, 11, 9. */
+uint32_t smoother_project(struct smoother_run *run, uint32_t c, const int16_t *lows, size_t lows_len, const int16_t *highs,
+                          size_t highs_len, const uint16_t *tables, size_t tables_len, float *plane, size_t plane_len,
+                          float *across, size_t across_len, float *down, size_t down_len, float *saved, size_t saved_len);
 
 /* Starts a fresh run and makes a list of calls: call i is job jobs[i], 0 push to 4 project, of channel channels[i] (not looked at for
  * blend), and answers[i] becomes its answer, 0, a refusal's number or 255. A refused call changes nothing, and the list goes on.
  * jobs, channels and answers have one length.
- * 0: the run was started and every call was made. 13, 8, 4, 5, or 9 for a number that is no job: nothing was done. */
-uint32_t smoother_serve(struct smoother_run *run, const uint8_t *jobs, size_t jobs_len, const uint32_t *channels, size_t channels_len,
-                        uint8_t *answers, size_t answers_len, const int16_t *levels, size_t levels_len, const uint16_t *tables,
-                        size_t tables_len, float *plane, size_t plane_len, float *prior, size_t prior_len, float *gradient,
-                        size_t gradient_len, float *across, size_t across_len, float *down, size_t down_len, float *saved,
-                        size_t saved_len);
+ * 0: the run was started and every call was made. 13, 8, 4, 5, 14, or 9 for a number that is no job: nothing was done. */
+uint32_t smoother_serve(struct smoother_run *run, const uint8_t *jobs, size_t jobs_len, const uint32_t *channels,
+                        size_t channels_len, uint8_t *answers, size_t answers_len, const int16_t *lows, size_t lows_len,
+                        const int16_t *highs, size_t highs_len, const uint16_t *tables, size_t tables_len, float *plane,
+                        size_t plane_len, float *prior, size_t prior_len, float *gradient, size_t gradient_len, float *across,
+                        size_t across_len, float *down, size_t down_len, float *saved, size_t saved_len);
 
 /* ---- A whole sheet ---- */
 
@@ -170,12 +174,13 @@ uint32_t smoother_serve(struct smoother_run *run, const uint8_t *jobs, size_t jo
  * 0: the six hold each channel's after its last job, channel after channel; plane the planes, totals both totals of each blend, run after run and step
  * after step, and clipped the number of coefficients that each channel's last project clipped, 0 without steps.
  * 255: a channel is blown; the contents of the six and of totals are not promised, and clipped is unchanged.
- * 8 for another count of numbers, 13 for a mode or a reordering that is not 0 or 1 and for numbers of no legal sheet, 8, 4, 5: all six,
+ * 8 for another count of numbers, 13 for a mode or a reordering that is not 0 or 1 and for numbers of no legal sheet, 8, 4, 5, 14: all six,
  * totals and clipped are unchanged. */
-uint32_t smoother_solve(const uint32_t *header, size_t header_len, const int16_t *levels, size_t levels_len, const uint16_t *tables,
-                        size_t tables_len, float *plane, size_t plane_len, float *prior, size_t prior_len, float *gradient,
-                        size_t gradient_len, float *across, size_t across_len, float *down, size_t down_len, float *saved,
-                        size_t saved_len, uint32_t *clipped, size_t clipped_len, double *totals, size_t totals_len);
+uint32_t smoother_solve(const uint32_t *header, size_t header_len, const int16_t *lows, size_t lows_len, const int16_t *highs,
+                        size_t highs_len, const uint16_t *tables, size_t tables_len, float *plane, size_t plane_len, float *prior,
+                        size_t prior_len, float *gradient, size_t gradient_len, float *across, size_t across_len, float *down,
+                        size_t down_len, float *saved, size_t saved_len, uint32_t *clipped, size_t clipped_len, double *totals,
+                        size_t totals_len);
 
 /* The picture of solved planes: channels x W x H values, only read. rgb has 3 x picture width x picture height bytes: red, green and blue
  * of each pixel, row by row. Adds 128 to channel 0, converts, clamps and rounds; NaN gives 0. rounding is 0 (truncated, as the published Rust) or

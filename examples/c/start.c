@@ -118,10 +118,10 @@ int main(int argc, char **argv)
         fprintf(stderr, "%s: refused, %" PRIu32 " at line %zu\n", argv[1], refused, line);
         return 1;
     }
-    int16_t *levels = space(n, sizeof *levels);
+    int16_t *lows = space(n, sizeof *lows), *highs = space(n, sizeof *highs);
     uint16_t *tables = space(m, sizeof *tables);
     uint32_t sheet[SMOOTHER_NUMBERS];
-    done("read", smoother_read(text, text_len, SMOOTHER_MOST_SIDE, SMOOTHER_MOST_ITERATIONS, levels, n, tables, m, sheet, SMOOTHER_NUMBERS, &line));
+    done("read", smoother_read(text, text_len, SMOOTHER_MOST_SIDE, SMOOTHER_MOST_ITERATIONS, lows, n, highs, n, tables, m, sheet, SMOOTHER_NUMBERS, &line));
 
     struct smoother_run run = run_of(sheet);
     n = 0;
@@ -131,21 +131,21 @@ int main(int argc, char **argv)
     size_t k = (size_t)run.count * run.w * run.h;
     float *plane = space(k, sizeof(float)), *prior = space(k, sizeof(float)), *gradient = space(k, sizeof(float));
     float *across = space(k, sizeof(float)), *down = space(k, sizeof(float)), *saved = space(k, sizeof(float));
-    done("start", smoother_start(&run, levels, n, tables, m, plane, k, prior, k, gradient, k, across, k, down, k, saved, k));
+    done("start", smoother_start(&run, lows, n, highs, n, tables, m, plane, k, prior, k, gradient, k, across, k, down, k, saved, k));
 
     unsigned long steps = argc > 2 ? strtoul(argv[2], NULL, 10) : run.n;
     bool ended = false;
     for (unsigned long step = 0; step < steps && step < run.n && !ended; step++) {
         for (uint32_t c = 0; c < run.count; c++) {
             done("push", smoother_push(&run, c, plane, k, prior, k));
-            done("data", smoother_data(&run, c, levels, n, tables, m, gradient, k, saved, k));
+            done("data", smoother_data(&run, c, lows, n, highs, n, tables, m, gradient, k, saved, k));
         }
         double totals[2];
         done("blend", smoother_blend(&run, plane, k, gradient, k, across, k, down, k, totals, 2));
         fprintf(stderr, "step %lu: totals %g and %g\n", step + 1, totals[0], totals[1]);
         for (uint32_t c = 0; c < run.count; c++) {
             done("move", smoother_move(&run, c, plane, k, gradient, k));
-            if (blown(smoother_project(&run, c, levels, n, tables, m, plane, k, across, k, down, k, saved, k))) {
+            if (blown(smoother_project(&run, c, lows, n, highs, n, tables, m, plane, k, across, k, down, k, saved, k))) {
                 fprintf(stderr, "channel %" PRIu32 " is blown in step %lu\n", c, step + 1);
                 ended = true;
             }
@@ -154,7 +154,7 @@ int main(int argc, char **argv)
     for (uint32_t x = 0; x < run.w; x++)
         printf("%08" PRIx32 "%c", bits(plane[x]), x + 1 < run.w ? ' ' : '\n');
 
-    free(text), free(levels), free(tables);
+    free(text), free(lows), free(highs), free(tables);
     free(plane), free(prior), free(gradient), free(across), free(down), free(saved);
     return ended;
 }

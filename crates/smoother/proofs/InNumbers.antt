@@ -7,10 +7,10 @@ use denote.Enum.Declared.{tagOf}
 use types.Run.{OneOf}
 use Prim.Native.Nat.{ℕ, zero, suc, _≤_, _<_}
 use native.Mathlib.Omega.{arith}
-use lib.IntN.{ℤ}
 use lib.Ieee.{Float}
 use lib.ListN.{length}
 use borrow.Author.Tests.{le-leb, lt-leb}
+use Rattle.start.specs.Coef.{Levels}
 use Rattle.start.specs.declared.coef.Reorder.{Reorder}
 use Rattle.start.specs.declared.coef.Reorder.the-variants.{Each, Once}
 use Rattle.start.specs.Buffers.{Buffers}
@@ -124,7 +124,7 @@ made-of r {B} {f} {k} {r′} h =
 
 -- ---- a list of calls
 
-module _ (x : LentRun) (js cs bytes : List ℕ) (levels : List ℤ) (tables : List ℕ) (B : Buffers) where
+module _ (x : LentRun) (js cs bytes : List ℕ) (levels : Levels) (tables : List ℕ) (B : Buffers) where
   pub no-letter-list : 1 < x .reorder → ServeNumbers x js cs bytes levels tables B 13 x bytes B
   unfolding listRefusal
   no-letter-list l =

@@ -1,7 +1,7 @@
 -- Demand 3 of any program that makes the exported calls one by one.
 use Prim.Native.Nat.{ℕ}
 use mathlib.Core.List.{List, [], _∷_}
-use lib.IntN.{ℤ}
+use Rattle.start.specs.Coef.{Levels}
 use Rattle.start.specs.Buffers.{Buffers}
 use Rattle.calls.specs.Jobs.{Call}
 use Rattle.record.specs.declared.Run.{Run}
@@ -13,7 +13,7 @@ use Rattle.smoother.proofs.InNumbers.{made-of}
 use Rattle.smoother.specs.OneByOne.{Makes, MakesAll, OneByOneServed}
 use Rattle.smoother.specs.OneByOne.Makes.{pushes, fits, blends, moves, projects}
 
-module _ (levels : List ℤ) (tables : List ℕ) where
+module _ (levels : Levels) (tables : List ℕ) where
   -- a call's contract, at the levels, tables and buffers at hand
   made : (r : Run) (B : Buffers) {x : Call} {k : ℕ} {r′ : Run} {B′ : Buffers} → Makes levels tables r B x k r′ B′ → GaveNumber (callOf r x levels tables B) k r′ B′
   made r B (pushes h) = made-of r (h levels tables B)

@@ -7,10 +7,11 @@ use mathlib.Core.Bool.{Bool, true, false, cond, _&&_}
 use mathlib.Core.List.{List}
 use lib.Dec.{T, eqb, leb}
 use lib.ListN.{length}
-use lib.IntN.{ℤ, pos}
+use lib.IntN.{pos}
 use lib.Ieee.{Float, binary32, ofBits, toBits, fits, ofInt}
 use lib.Ieee.Bits.{ofBits-toBits, ofBits-fits}
 use lib.Ieee.Fits.{ofInt-fits}
+use Rattle.start.specs.Coef.{Levels}
 use Rattle.contents.specs.declared.Weight.{Weight}
 use Rattle.contents.specs.declared.Weight.the-variants as weight
 use Rattle.contents.specs.Weights.{valueOf}
@@ -18,8 +19,7 @@ use Rattle.contents.specs.declared.Sheet.{Sheet}
 use Rattle.contents.specs.declared.Choice.{Choice}
 use Rattle.contents.specs.declared.Choice.the-variants as choice
 use Rattle.fold.specs.Join.{joinUpto}
-use Rattle.fold.specs.Part.{part}
-use Rattle.calls.specs.Run.{Given, levelsBefore, every, among}
+use Rattle.calls.specs.Run.{Given, levelsBefore, levelsPart, every, among}
 use Rattle.calls.specs.Buffers.{joined}
 use Rattle.calls.specs.Jobs.{kept}
 use Rattle.demand.specs.Solver.{jobs}
@@ -67,9 +67,9 @@ both-letters true c = a-letter c
 both-letters false c = a-letter c
 
 -- ---- what a sheet's whole run is made of: its mode, its channel count and its runs
-module _ (levels : List ℤ) (tables : List ℕ) where
+module _ (levels : Levels) (tables : List ℕ) where
   abbrev ownGiven : Run → (ℕ → Run) → ℕ → Given
-  ownGiven J A c = givenOf (A c) (part levels (levelsBefore (sheetOf J) c) (levelsBefore (sheetOf J) (suc c))) (tablesFor tables c)
+  ownGiven J A c = givenOf (A c) (levelsPart levels (levelsBefore (sheetOf J) c) (levelsBefore (sheetOf J) (suc c))) (tablesFor tables c)
 
   abbrev refusalBy : List ℕ → ℕ → ℕ → ℕ → Run → (ℕ → Run) → ℕ
   refusalBy ls t blends n J A =
@@ -119,7 +119,7 @@ module _ (S : Sheet) where
   same-alone c =
       rw (same-letter (S .settings .start), same-value (S .header .data0), same-choice (eqb c 0) (eqb c 1) (S .header .smoothing0) (S .header .smoothing1) (S .header .smoothing2))
 
-  module _ (levels : List ℤ) (tables : List ℕ) where
+  module _ (levels : Levels) (tables : List ℕ) where
     pub same-refusal : (ls : List ℕ) (t : ℕ) → solveRefusal S′ levels tables ls t ≡ solveRefusal S levels tables ls t
     unfolding solveRefusal allLegal
     same-refusal ls t = λ i. refusalBy levels tables ls t (same-blends i) (same-count i) (same-joint i) (fun-ext same-alone i)

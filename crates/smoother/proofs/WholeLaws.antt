@@ -8,9 +8,9 @@ use native.Mathlib.Omega.{arith}
 use lib.ListN.{length, take}
 use lib.Seq.{getD-take}
 use lib.Dec.{eqb}
-use lib.IntN.{ℤ}
 use lib.Ieee.{Float}
 use borrow.Author.Tests.{eq-eqb, ne-eqb, le-leb, lt-leb}
+use Rattle.start.specs.Coef.{Levels}
 use Rattle.calls.specs.Calls as Calls
 use Rattle.calls.specs.Calls.{lengths, allSix}
 use Rattle.record.specs.declared.Answer.{Answer}
@@ -36,7 +36,7 @@ not-done-ends zero w L a k k′ L′ f e = go (w .blown) e
     go true e = e
     go false e = absurd (f (ap byteOf (e .0)))
 
-module _ (ns : List ℕ) (levels : List ℤ) (tables : List ℕ) (L : Loan) (ks : List ℕ) where
+module _ (ns : List ℕ) (levels : Levels) (tables : List ℕ) (L : Loan) (ks : List ℕ) where
   abbrev S : Sheet
   S = sheetOfNumbers ns
 

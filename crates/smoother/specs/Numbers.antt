@@ -6,9 +6,9 @@ use mathlib.Core.Logic.{_≢_}
 use mathlib.Core.Bool.{true, false, cond}
 use mathlib.Core.List.{List, [], _∷_}
 use lib.Dec.{eqb, leb}
-use lib.IntN.{ℤ}
 use lib.Ieee.{Float}
 use lib.ListN.{length}
+use Rattle.start.specs.Coef.{Levels}
 use Rattle.start.specs.declared.coef.Reorder.{Reorder}
 use Rattle.start.specs.declared.coef.Reorder.the-variants.{Each, Once}
 use Rattle.start.specs.Buffers.{Buffers}
@@ -61,11 +61,11 @@ pub record GaveLent (x : LentRun) (B : Buffers) (f : Run → Result) (k : ℕ) (
 
 abbrev pub PushNumbers : LentRun → ℕ → List Float → List Float → ℕ → LentRun → List Float → List Float → Type 0
 PushNumbers x c plane prior k x′ plane′ prior′ =
-    (levels : List ℤ) (tables : List ℕ) (o : Buffers)
+    (levels : Levels) (tables : List ℕ) (o : Buffers)
     → let B = forPush o plane prior in
     GaveLent x B (λ r. callOf r (on push c) levels tables B) k x′ (forPush o plane′ prior′)
 
-abbrev pub DataNumbers : LentRun → ℕ → List ℤ → List ℕ → List Float → List Float → ℕ → LentRun → List Float → Type 0
+abbrev pub DataNumbers : LentRun → ℕ → Levels → List ℕ → List Float → List Float → ℕ → LentRun → List Float → Type 0
 DataNumbers x c levels tables gradient saved k x′ gradient′ =
     (o : Buffers)
     → let B = forData o gradient saved in
@@ -84,11 +84,11 @@ roomRefusal x = cond (leb (x .reorder) 1) (cond (legal (sheetOf (runFrom x)) (pl
 
 pub record BlendNumbers (x : LentRun) (plane gradient across down totals : List Float) (k : ℕ) (x′ : LentRun) (gradient′ across′ down′ totals′ : List Float) : Type 0 where
   -- two places for the totals: as the other calls
-  pub two : length totals ≡ 2 → (levels : List ℤ) (tables : List ℕ) (o : Buffers)
+  pub two : length totals ≡ 2 → (levels : Levels) (tables : List ℕ) (o : Buffers)
       → let B = forBlend o plane gradient across down in
       GaveLent x B (λ r. callOf r blend levels tables B) k x′ (forBlend o plane gradient′ across′ down′)
   -- and the totals, where C's record has a letter; else they are as they were
-  pub pair : length totals ≡ 2 → (levels : List ℤ) (tables : List ℕ) (o : Buffers)
+  pub pair : length totals ≡ 2 → (levels : Levels) (tables : List ℕ) (o : Buffers)
       → totals′ ≡ cond (leb (x .reorder) 1) (pairIn (callOf (runFrom x) blend levels tables (forBlend o plane gradient across down) .answer) totals) totals
   -- another count of places: refused, and all is as it was
   pub not-two : length totals ≢ 2
@@ -96,25 +96,25 @@ pub record BlendNumbers (x : LentRun) (plane gradient across down totals : List 
 
 abbrev pub MoveNumbers : LentRun → ℕ → List Float → List Float → ℕ → LentRun → List Float → Type 0
 MoveNumbers x c plane gradient k x′ plane′ =
-    (levels : List ℤ) (tables : List ℕ) (o : Buffers)
+    (levels : Levels) (tables : List ℕ) (o : Buffers)
     → let B = forMove o plane gradient in
     GaveLent x B (λ r. callOf r (on move c) levels tables B) k x′ (forMove o plane′ gradient)
 
-abbrev pub ProjectNumbers : LentRun → ℕ → List ℤ → List ℕ → List Float → List Float → List Float → List Float
+abbrev pub ProjectNumbers : LentRun → ℕ → Levels → List ℕ → List Float → List Float → List Float → List Float
     → ℕ → LentRun → List Float → List Float → List Float → List Float → Type 0
 ProjectNumbers x c levels tables plane across down saved k x′ plane′ across′ down′ saved′ =
     (o : Buffers)
     → let B = forProject o plane across down saved in
     GaveLent x B (λ r. callOf r (on project c) levels tables B) k x′ (forProject o plane′ across′ down′ saved′)
 
-abbrev pub StartNumbers : LentRun → List ℤ → List ℕ → Buffers → ℕ → LentRun → Buffers → Type 0
+abbrev pub StartNumbers : LentRun → Levels → List ℕ → Buffers → ℕ → LentRun → Buffers → Type 0
 StartNumbers x levels tables B k x′ B′ = GaveLent x B (λ r. startOf r levels tables B) k x′ B′
 
 -- A list of calls on a fresh run, as `ServeIs` has it: refused, and all is as it was; or done, and demand 3. 13 for no letter comes first here too.
-unfoldable pub listRefusal : LentRun → List ℕ → List ℕ → List ℕ → List ℤ → List ℕ → Buffers → ℕ
+unfoldable pub listRefusal : LentRun → List ℕ → List ℕ → List ℕ → Levels → List ℕ → Buffers → ℕ
 listRefusal x js cs bytes levels tables B = cond (leb (x .reorder) 1) (serveRefusalOf (runFrom x) js cs bytes levels tables B) 13
 
-pub record ServeNumbers (x : LentRun) (js cs bytes : List ℕ) (levels : List ℤ) (tables : List ℕ) (B : Buffers) (k : ℕ) (x′ : LentRun) (bytes′ : List ℕ) (B′ : Buffers) : Type 0 where
+pub record ServeNumbers (x : LentRun) (js cs bytes : List ℕ) (levels : Levels) (tables : List ℕ) (B : Buffers) (k : ℕ) (x′ : LentRun) (bytes′ : List ℕ) (B′ : Buffers) : Type 0 where
   pub if-refused : listRefusal x js cs bytes levels tables B ≢ 0
       → (k ≡ listRefusal x js cs bytes levels tables B) × (x′ ≡ x) × (bytes′ ≡ bytes) × (B′ ≡ B)
   pub if-done : listRefusal x js cs bytes levels tables B ≡ 0

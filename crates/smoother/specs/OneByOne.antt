@@ -2,9 +2,9 @@
 use Prim.Native.Nat.{ℕ}
 use mathlib.Core.Path.{_≡_}
 use mathlib.Core.List.{List, [], _∷_}
-use lib.IntN.{ℤ}
 use lib.Ieee.{Float}
 use lib.ListN.{length}
+use Rattle.start.specs.Coef.{Levels}
 use Rattle.start.specs.Buffers.{Buffers}
 use Rattle.calls.specs.Jobs.{push, fidelity, move, project, Call, on, blend}
 use Rattle.calls.specs.Calls.{noneYet, plainPlaces}
@@ -18,7 +18,7 @@ use Rattle.smoother.specs.Numbers.{lentFrom, StartNumbers, PushNumbers, 
 
 -- A call made from the record r and the buffers B, by its contract: its answer's number, the record and the buffers that it left, both records in numbers.
 -- What it is not lent stays. A blend is lent two places for its totals.
-pub data Makes (levels : List ℤ) (tables : List ℕ) (r : Run) (B : Buffers) : Call → ℕ → Run → Buffers → Type 0 where
+pub data Makes (levels : Levels) (tables : List ℕ) (r : Run) (B : Buffers) : Call → ℕ → Run → Buffers → Type 0 where
   pushes : {c k : ℕ} {r′ : Run} {plane prior : List Float}
       → PushNumbers (lentFrom r) c (B .plane) (B .prior) k (lentFrom r′) plane prior → Makes levels tables r B (on push c) k r′ (forPush B plane prior)
   fits : {c k : ℕ} {r′ : Run} {gradient : List Float}
@@ -32,12 +32,12 @@ pub data Makes (levels : List ℤ) (tables : List ℕ) (r : Run) (B : Buffers) :
       → ProjectNumbers (lentFrom r) c levels tables (B .plane) (B .across) (B .down) (B .saved) k (lentFrom r′) plane across down saved
       → Makes levels tables r B (on project c) k r′ (forProject B plane across down saved)
 
-abbrev pub MakesAll : List ℤ → List ℕ → Run → Buffers → List Made → Type 0
+abbrev pub MakesAll : Levels → List ℕ → Run → Buffers → List Made → Type 0
 MakesAll levels tables r B [] = Unit {0}
 MakesAll levels tables r B (m ∷ ms) = Makes levels tables r B (m .call) (m .number) (m .run) (m .buffers) × MakesAll levels tables (m .run) (m .buffers) ms
 
 -- "For every list of the calls push, data, blend, move and project from a fresh run": a start that answers 0, and calls after it, have demand 3.
-abbrev pub OneByOneServed : List ℤ → List ℕ → Type 0
+abbrev pub OneByOneServed : Levels → List ℕ → Type 0
 OneByOneServed levels tables =
     (r : Run) (B : Buffers) (r₁ : Run) (B₁ : Buffers) → StartNumbers (lentFrom r) levels tables B 0 (lentFrom r₁) B₁ → (ms : List Made) → MakesAll levels tables r₁ B₁ ms
     → let G = givenOf r levels tables in

@@ -5,7 +5,6 @@ use mathlib.Core.List.{List, [], _∷_, _++_}
 use mathlib.Core.Bool.{cond}
 use lib.ListN.{length}
 use lib.Dec.{eqb}
-use lib.IntN.{ℤ}
 use lib.Ieee.{binary32, toBits}
 use Rattle.contents.specs.declared.Weight.{Weight}
 use Rattle.contents.specs.Weights.{valueOf}
@@ -15,10 +14,10 @@ use Rattle.contents.specs.declared.Choice.the-variants as choice
 use Rattle.contents.specs.declared.Settings.{Settings}
 use Rattle.contents.specs.declared.Header.{Header}
 use Rattle.contents.specs.declared.Channel.{Channel}
-use Rattle.contents.specs.Sheets.{held}
+use Rattle.contents.specs.Sheets.{Lent}
 use Rattle.sheet.specs.Reading.{Outcome, Contents}
 use Rattle.sheet.specs.Reading.Outcome.{Gives, Refused}
-use Rattle.sheet.specs.Calls.{Lengths, heldAfter}
+use Rattle.sheet.specs.Calls.{Lengths, lentAfter}
 
 -- the number of a refusal and its line; 0 and 0 where there is none
 abbrev pub numberIn : {A : Type 0} → Outcome A → ℕ
@@ -86,8 +85,8 @@ abbrev pub numbersAfter : Outcome Contents → List ℕ → List ℕ
 numbersAfter (Gives c) old = numbersOf (c .sheet)
 numbersAfter (Refused k line) old = old
 
-pub record ReadsNumbers (o : Outcome Contents) (l₀ l : List ℤ) (t₀ t n₀ n : List ℕ) (at r : ℕ) : Type 0 where
+pub record ReadsNumbers (o : Outcome Contents) (into after : Lent) (n₀ n : List ℕ) (at r : ℕ) : Type 0 where
   pub number : r ≡ numberIn o
   pub line : at ≡ lineIn o
-  pub held-after : held l t ≡ heldAfter o (held l₀ t₀)
+  pub lent-after : after ≡ lentAfter o into
   pub numbers : n ≡ numbersAfter o n₀

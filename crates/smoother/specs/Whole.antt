@@ -7,8 +7,8 @@ use mathlib.Core.Bool.{Bool, cond, _&&_}
 use mathlib.Core.List.{List}
 use lib.ListN.{length, getD}
 use lib.Dec.{eqb, leb}
-use lib.IntN.{ℤ}
 use lib.Ieee.{Float}
+use Rattle.start.specs.Coef.{Levels}
 use Rattle.contents.specs.declared.Weight.the-variants as weight
 use Rattle.contents.specs.declared.Sheet.{Sheet}
 use Rattle.contents.specs.declared.Choice.{Choice}
@@ -70,16 +70,16 @@ abbrev pub lettersOk : List ℕ → Bool
 lettersOk ns = leb (getD ns 5 0) 1 && leb (getD ns 28 0) 1
 
 -- what `solve` refuses, and among its lengths (8) that of the buffer for the channels' numbers, one for each
-unfoldable pub sheetRefusal : Sheet → List ℤ → List ℕ → List ℕ → ℕ → ℕ → ℕ
+unfoldable pub sheetRefusal : Sheet → Levels → List ℕ → List ℕ → ℕ → ℕ → ℕ
 sheetRefusal S levels tables ls t m = cond (allLegal S) (cond (eqb m (S .header .channels)) (solveRefusal S levels tables ls t) 8) 13
 
 -- "a lent buffer's length differs" (8), first: with fewer or more numbers there is no record; then 13 for a mode or a letter of line `A` that is neither 0 nor 1, and then what the sheet's run refuses
-unfoldable pub numbersRefusal : List ℕ → List ℤ → List ℕ → List ℕ → ℕ → ℕ → ℕ
+unfoldable pub numbersRefusal : List ℕ → Levels → List ℕ → List ℕ → ℕ → ℕ → ℕ
 numbersRefusal ns levels tables ls t m =
     cond (eqb (length ns) recordCount) (cond (lettersOk ns) (sheetRefusal (sheetOfNumbers ns) levels tables ls t m) 13) 8
 
 -- `SolveIs` of the record's sheet, by the answer's number k. The buffer ks has each channel's number afterwards, and is as it was where the answer is not done.
-abbrev pub SolveNumbers : List ℕ → List ℤ → List ℕ → Loan → List ℕ → ℕ → Loan → List ℕ → Type 0
+abbrev pub SolveNumbers : List ℕ → Levels → List ℕ → Loan → List ℕ → ℕ → Loan → List ℕ → Type 0
 SolveNumbers ns levels tables L ks k L′ ks′ =
     (a : Answer) × (k ≡ byteOf a)
     × Ends (numbersRefusal ns levels tables (lengths allSix (L .buffers)) (length (L .totals)) (length ks)) (wholeOf (sheetOfNumbers ns) levels tables) L a (numberIn ks′) L′

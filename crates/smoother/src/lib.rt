@@ -15,7 +15,7 @@ use sheet::Measured;
 ghost use mathlib.Core.Path.{_≡_};
 ghost use mathlib.Core.Bool.{cond};
 ghost use lib.ListN.{length};
-ghost use Rattle.contents.specs.Sheets.{held};
+ghost use Rattle.contents.specs.Sheets.{lent};
 ghost use Rattle.sheet.specs.Calls.{measuring, reading};
 ghost use Rattle.smoother.specs.Sheets.{Measures, ReadsNumbers, choiceNumber, numbersOf, recordCount, weightBits, withRecord};
 
@@ -158,23 +158,24 @@ fn put(from: [u32; NUMBERS], to: &mut [u32])
     }
 }
 
-// Reads a text into the lent buffers: levels, tables and the record's numbers. A refusal leaves all three as they are.
-// Ruled out: levels of a text whose last line is bad; 8 for a text that is itself refused.
+// Reads a text into the lent buffers: lows, highs, tables and the record's numbers. A refusal leaves all four as they are.
+// Ruled out: levels of a text whose last line is bad; highs in the lows; 8 for a text that is itself refused.
 #[no_mangle]
 pub extern "C" fn smoother_read(
     text: &[u8],
     side: u32,
     iterations: u32,
-    levels: &mut [i16],
+    lows: &mut [i16],
+    highs: &mut [i16],
     tables: &mut [u16],
     header: &mut [u32],
     line: &mut usize,
 ) -> u32
-    ensures { λ r. ⌜ ReadsNumbers (withRecord (length (now (header .entry))) (reading (record { side = side; iterations = iterations }) (now (text .entry)) (held (now (levels .entry)) (now (tables .entry)))))
-        (now (levels .entry)) (now (levels .exit)) (now (tables .entry)) (now (tables .exit)) (now (header .entry)) (now (header .exit)) (now (line .exit)) r ⌝ }
+    ensures { λ r. ⌜ ReadsNumbers (withRecord (length (now (header .entry))) (reading (record { side = side; iterations = iterations }) (now (text .entry)) (lent (now (lows .entry)) (now (highs .entry)) (now (tables .entry)))))
+        (lent (now (lows .entry)) (now (highs .entry)) (now (tables .entry))) (lent (now (lows .exit)) (now (highs .exit)) (now (tables .exit))) (now (header .entry)) (now (header .exit)) (now (line .exit)) r ⌝ }
 {
     if header.len() == NUMBERS {
-        match sheet::read(text, Limits { side, iterations }, levels, tables) {
+        match sheet::read(text, Limits { side, iterations }, lows, highs, tables) {
             Answer::Sheet(s) => {
                 put(numbers(s), header);
                 *line = 0;

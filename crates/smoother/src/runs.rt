@@ -8,6 +8,7 @@ use record::Run;
 use start::coef::Reorder;
 ghost use mathlib.Core.Path.{_≡_};
 ghost use lib.ListN.{length};
+ghost use Rattle.start.specs.Coef.{pairs};
 ghost use Rattle.record.specs.Model.{answerOf};
 ghost use Rattle.serve.specs.Serve.{byteOf};
 ghost use Rattle.smoother.specs.Numbers.{reorderFrom, reorderNumber, runFrom, lentFrom, inNumbers, pairIn, roomRefusal, StartNumbers, PushNumbers, DataNumbers, BlendNumbers, MoveNumbers, ProjectNumbers, ServeNumbers};
@@ -91,7 +92,8 @@ fn in_numbers(p: Answered) -> Numbered
 
 pub fn start_number(
     run: LentRun,
-    levels: &[i16],
+    lows: &[i16],
+    highs: &[i16],
     tables: &[u16],
     plane: &mut [f32],
     prior: &mut [f32],
@@ -100,7 +102,7 @@ pub fn start_number(
     down: &mut [f32],
     saved: &mut [f32],
 ) -> Numbered
-    ensures { λ r. ⌜ StartNumbers run (now (levels .entry)) (now (tables .entry))
+    ensures { λ r. ⌜ StartNumbers run (pairs (now (lows .entry)) (now (highs .entry))) (now (tables .entry))
         (record { plane = now (plane .entry); prior = now (prior .entry); gradient = now (gradient .entry); across = now (across .entry); down = now (down .entry); saved = now (saved .entry) })
         (r .answer) (r .run)
         (record { plane = now (plane .exit); prior = now (prior .exit); gradient = now (gradient .exit); across = now (across .exit); down = now (down .exit); saved = now (saved .exit) }) ⌝ }
@@ -111,7 +113,8 @@ pub fn start_number(
     let r = run_from(run);
     let p = run::values::start_value(
         r,
-        levels,
+        lows,
+        highs,
         tables,
         plane,
         prior,
@@ -127,7 +130,8 @@ pub fn start_number(
 #[no_mangle]
 pub extern "C" fn smoother_start(
     run: &mut LentRun,
-    levels: &[i16],
+    lows: &[i16],
+    highs: &[i16],
     tables: &[u16],
     plane: &mut [f32],
     prior: &mut [f32],
@@ -136,14 +140,15 @@ pub extern "C" fn smoother_start(
     down: &mut [f32],
     saved: &mut [f32],
 ) -> u32
-    ensures { λ r. ⌜ StartNumbers (now (run .entry)) (now (levels .entry)) (now (tables .entry))
+    ensures { λ r. ⌜ StartNumbers (now (run .entry)) (pairs (now (lows .entry)) (now (highs .entry))) (now (tables .entry))
         (record { plane = now (plane .entry); prior = now (prior .entry); gradient = now (gradient .entry); across = now (across .entry); down = now (down .entry); saved = now (saved .entry) })
         r (now (run .exit))
         (record { plane = now (plane .exit); prior = now (prior .exit); gradient = now (gradient .exit); across = now (across .exit); down = now (down .exit); saved = now (saved .exit) }) ⌝ }
 {
     let p = start_number(
         *run,
-        levels,
+        lows,
+        highs,
         tables,
         plane,
         prior,
@@ -185,18 +190,19 @@ pub extern "C" fn smoother_push(
 pub fn data_number(
     run: LentRun,
     c: u32,
-    levels: &[i16],
+    lows: &[i16],
+    highs: &[i16],
     tables: &[u16],
     gradient: &mut [f32],
     saved: &[f32],
 ) -> Numbered
-    ensures { λ r. ⌜ DataNumbers run c (now (levels .entry)) (now (tables .entry)) (now (gradient .entry)) (now (saved .entry)) (r .answer) (r .run) (now (gradient .exit)) ⌝ }
+    ensures { λ r. ⌜ DataNumbers run c (pairs (now (lows .entry)) (now (highs .entry))) (now (tables .entry)) (now (gradient .entry)) (now (saved .entry)) (r .answer) (r .run) (now (gradient .exit)) ⌝ }
 {
     if 1 < run.reorder {
         return Numbered { answer: 13, run };
     }
     let r = run_from(run);
-    let p = run::values::data_value(r, c, levels, tables, gradient, saved);
+    let p = run::values::data_value(r, c, lows, highs, tables, gradient, saved);
     in_numbers(p)
 }
 
@@ -205,14 +211,15 @@ pub fn data_number(
 pub extern "C" fn smoother_data(
     run: &mut LentRun,
     c: u32,
-    levels: &[i16],
+    lows: &[i16],
+    highs: &[i16],
     tables: &[u16],
     gradient: &mut [f32],
     saved: &[f32],
 ) -> u32
-    ensures { λ r. ⌜ DataNumbers (now (run .entry)) c (now (levels .entry)) (now (tables .entry)) (now (gradient .entry)) (now (saved .entry)) r (now (run .exit)) (now (gradient .exit)) ⌝ }
+    ensures { λ r. ⌜ DataNumbers (now (run .entry)) c (pairs (now (lows .entry)) (now (highs .entry))) (now (tables .entry)) (now (gradient .entry)) (now (saved .entry)) r (now (run .exit)) (now (gradient .exit)) ⌝ }
 {
-    let p = data_number(*run, c, levels, tables, gradient, saved);
+    let p = data_number(*run, c, lows, highs, tables, gradient, saved);
     *run = p.run;
     p.answer
 }
@@ -316,21 +323,22 @@ pub extern "C" fn smoother_move(
 pub fn project_number(
     run: LentRun,
     c: u32,
-    levels: &[i16],
+    lows: &[i16],
+    highs: &[i16],
     tables: &[u16],
     plane: &mut [f32],
     across: &mut [f32],
     down: &mut [f32],
     saved: &mut [f32],
 ) -> Numbered
-    ensures { λ r. ⌜ ProjectNumbers run c (now (levels .entry)) (now (tables .entry)) (now (plane .entry)) (now (across .entry)) (now (down .entry)) (now (saved .entry))
+    ensures { λ r. ⌜ ProjectNumbers run c (pairs (now (lows .entry)) (now (highs .entry))) (now (tables .entry)) (now (plane .entry)) (now (across .entry)) (now (down .entry)) (now (saved .entry))
         (r .answer) (r .run) (now (plane .exit)) (now (across .exit)) (now (down .exit)) (now (saved .exit)) ⌝ }
 {
     if 1 < run.reorder {
         return Numbered { answer: 13, run };
     }
     let r = run_from(run);
-    let p = run::values::project_value(r, c, levels, tables, plane, across, down, saved);
+    let p = run::values::project_value(r, c, lows, highs, tables, plane, across, down, saved);
     in_numbers(p)
 }
 
@@ -339,17 +347,18 @@ pub fn project_number(
 pub extern "C" fn smoother_project(
     run: &mut LentRun,
     c: u32,
-    levels: &[i16],
+    lows: &[i16],
+    highs: &[i16],
     tables: &[u16],
     plane: &mut [f32],
     across: &mut [f32],
     down: &mut [f32],
     saved: &mut [f32],
 ) -> u32
-    ensures { λ r. ⌜ ProjectNumbers (now (run .entry)) c (now (levels .entry)) (now (tables .entry)) (now (plane .entry)) (now (across .entry)) (now (down .entry)) (now (saved .entry))
+    ensures { λ r. ⌜ ProjectNumbers (now (run .entry)) c (pairs (now (lows .entry)) (now (highs .entry))) (now (tables .entry)) (now (plane .entry)) (now (across .entry)) (now (down .entry)) (now (saved .entry))
         r (now (run .exit)) (now (plane .exit)) (now (across .exit)) (now (down .exit)) (now (saved .exit)) ⌝ }
 {
-    let p = project_number(*run, c, levels, tables, plane, across, down, saved);
+    let p = project_number(*run, c, lows, highs, tables, plane, across, down, saved);
     *run = p.run;
     p.answer
 }
@@ -359,7 +368,8 @@ pub fn serve_number(
     jobs: &[u8],
     channels: &[u32],
     answers: &mut [u8],
-    levels: &[i16],
+    lows: &[i16],
+    highs: &[i16],
     tables: &[u16],
     plane: &mut [f32],
     prior: &mut [f32],
@@ -368,7 +378,7 @@ pub fn serve_number(
     down: &mut [f32],
     saved: &mut [f32],
 ) -> Numbered
-    ensures { λ r. ⌜ ServeNumbers run (now (jobs .entry)) (now (channels .entry)) (now (answers .entry)) (now (levels .entry)) (now (tables .entry))
+    ensures { λ r. ⌜ ServeNumbers run (now (jobs .entry)) (now (channels .entry)) (now (answers .entry)) (pairs (now (lows .entry)) (now (highs .entry))) (now (tables .entry))
         (record { plane = now (plane .entry); prior = now (prior .entry); gradient = now (gradient .entry); across = now (across .entry); down = now (down .entry); saved = now (saved .entry) })
         (r .answer) (r .run) (now (answers .exit))
         (record { plane = now (plane .exit); prior = now (prior .exit); gradient = now (gradient .exit); across = now (across .exit); down = now (down .exit); saved = now (saved .exit) }) ⌝ }
@@ -382,7 +392,8 @@ pub fn serve_number(
         jobs,
         channels,
         answers,
-        levels,
+        lows,
+        highs,
         tables,
         plane,
         prior,
@@ -402,7 +413,8 @@ pub extern "C" fn smoother_serve(
     jobs: &[u8],
     channels: &[u32],
     answers: &mut [u8],
-    levels: &[i16],
+    lows: &[i16],
+    highs: &[i16],
     tables: &[u16],
     plane: &mut [f32],
     prior: &mut [f32],
@@ -411,7 +423,7 @@ pub extern "C" fn smoother_serve(
     down: &mut [f32],
     saved: &mut [f32],
 ) -> u32
-    ensures { λ r. ⌜ ServeNumbers (now (run .entry)) (now (jobs .entry)) (now (channels .entry)) (now (answers .entry)) (now (levels .entry)) (now (tables .entry))
+    ensures { λ r. ⌜ ServeNumbers (now (run .entry)) (now (jobs .entry)) (now (channels .entry)) (now (answers .entry)) (pairs (now (lows .entry)) (now (highs .entry))) (now (tables .entry))
         (record { plane = now (plane .entry); prior = now (prior .entry); gradient = now (gradient .entry); across = now (across .entry); down = now (down .entry); saved = now (saved .entry) })
         r (now (run .exit)) (now (answers .exit))
         (record { plane = now (plane .exit); prior = now (prior .exit); gradient = now (gradient .exit); across = now (across .exit); down = now (down .exit); saved = now (saved .exit) }) ⌝ }
@@ -421,7 +433,8 @@ pub extern "C" fn smoother_serve(
         jobs,
         channels,
         answers,
-        levels,
+        lows,
+        highs,
         tables,
         plane,
         prior,

@@ -13,6 +13,7 @@ use solve::modes::all_legal;
 ghost use mathlib.Core.Path.{_≡_};
 ghost use Prim.Native.Nat.{_+_, _≤_, _<_};
 ghost use lib.ListN.{length, take};
+ghost use Rattle.start.specs.Coef.{pairs};
 ghost use Rattle.rounds.specs.Whole.{six, loan};
 ghost use Rattle.smoother.specs.Sheets.{recordCount};
 ghost use Rattle.smoother.specs.Whole.{headerFrom, channelFrom, choiceFrom, settingsFrom, sheetOfNumbers, SolveNumbers, roundingFrom, FinishNumbers};
@@ -102,7 +103,8 @@ fn put_clipped(from: [u32; 3], to: &mut [u32])
 #[no_mangle]
 pub extern "C" fn smoother_solve(
     numbers: &[u32],
-    levels: &[i16],
+    lows: &[i16],
+    highs: &[i16],
     tables: &[u16],
     plane: &mut [f32],
     prior: &mut [f32],
@@ -113,7 +115,7 @@ pub extern "C" fn smoother_solve(
     clipped: &mut [u32],
     totals: &mut [f64],
 ) -> u32
-    ensures { λ r. ⌜ SolveNumbers (now (numbers .entry)) (now (levels .entry)) (now (tables .entry))
+    ensures { λ r. ⌜ SolveNumbers (now (numbers .entry)) (pairs (now (lows .entry)) (now (highs .entry))) (now (tables .entry))
         (loan (six (now (plane .entry)) (now (prior .entry)) (now (gradient .entry)) (now (across .entry)) (now (down .entry)) (now (saved .entry))) (now (totals .entry))) (now (clipped .entry)) r
         (loan (six (now (plane .exit)) (now (prior .exit)) (now (gradient .exit)) (now (across .exit)) (now (down .exit)) (now (saved .exit))) (now (totals .exit))) (now (clipped .exit)) ⌝ }
 {
@@ -135,7 +137,8 @@ pub extern "C" fn smoother_solve(
     }
     let t = solve::solve(
         s,
-        levels,
+        lows,
+        highs,
         tables,
         plane,
         prior,

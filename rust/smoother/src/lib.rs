@@ -7,7 +7,7 @@
 //! let sheet = smoother::read(&text, Limits::default())?;
 //! let mut run = sheet.joint_run();
 //! let mut buffers = run.buffers();
-//! smoother::start(&mut run, &sheet.levels, &sheet.tables, &mut buffers)?;
+//! smoother::start(&mut run, sheet.levels(), &sheet.tables, &mut buffers)?;
 //! assert!(buffers.plane.iter().all(|x| *x == 1.0 - 2.0_f32.powi(-24)));
 //! # Ok::<(), Box<dyn std::error::Error>>(())
 //! ```
@@ -31,6 +31,6 @@ pub use run::{
 };
 pub use segments::{QUANTISERS, SEGMENT, dqt_export, dqt_export_into, dqt_import};
 pub use sheet::{
-    Lengths, Limits, NUMBERS, Own, Rounding, Sheet, Solved, finish_into, measure, read, read_into, solve_into,
+    Lengths, Levels, Limits, NUMBERS, Own, Rounding, Sheet, Solved, finish_into, measure, read, read_into, solve_into,
 };
 pub use tapes::{rearrange, rearrange_into, restore, restore_into};

@@ -18,7 +18,8 @@ pub enum Refusal {
     Done,
     Channel,
     Record,
-    Page = 15,
+    Range,
+    Page,
     Segment = 19,
     Precision,
 }
@@ -26,9 +27,9 @@ pub enum Refusal {
 use Refusal::*;
 
 impl Refusal {
-    pub const ALL: [Self; 16] = [
-        Form, Size, Factor, Table, Level, Weight, Cut, Length, Turn, Blown, Done, Channel, Record, Page, Segment,
-        Precision,
+    pub const ALL: [Self; 17] = [
+        Form, Size, Factor, Table, Level, Weight, Cut, Length, Turn, Blown, Done, Channel, Record, Range, Page,
+        Segment, Precision,
     ];
 
     pub const fn number(self) -> u32 {
@@ -61,6 +62,7 @@ impl Refusal {
             Done => "done",
             Channel => "channel",
             Record => "record",
+            Range => "range",
             Page => "page",
             Segment => "segment",
             Precision => "precision",
@@ -84,6 +86,7 @@ impl Refusal {
             Done => "the channel has had all its steps",
             Channel => "there is no such channel",
             Record => "sizes, factors, weights, iterations, positions, marks or clipped numbers of no legal record",
+            Range => "a lowest level above the highest of its place",
             Page => "an iteration count within 1,000 but above the caller's limit",
             Segment => {
                 "a DQT segment with a wrong marker or stated length, or with fewer than 64 bytes left for a table"

@@ -1,6 +1,6 @@
 //! A run: its record, its buffers, and the calls.
 use crate::{
-    Error,
+    Error, Levels,
     ffi::{lend, *},
     refusal::done,
 };
@@ -142,9 +142,9 @@ fn lent(run: &mut Run) -> &mut Run {
 // SAFETY, of every call below: each pointer and length are of one slice or vector, `&mut` keeps them apart, and the library writes only within the
 // lengths and only legal records.
 
-/// A fresh run: plane and prior are the start, saved is level × quantiser, other values 0; positions 0, no marks, nothing clipped. Takes any legal record.
-pub fn start(run: &mut Run, levels: &[i16], tables: &[u16], b: &mut Buffers) -> Result<Outcome, Error> {
-    plain(unsafe { lend!(smoother_start(lent(run), read levels, read tables, six b)) })
+/// A fresh run: plane and prior are the start, saved is half sum × quantiser, other values 0; positions 0, no marks, nothing clipped. Takes any legal record.
+pub fn start(run: &mut Run, levels: Levels, tables: &[u16], b: &mut Buffers) -> Result<Outcome, Error> {
+    plain(unsafe { lend!(smoother_start(lent(run), read levels.lows, read levels.highs, read tables, six b)) })
 }
 
 /// Push of channel `c`: writes its part of plane and prior.
@@ -153,8 +153,10 @@ pub fn push(run: &mut Run, c: u32, b: &mut Buffers) -> Result<Outcome, Error> {
 }
 
 /// Data of channel `c`: writes its part of the gradient, reads saved.
-pub fn data(run: &mut Run, c: u32, levels: &[i16], tables: &[u16], b: &mut Buffers) -> Result<Outcome, Error> {
-    plain(unsafe { lend!(smoother_data(lent(run), c, read levels, read tables, write b.gradient, read b.saved)) })
+pub fn data(run: &mut Run, c: u32, levels: Levels, tables: &[u16], b: &mut Buffers) -> Result<Outcome, Error> {
+    plain(unsafe {
+        lend!(smoother_data(lent(run), c, read levels.lows, read levels.highs, read tables, write b.gradient, read b.saved))
+    })
 }
 
 /// Blend of all channels: writes gradient, across and down, reads the plane.
@@ -172,10 +174,10 @@ pub fn move_plane(run: &mut Run, c: u32, b: &mut Buffers) -> Result<Outcome, Err
 }
 
 /// Project of channel `c`: writes its part of plane, across, down and saved.
-pub fn project(run: &mut Run, c: u32, levels: &[i16], tables: &[u16], b: &mut Buffers) -> Result<Projected, Error> {
+pub fn project(run: &mut Run, c: u32, levels: Levels, tables: &[u16], b: &mut Buffers) -> Result<Projected, Error> {
     let outcome = told(unsafe {
         lend!(smoother_project(
-            lent(run), c, read levels, read tables, write b.plane, write b.across, write b.down, write b.saved
+            lent(run), c, read levels.lows, read levels.highs, read tables, write b.plane, write b.across, write b.down, write b.saved
         ))
     })?;
     Ok(Projected { outcome, clipped: run.channels[c as usize].clipped }) // c is a channel's number, or the call was refused
@@ -186,7 +188,7 @@ pub fn call(
     run: &mut Run,
     job: Job,
     c: u32,
-    levels: &[i16],
+    levels: Levels,
     tables: &[u16],
     b: &mut Buffers,
 ) -> Result<Outcome, Error> {
@@ -206,7 +208,7 @@ pub type Answers = Vec<Result<Outcome, Error>>;
 pub fn serve(
     run: &mut Run,
     calls: &[(Job, u32)],
-    levels: &[i16],
+    levels: Levels,
     tables: &[u16],
     b: &mut Buffers,
 ) -> Result<Answers, Error> {
@@ -224,12 +226,12 @@ pub fn serve_numbers(
     jobs: &[u8],
     channels: &[u32],
     answers: &mut [u8],
-    levels: &[i16],
+    levels: Levels,
     tables: &[u16],
     b: &mut Buffers,
 ) -> Result<(), Error> {
     done(unsafe {
-        lend!(smoother_serve(lent(run), read jobs, read channels, write answers, read levels, read tables, six b))
+        lend!(smoother_serve(lent(run), read jobs, read channels, write answers, read levels.lows, read levels.highs, read tables, six b))
     })
 }
 
@@ -250,7 +252,7 @@ mod tests {
         for refusal in Refusal::ALL {
             assert_eq!([plain, told].map(|say| say(refusal.number())), [Err(refusal.into()); 2]);
         }
-        for number in [14, 254, 256, u32::MAX] {
+        for number in [16, 254, 256, u32::MAX] {
             assert_eq!([plain, told].map(|say| say(number)), [Err(Error::Unknown(number)); 2]);
         }
         assert_eq!(plain(255), Err(Error::Unknown(255)));

@@ -6,11 +6,25 @@ use crate::{
     run::told,
 };
 
-/// Lengths of the levels and tables of a text.
+/// Lengths of the levels and tables of a text; there are as many lows as highs.
 #[derive(Clone, Copy, Debug, PartialEq, Eq)]
 pub struct Lengths {
     pub levels: usize,
     pub tables: usize,
+}
+
+/// Levels as the calls are lent them: the lowest and the highest of each place, w × h of each a channel.
+#[derive(Clone, Copy, Debug, PartialEq, Eq)]
+pub struct Levels<'a> {
+    pub lows: &'a [i16],
+    pub highs: &'a [i16],
+}
+
+/// Levels that are known: each is its place's lowest and highest.
+impl<'a> From<&'a [i16]> for Levels<'a> {
+    fn from(levels: &'a [i16]) -> Self {
+        Self { lows: levels, highs: levels }
+    }
 }
 
 /// A channel's own sides and factors in a sheet.
@@ -22,7 +36,7 @@ pub struct Own {
     pub down: u32,
 }
 
-/// A sheet that was read: the fields of its `S` line, its channels' own sides and factors, all levels and all tables.
+/// A sheet that was read: the fields of its `S` line, its channels' own sides and factors, the lowest and highest levels and the tables.
 #[derive(Clone, Debug, PartialEq)]
 pub struct Sheet {
     pub width: u32,
@@ -41,7 +55,9 @@ pub struct Sheet {
     pub reorder: Reorder,
     /// Zeros past `count`.
     pub own: [Own; 3],
-    pub levels: Vec<i16>,
+    /// The lowest level of each place; a level of a line `B` is both.
+    pub lows: Vec<i16>,
+    pub highs: Vec<i16>,
     pub tables: Vec<u16>,
 }
 
@@ -88,19 +104,22 @@ pub fn measure(text: &[u8], limits: Limits) -> Result<Lengths, Fault> {
     done(number).map(|()| Lengths { levels, tables }).map_err(at(line))
 }
 
-/// Reads a text into lent buffers: `levels` and `tables` of the measured lengths, and `header` of `NUMBERS` places, for the fields of line `S` (mode 1
+/// Reads a text into lent buffers: `lows`, `highs` and `tables` of the measured lengths, and `header` of `NUMBERS` places, for the fields of line `S` (mode 1
 /// joint, 0 separate; weights as f32 bits), own sides and factors of three channels, then the rounding (0 truncated, 1 nearest) and the reordering (0 after each block, 1 once).
 pub fn read_into(
     text: &[u8],
     limits: Limits,
-    levels: &mut [i16],
+    lows: &mut [i16],
+    highs: &mut [i16],
     tables: &mut [u16],
     header: &mut [u32],
 ) -> Result<(), Fault> {
     let mut line = 0;
     // SAFETY: each pointer and length are of one slice, and the slices do not overlap.
     let number = unsafe {
-        lend!(smoother_read(read text, limits.side, limits.iterations, write levels, write tables, write header, &mut line))
+        lend!(smoother_read(
+            read text, limits.side, limits.iterations, write lows, write highs, write tables, write header, &mut line
+        ))
     };
     done(number).map_err(at(line))
 }
@@ -108,8 +127,9 @@ pub fn read_into(
 /// Reads a text.
 pub fn read(text: &[u8], limits: Limits) -> Result<Sheet, Fault> {
     let lengths = measure(text, limits)?;
-    let (mut levels, mut tables, mut n) = (vec![0; lengths.levels], vec![0; lengths.tables], [0; NUMBERS]);
-    read_into(text, limits, &mut levels, &mut tables, &mut n)?;
+    let (mut lows, mut highs) = (vec![0; lengths.levels], vec![0; lengths.levels]);
+    let (mut tables, mut n) = (vec![0; lengths.tables], [0; NUMBERS]);
+    read_into(text, limits, &mut lows, &mut highs, &mut tables, &mut n)?;
     let three = |at: usize| [n[at], n[at + 1], n[at + 2]];
     let own = |at: usize| Own { width: n[at], height: n[at + 1], across: n[at + 2], down: n[at + 3] };
     Ok(Sheet {
@@ -125,7 +145,8 @@ pub fn read(text: &[u8], limits: Limits) -> Result<Sheet, Fault> {
         rounding: if n[27] == 1 { Rounding::Nearest } else { Rounding::Truncate },
         reorder: if n[28] == 1 { Reorder::Once } else { Reorder::Each },
         own: [own(15), own(19), own(23)],
-        levels,
+        lows,
+        highs,
         tables,
     })
 }
@@ -180,13 +201,19 @@ impl Sheet {
         }
     }
 
+    /// All levels.
+    pub fn levels(&self) -> Levels<'_> {
+        Levels { lows: &self.lows, highs: &self.highs }
+    }
+
     /// Levels of channel `c`.
     ///
     /// # Panics
     /// Where `c` isn't below 3.
-    pub fn levels_of(&self, c: usize) -> &[i16] {
+    pub fn levels_of(&self, c: usize) -> Levels<'_> {
         let before: usize = self.own[..c].iter().map(|own| own.area()).sum();
-        &self.levels[before..before + self.own[c].area()]
+        let own = before..before + self.own[c].area();
+        Levels { lows: &self.lows[own.clone()], highs: &self.highs[own] }
     }
 
     /// Quantisers of channel `c`.
@@ -230,7 +257,7 @@ impl Sheet {
         let mut b = self.joint_run().buffers();
         let mut totals = vec![0.0; 2 * self.blends()];
         let mut clipped = vec![0; self.count.min(3) as usize];
-        let outcome = solve_into(&self.numbers(), &self.levels, &self.tables, &mut b, &mut clipped, &mut totals)?;
+        let outcome = solve_into(&self.numbers(), self.levels(), &self.tables, &mut b, &mut clipped, &mut totals)?;
         let totals = totals.chunks_exact(2).map(|both| Totals::from([both[0], both[1]])).collect();
         Ok((outcome == Outcome::Done).then_some(Solved { planes: b.plane, totals, clipped }))
     }
@@ -251,14 +278,18 @@ impl Sheet {
 /// and `clipped` is as it was.
 pub fn solve_into(
     header: &[u32],
-    levels: &[i16],
+    levels: Levels,
     tables: &[u16],
     b: &mut Buffers,
     clipped: &mut [u32],
     totals: &mut [f64],
 ) -> Result<Outcome, Error> {
     // SAFETY: each pointer and length are of one slice, and the slices do not overlap.
-    told(unsafe { lend!(smoother_solve(read header, read levels, read tables, six b, write clipped, write totals)) })
+    told(unsafe {
+        lend!(smoother_solve(
+            read header, read levels.lows, read levels.highs, read tables, six b, write clipped, write totals
+        ))
+    })
 }
 
 /// The picture of planes, in lent bytes; `sides` are W, H and the picture's.

@@ -23,8 +23,8 @@ pub fn restore_into(stored: &[i16], out: &mut [i16]) -> Result<(), Refusal> {
 ///
 /// ```
 /// let sheet = smoother::read(&std::fs::read("../../samples/whole.tsv")?, smoother::Limits::default())?;
-/// let stored = smoother::rearrange(&sheet.levels)?;
-/// assert_eq!(smoother::restore(&stored)?, sheet.levels);
+/// let stored = smoother::rearrange(&sheet.lows)?;
+/// assert_eq!(smoother::restore(&stored)?, sheet.lows);
 /// # Ok::<(), Box<dyn std::error::Error>>(())
 /// ```
 pub fn rearrange(levels: &[i16]) -> Result<Vec<i16>, Refusal> {

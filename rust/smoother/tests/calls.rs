@@ -43,7 +43,7 @@ fn sheet_of(text: &str) -> Sheet {
 fn started(sheet: &Sheet) -> (Run, Buffers) {
     let mut run = sheet.joint_run();
     let mut b = run.buffers();
-    assert_eq!(start(&mut run, &sheet.levels, &sheet.tables, &mut b), Ok(Outcome::Done));
+    assert_eq!(start(&mut run, sheet.levels(), &sheet.tables, &mut b), Ok(Outcome::Done));
     (run, b)
 }
 
@@ -92,13 +92,14 @@ fn whole_example_read_and_started() {
         rounding: Rounding::Truncate,
         reorder: Reorder::Each,
         own: [own, Own::default(), Own::default()],
-        levels,
+        lows: levels.clone(),
+        highs: levels,
         tables: vec![8; 64],
     };
     assert_eq!(sheet, due);
     for mut run in [sheet.joint_run(), sheet.separate_run(0)] {
         let mut b = run.buffers();
-        assert_eq!(start(&mut run, &sheet.levels, &sheet.tables, &mut b), Ok(Outcome::Done));
+        assert_eq!(start(&mut run, sheet.levels(), &sheet.tables, &mut b), Ok(Outcome::Done));
         assert_eq!(b.plane, [1.0 - 2.0_f32.powi(-24); 64]);
         assert_eq!(b.prior, b.plane);
         let mut saved = [0.0; 64];
@@ -122,6 +123,53 @@ fn start_reordered_repeatedly_and_once() {
             assert_eq!(sheet.solve().expect("legal"), Some(Solved { planes: due, totals: vec![], clipped: vec![0] }));
         }
     }
+}
+
+/// The text with its first block written as a line `G` that begins with these fields and goes on with zeros.
+fn ranged(text: &str, fields: &str) -> String {
+    let (before, block) = text.split_once("\nB").expect("a block");
+    let zeros = " 0".repeat(128 - fields.split(' ').count());
+    before.to_owned() + "\n" + &tabs(&format!("G {fields}{zeros}")) + block.split_once('\n').expect("a line").1
+}
+
+/// Document 02, M-105: 64 pairs in place of 64 levels; start has the exact half sum; 14 after 5 on the same pair and before the next pair.
+#[test]
+fn levels_within_ranges() {
+    let sheet = sheet_of(&ranged(&whole(), "1 4"));
+    assert_eq!((sheet.lows[0], sheet.highs[0], sheet.lows.len(), sheet.highs.len()), (1, 4, 64, 64));
+    let (_, b) = started(&sheet);
+    assert_eq!(b.saved[0], 20.0); // 2.5 × 8
+    assert!(b.plane.iter().all(|x| (*x - 2.5).abs() < 1e-6));
+    let fault = |refusal, line| Some(Fault { error: Error::Refused(refusal), line });
+    for (fields, due) in [
+        ("2 2", None),
+        ("2 1", fault(Refusal::Range, 3)),
+        ("2 1 x 0", fault(Refusal::Range, 3)),
+        ("2 1 2048 2048", fault(Refusal::Range, 3)),
+        ("2048 2048 2 1", fault(Refusal::Level, 3)),
+        ("5 -2048", fault(Refusal::Level, 3)),
+        ("5 -0", fault(Refusal::Form, 3)),
+    ] {
+        assert_eq!(read(ranged(&whole(), fields).as_bytes(), Limits::default()).err(), due, "{fields}");
+    }
+}
+
+/// "Equal pairs must give the planes of the `B` line."
+#[test]
+fn equal_pairs() {
+    let text = joint(3, "w1 w1 w1");
+    let pairs = |line: &str| match line.strip_prefix("B\t") {
+        Some(levels) => "G".to_owned() + &levels.split('\t').map(|d| format!("\t{d}\t{d}")).collect::<String>() + "\n",
+        None => line.to_owned() + "\n",
+    };
+    let (plain, ranges) = (sheet_of(&text), sheet_of(&text.lines().map(pairs).collect::<String>()));
+    assert_eq!(plain, ranges);
+    assert_eq!(plain.solve(), ranges.solve());
+    // with wider ranges the last project clips fewer coefficients
+    let mut wide = ranges.clone();
+    (wide.lows.iter_mut().for_each(|low| *low -= 9), wide.highs.iter_mut().for_each(|high| *high += 9));
+    let clipped = |sheet: &Sheet| sheet.solve().expect("legal").expect("planes").clipped.iter().sum::<u32>();
+    assert!(clipped(&wide) < clipped(&plain));
 }
 
 #[test]
@@ -176,7 +224,7 @@ fn iteration_counts_above_the_callers_limit() {
         assert_eq!(read(text.as_bytes(), limits).err(), due, "{text}");
         assert_eq!(measure(text.as_bytes(), limits).err(), due, "{text}");
         assert_eq!(
-            read_into(text.as_bytes(), limits, &mut [], &mut [], &mut []).err(),
+            read_into(text.as_bytes(), limits, &mut [], &mut [], &mut [], &mut []).err(),
             due.or(fault(Refusal::Length, 0))
         );
     }
@@ -187,22 +235,24 @@ fn iteration_counts_above_the_callers_limit() {
 
 #[test]
 fn reading_into_wrong_lengths() {
-    for (n, m, k) in [(63, 64, 29), (64, 65, 29), (64, 64, 28), (0, 0, 0)] {
-        let (mut levels, mut tables, mut header) = (vec![7; n], vec![7; m], vec![7; k]);
+    for (n, o, m, k) in [(63, 64, 64, 29), (64, 63, 64, 29), (64, 64, 65, 29), (64, 64, 64, 28), (0, 0, 0, 0)] {
+        let (mut lows, mut highs, mut tables, mut header) = (vec![7; n], vec![7; o], vec![7; m], vec![7; k]);
         let due = Err(Fault { error: Refusal::Length.into(), line: 0 });
-        assert_eq!(read_into(whole().as_bytes(), Limits::default(), &mut levels, &mut tables, &mut header), due);
-        assert!(levels.iter().all(|x| *x == 7) && tables.iter().all(|x| *x == 7) && header.iter().all(|x| *x == 7));
+        let text = whole();
+        assert_eq!(read_into(text.as_bytes(), Limits::default(), &mut lows, &mut highs, &mut tables, &mut header), due);
+        assert!(lows.iter().chain(&highs).all(|x| *x == 7));
+        assert!(tables.iter().all(|x| *x == 7) && header.iter().all(|x| *x == 7));
     }
 }
 
 #[test]
 fn table_of_refusals() {
-    let numbers: Vec<u32> = (1..=13).chain([15, 19, 20]).collect();
+    let numbers: Vec<u32> = (1..=15).chain([19, 20]).collect();
     assert_eq!(Refusal::ALL.map(Refusal::number).to_vec(), numbers);
     for refusal in Refusal::ALL {
         assert_eq!(Refusal::of_number(refusal.number()), Some(refusal));
     }
-    assert_eq!([0, 14, 255].map(Refusal::of_number), [None; 3]);
+    assert_eq!([0, 16, 255].map(Refusal::of_number), [None; 3]);
     let words = [
         "form",
         "size",
@@ -217,6 +267,7 @@ fn table_of_refusals() {
         "done",
         "channel",
         "record",
+        "range",
         "page",
         "segment",
         "precision",
@@ -227,7 +278,7 @@ fn table_of_refusals() {
 #[test]
 fn calls_refused() {
     let sheet = sheet_of(&joint(2, "w0 w1 w2"));
-    let (levels, tables) = (&sheet.levels, &sheet.tables);
+    let (levels, tables) = (sheet.levels(), &sheet.tables);
     let (mut run, mut b) = started(&sheet);
     // 8: one value short, in each call
     let mut short = b.clone();
@@ -241,15 +292,29 @@ fn calls_refused() {
         project(run, 0, levels, tables, b).map(|said| said.outcome)
     });
     refused(Refusal::Length, &mut run, &mut short, |run, b| start(run, levels, tables, b));
-    refused(Refusal::Length, &mut run, &mut b, |run, b| start(run, &levels[1..], tables, b));
+    refused(Refusal::Length, &mut run, &mut b, |run, b| {
+        start(run, Levels { lows: &levels.lows[1..], ..levels }, tables, b)
+    });
+    refused(Refusal::Length, &mut run, &mut b, |run, b| {
+        start(run, Levels { highs: &levels.highs[1..], ..levels }, tables, b)
+    });
     refused(Refusal::Length, &mut run, &mut b, |run, b| data(run, 0, levels, &tables[1..], b));
-    // 4 and 5, in a channel that the call does not name; 4 first
-    let (mut bad_levels, mut bad_tables) = (levels.clone(), tables.clone());
-    *bad_levels.last_mut().expect("some") = 2048;
+    // 4, 5 and 14, in a channel that the call does not name; 4 first, then the first pair with a fault
+    let (mut bad, mut bad_tables) = (sheet.highs.clone(), tables.clone());
+    *bad.last_mut().expect("some") = 2048;
     *bad_tables.last_mut().expect("some") = 256;
-    refused(Refusal::Table, &mut run, &mut b, |run, b| data(run, 0, &bad_levels, &bad_tables, b));
-    refused(Refusal::Level, &mut run, &mut b, |run, b| data(run, 0, &bad_levels, tables, b));
-    refused(Refusal::Level, &mut run, &mut b, |run, b| start(run, &bad_levels, tables, b));
+    let beyond = Levels { highs: &bad, ..levels };
+    refused(Refusal::Table, &mut run, &mut b, |run, b| data(run, 0, beyond, &bad_tables, b));
+    refused(Refusal::Level, &mut run, &mut b, |run, b| data(run, 0, beyond, tables, b));
+    refused(Refusal::Level, &mut run, &mut b, |run, b| start(run, beyond, tables, b));
+    let mut above = sheet.lows.clone();
+    above[1] = levels.highs[1] + 1;
+    let both = Levels { lows: &above, highs: &bad };
+    refused(Refusal::Range, &mut run, &mut b, |run, b| start(run, both, tables, b));
+    refused(Refusal::Range, &mut run, &mut b, |run, b| data(run, 2, both, tables, b));
+    above[0] = -2048;
+    let earlier = Levels { lows: &above, highs: &bad };
+    refused(Refusal::Level, &mut run, &mut b, |run, b| start(run, earlier, tables, b));
     // 12, 9
     refused(Refusal::Channel, &mut run, &mut b, |run, b| push(run, 3, b));
     refused(Refusal::Channel, &mut run, &mut b, |run, b| {
@@ -298,7 +363,7 @@ fn huge_data_weight_blows_in_step_1() {
         1,
     );
     let sheet = sheet_of(&text);
-    let (levels, tables) = (&sheet.levels, &sheet.tables);
+    let (levels, tables) = (sheet.levels(), &sheet.tables);
     let (mut run, mut b) = started(&sheet);
     for (job, c) in step(1) {
         let due = if job == Job::Project { Outcome::Blown } else { Outcome::Done };
@@ -314,7 +379,7 @@ fn huge_data_weight_blows_in_step_1() {
 #[test]
 fn calls_and_a_served_list_agree() {
     let sheet = sheet_of(&joint(7, "h3a83126f w0 w1"));
-    let (levels, tables) = (&sheet.levels, &sheet.tables);
+    let (levels, tables) = (sheet.levels(), &sheet.tables);
     // every step, with calls out of turn, of no channel and past the end among them
     let mut calls = step(3).repeat(7);
     for (at, job, c) in [(0, Job::Data, 0), (3, Job::Push, 9), (20, Job::Blend, 1), (41, Job::Project, 2)] {
@@ -338,7 +403,7 @@ fn calls_and_a_served_list_agree() {
 #[test]
 fn a_list_refused() {
     let sheet = sheet_of(&joint(1, "w0 w0 w0"));
-    let (levels, tables) = (&sheet.levels, &sheet.tables);
+    let (levels, tables) = (sheet.levels(), &sheet.tables);
     let (mut run, mut b) = started(&sheet);
     let mut answers = [7; 2];
     for (jobs, channels, why) in
@@ -404,7 +469,7 @@ fn solve_is_the_calls() {
         for (job, c) in step(run.count) {
             match job {
                 Job::Blend => totals.push(blend(&mut run, &mut b).expect("done")),
-                _ => assert_eq!(call(&mut run, job, c, &sheet.levels, &sheet.tables, &mut b), Ok(Outcome::Done)),
+                _ => assert_eq!(call(&mut run, job, c, sheet.levels(), &sheet.tables, &mut b), Ok(Outcome::Done)),
             }
         }
     }
@@ -421,7 +486,7 @@ fn solve_is_the_calls() {
 #[test]
 fn clipped_numbers() {
     let sheet = sheet_of(&joint(1, "w1 w1 w1"));
-    let (levels, tables) = (&sheet.levels, &sheet.tables);
+    let (levels, tables) = (sheet.levels(), &sheet.tables);
     let (mut run, mut b) = started(&sheet);
     for (job, c) in step(run.count) {
         if job == Job::Project {
@@ -452,7 +517,7 @@ fn solve_blows() {
     let sheet = sheet_of(&joint(1, "h7f000000 w1 w1"));
     let mut b = sheet.joint_run().buffers();
     let mut clipped = [7; 3];
-    let said = solve_into(&sheet.numbers(), &sheet.levels, &sheet.tables, &mut b, &mut clipped, &mut [0.0; 2]);
+    let said = solve_into(&sheet.numbers(), sheet.levels(), &sheet.tables, &mut b, &mut clipped, &mut [0.0; 2]);
     assert_eq!(said, Ok(Outcome::Blown));
     assert_eq!(clipped, [7; 3]);
     assert_eq!(sheet.solve(), Ok(None));
@@ -468,10 +533,11 @@ fn solve_refuses() {
     let mut no_letter = sheet.numbers();
     no_letter[28] = 2;
     for (numbers, levels, why) in [
-        (&sheet.numbers()[1..], &sheet.levels[..], Refusal::Length),
-        (&sheet.numbers(), &sheet.levels[1..], Refusal::Length),
-        (&numbers, &sheet.levels, Refusal::Record),
-        (&no_letter, &sheet.levels, Refusal::Record),
+        (&sheet.numbers()[1..], sheet.levels(), Refusal::Length),
+        (&sheet.numbers(), Levels { lows: &sheet.lows[1..], ..sheet.levels() }, Refusal::Length),
+        (&sheet.numbers(), Levels { highs: &sheet.highs[1..], ..sheet.levels() }, Refusal::Length),
+        (&numbers, sheet.levels(), Refusal::Record),
+        (&no_letter, sheet.levels(), Refusal::Record),
     ] {
         let (mut totals, mut clipped) = ([5.0; 2], [7; 3]);
         assert_eq!(solve_into(numbers, levels, &sheet.tables, &mut b, &mut clipped, &mut totals), Err(why.into()));
@@ -481,7 +547,7 @@ fn solve_refuses() {
     for (numbers, why) in [(&sheet.numbers(), Refusal::Length), (&numbers, Refusal::Record)] {
         for (blends, channels) in [(2, 2), (1, 3), (4, 3)] {
             let (mut totals, mut clipped) = (vec![5.0; blends], vec![7; channels]);
-            let said = solve_into(numbers, &sheet.levels, &sheet.tables, &mut b, &mut clipped, &mut totals);
+            let said = solve_into(numbers, sheet.levels(), &sheet.tables, &mut b, &mut clipped, &mut totals);
             assert_eq!(said, Err(why.into()));
             assert_eq!((totals, clipped), (vec![5.0; blends], vec![7; channels]));
         }

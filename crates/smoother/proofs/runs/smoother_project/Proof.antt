@@ -27,21 +27,21 @@ abbrev Callee : {M : Type 1} (𝓤 : URA M) (H : Heap 𝓤) (A : Atoms 𝓤) (me
 Callee 𝓤 H A mem run = tripleOf 𝓤 H A g.signature (g.spec 𝓤 H A mem run)
 
 -- the parameters beside the record: their types, and how their machine values are spelled and told
-abbrev Others : Lft → Lfts 6 → List RattleType
+abbrev Others : Lft → Lfts 7 → List RattleType
 Others κ κs′ = typesAt (tail (f.signature .params)) (κ, κs′)
 
-abbrev spells : (κ : Lft) (κs′ : Lfts 6) → Spells (Others κ κs′)
-spells κ κs′ = (uint-vals w32, (slice-vals, (slice-vals, (slice-vals, (slice-vals, (slice-vals, (slice-vals, tt)))))))
+abbrev spells : (κ : Lft) (κs′ : Lfts 7) → Spells (Others κ κs′)
+spells κ κs′ = (uint-vals w32, (slice-vals, (slice-vals, (slice-vals, (slice-vals, (slice-vals, (slice-vals, (slice-vals, tt))))))))
 
-abbrev tells : (κ : Lft) (κs′ : Lfts 6) → Tellss (Others κ κs′) (Ises (Others κ κs′)) (spells κ κs′)
-tells κ κs′ = (uint-tells w32, (shr-slice-tells (named 1) (κs′ .0) i16, (shr-slice-tells (named 2) (κs′ .1 .0) u16, (mut-slice-tells (named 3) (κs′ .1 .1 .0) f32, (mut-slice-tells (named 4) (κs′ .1 .1 .1 .0) f32, (mut-slice-tells (named 5) (κs′ .1 .1 .1 .1 .0) f32, (mut-slice-tells (named 6) (κs′ .1 .1 .1 .1 .1 .0) f32, tt)))))))
+abbrev tells : (κ : Lft) (κs′ : Lfts 7) → Tellss (Others κ κs′) (Ises (Others κ κs′)) (spells κ κs′)
+tells κ κs′ = (uint-tells w32, (shr-slice-tells (named 1) (κs′ .0) i16, (shr-slice-tells (named 2) (κs′ .1 .0) i16, (shr-slice-tells (named 3) (κs′ .1 .1 .0) u16, (mut-slice-tells (named 4) (κs′ .1 .1 .1 .0) f32, (mut-slice-tells (named 5) (κs′ .1 .1 .1 .1 .0) f32, (mut-slice-tells (named 6) (κs′ .1 .1 .1 .1 .1 .0) f32, (mut-slice-tells (named 7) (κs′ .1 .1 .1 .1 .1 .1 .0) f32, tt))))))))
 
-module _ {M : Type 1} (𝓤 : URA M) (H : Heap 𝓤) (A : Atoms 𝓤) (W : Given 𝓤 H A) (at-mem : Memory → SProp 𝓤) (run : Routine → Fun 𝓤) (κ : Lft) (q : Share) (κs′ : Lfts 6) (qs′ : Shares 6) where
+module _ {M : Type 1} (𝓤 : URA M) (H : Heap 𝓤) (A : Atoms 𝓤) (W : Given 𝓤 H A) (at-mem : Memory → SProp 𝓤) (run : Routine → Fun 𝓤) (κ : Lft) (q : Share) (κs′ : Lfts 7) (qs′ : Shares 7) where
   abbrev Os : List RattleType
   Os = Others κ κs′
 
   abbrev laws : Lawfuls 𝓤 H A Os
-  laws = (uint-lawful 𝓤 H A W w32, (shr-slice-lawful 𝓤 H A W (named 1) (κs′ .0) i16, (shr-slice-lawful 𝓤 H A W (named 2) (κs′ .1 .0) u16, (mut-slice-lawful 𝓤 H A W (named 3) (κs′ .1 .1 .0) f32, (mut-slice-lawful 𝓤 H A W (named 4) (κs′ .1 .1 .1 .0) f32, (mut-slice-lawful 𝓤 H A W (named 5) (κs′ .1 .1 .1 .1 .0) f32, (mut-slice-lawful 𝓤 H A W (named 6) (κs′ .1 .1 .1 .1 .1 .0) f32, tt)))))))
+  laws = (uint-lawful 𝓤 H A W w32, (shr-slice-lawful 𝓤 H A W (named 1) (κs′ .0) i16, (shr-slice-lawful 𝓤 H A W (named 2) (κs′ .1 .0) i16, (shr-slice-lawful 𝓤 H A W (named 3) (κs′ .1 .1 .0) u16, (mut-slice-lawful 𝓤 H A W (named 4) (κs′ .1 .1 .1 .0) f32, (mut-slice-lawful 𝓤 H A W (named 5) (κs′ .1 .1 .1 .1 .0) f32, (mut-slice-lawful 𝓤 H A W (named 6) (κs′ .1 .1 .1 .1 .1 .0) f32, (mut-slice-lawful 𝓤 H A W (named 7) (κs′ .1 .1 .1 .1 .1 .1 .0) f32, tt))))))))
 
   abbrev tokens : SProp 𝓤
   tokens = alive 𝓤 H A g.signature κs′ qs′
@@ -85,38 +85,38 @@ module _ {M : Type 1} (𝓤 : URA M) (H : Heap 𝓤) (A : Atoms 𝓤) (W : Given
           split ! $ split ! $ move ! (2 ∷ []) $ fsplit ! $ fsplit3 ! $ drop ! $ move ! (0 ∷ 1 ∷ 3 ∷ 4 ∷ []) $
           -- [obs; the record's borrow; its token; the others' tokens; what the others own; what is asked]
           enter ! C Λ code.function (vptr b o ∷ flat Os vals′) _ $
-          alloc1 ! (λ l₀. alloc1 ! (λ l₁. alloc1 ! (λ l₂. alloc1 ! (λ l₃. alloc1 ! (λ l₄. alloc1 ! (λ l₅. alloc1 ! (λ l₆. alloc1 ! (λ l₇. alloc1 ! (λ l₈. alloc1 ! (λ l₉. alloc1 ! (λ l₁₀. alloc1 ! (λ l₁₁. alloc1 ! (λ l₁₂. alloc1 ! (λ l₁₃. alloc1 ! (λ l₁₄. alloc1 ! (λ l₁₅. alloc1 ! (λ l₁₆. alloc1 ! (λ l₁₇. alloc1 ! (λ l₁₈. alloc0 ! $ params1 ! $
-          pass1 ! (init ! 34 refl (tt, tt)) $ pass1 ! (init ! 32 refl (typed are .0)) $ pass1 ! (init ! 30 refl (typed are .1 .0)) $ pass1 ! (init ! 28 refl (typed are .1 .1 .0)) $ pass1 ! (init ! 26 refl (typed are .1 .1 .1 .0)) $ pass1 ! (init ! 24 refl (typed are .1 .1 .1 .1 .0)) $ pass1 ! (init ! 22 refl (typed are .1 .1 .1 .1 .1 .0)) $ pass1 ! (init ! 20 refl (typed are .1 .1 .1 .1 .1 .1 .0)) $ pass0 ! $
-          -- [_18; …; ..; room for _0; …; obs; the borrow; its token; the others' tokens; what the others own; what is asked]
-          move ! (38 ∷ 39 ∷ 40 ∷ []) $ opens-record ! tt T.the-type T′.the-laws h b o (λ was.
-          -- [the record's cell; what it owns; the open borrow; obs; auth; _18; …; ..; room for _0; …; the others' tokens; what the others own; what is asked]
-          assigns ! (of-opd ! (load ! (from ! (hop ! (look ! 39 refl) (stop !))) (look-raw ! 0 refl))) (from ! (stop !)) (init ! 21 refl (run-typed 𝓤 H A W h was .0)) $
+          alloc1 ! (λ l₀. alloc1 ! (λ l₁. alloc1 ! (λ l₂. alloc1 ! (λ l₃. alloc1 ! (λ l₄. alloc1 ! (λ l₅. alloc1 ! (λ l₆. alloc1 ! (λ l₇. alloc1 ! (λ l₈. alloc1 ! (λ l₉. alloc1 ! (λ l₁₀. alloc1 ! (λ l₁₁. alloc1 ! (λ l₁₂. alloc1 ! (λ l₁₃. alloc1 ! (λ l₁₄. alloc1 ! (λ l₁₅. alloc1 ! (λ l₁₆. alloc1 ! (λ l₁₇. alloc1 ! (λ l₁₈. alloc1 ! (λ l₁₉. alloc0 ! $ params1 ! $
+          pass1 ! (init ! 36 refl (tt, tt)) $ pass1 ! (init ! 34 refl (typed are .0)) $ pass1 ! (init ! 32 refl (typed are .1 .0)) $ pass1 ! (init ! 30 refl (typed are .1 .1 .0)) $ pass1 ! (init ! 28 refl (typed are .1 .1 .1 .0)) $ pass1 ! (init ! 26 refl (typed are .1 .1 .1 .1 .0)) $ pass1 ! (init ! 24 refl (typed are .1 .1 .1 .1 .1 .0)) $ pass1 ! (init ! 22 refl (typed are .1 .1 .1 .1 .1 .1 .0)) $ pass1 ! (init ! 20 refl (typed are .1 .1 .1 .1 .1 .1 .1 .0)) $ pass0 ! $
+          -- [_19; …; ..; room for _0; …; obs; the borrow; its token; the others' tokens; what the others own; what is asked]
+          move ! (40 ∷ 41 ∷ 42 ∷ []) $ opens-record ! tt T.the-type T′.the-laws h b o (λ was.
+          -- [the record's cell; what it owns; the open borrow; obs; auth; _19; …; ..; room for _0; …; the others' tokens; what the others own; what is asked]
+          assigns ! (of-opd ! (load ! (from ! (hop ! (look ! 41 refl) (stop !))) (look-raw ! 0 refl))) (from ! (stop !)) (init ! 21 refl (run-typed 𝓤 H A W h was .0)) $
           assigns ! (addr ! (from ! (fld ! refl (hop ! (look-in ! 31 (sub ! 0 refl (whole !))) (stop !))))) (from ! (stop !)) (init ! 19 refl (tt, tt)) $
-          assigns ! (agg ! (and-then ! (load ! (from ! (stop !)) (look ! 19 refl)) (and-then ! (load ! (from ! (fld ! refl (stop !))) (look-in ! 31 (sub ! 1 refl (whole !)))) (no-more !)))) (from ! (stop !)) (init ! 17 refl (typed are .1 .1 .1 .0)) $
+          assigns ! (agg ! (and-then ! (load ! (from ! (stop !)) (look ! 19 refl)) (and-then ! (load ! (from ! (fld ! refl (stop !))) (look-in ! 31 (sub ! 1 refl (whole !)))) (no-more !)))) (from ! (stop !)) (init ! 17 refl (typed are .1 .1 .1 .1 .0)) $
           assigns ! (addr ! (from ! (fld ! refl (hop ! (look-in ! 29 (sub ! 0 refl (whole !))) (stop !))))) (from ! (stop !)) (init ! 15 refl (tt, tt)) $
-          assigns ! (agg ! (and-then ! (load ! (from ! (stop !)) (look ! 15 refl)) (and-then ! (load ! (from ! (fld ! refl (stop !))) (look-in ! 29 (sub ! 1 refl (whole !)))) (no-more !)))) (from ! (stop !)) (init ! 13 refl (typed are .1 .1 .1 .1 .0)) $
+          assigns ! (agg ! (and-then ! (load ! (from ! (stop !)) (look ! 15 refl)) (and-then ! (load ! (from ! (fld ! refl (stop !))) (look-in ! 29 (sub ! 1 refl (whole !)))) (no-more !)))) (from ! (stop !)) (init ! 13 refl (typed are .1 .1 .1 .1 .1 .0)) $
           assigns ! (addr ! (from ! (fld ! refl (hop ! (look-in ! 27 (sub ! 0 refl (whole !))) (stop !))))) (from ! (stop !)) (init ! 11 refl (tt, tt)) $
-          assigns ! (agg ! (and-then ! (load ! (from ! (stop !)) (look ! 11 refl)) (and-then ! (load ! (from ! (fld ! refl (stop !))) (look-in ! 27 (sub ! 1 refl (whole !)))) (no-more !)))) (from ! (stop !)) (init ! 9 refl (typed are .1 .1 .1 .1 .1 .0)) $
+          assigns ! (agg ! (and-then ! (load ! (from ! (stop !)) (look ! 11 refl)) (and-then ! (load ! (from ! (fld ! refl (stop !))) (look-in ! 27 (sub ! 1 refl (whole !)))) (no-more !)))) (from ! (stop !)) (init ! 9 refl (typed are .1 .1 .1 .1 .1 .1 .0)) $
           assigns ! (addr ! (from ! (fld ! refl (hop ! (look-in ! 25 (sub ! 0 refl (whole !))) (stop !))))) (from ! (stop !)) (init ! 7 refl (tt, tt)) $
-          assigns ! (agg ! (and-then ! (load ! (from ! (stop !)) (look ! 7 refl)) (and-then ! (load ! (from ! (fld ! refl (stop !))) (look-in ! 25 (sub ! 1 refl (whole !)))) (no-more !)))) (from ! (stop !)) (init ! 5 refl (typed are .1 .1 .1 .1 .1 .1 .0)) $
+          assigns ! (agg ! (and-then ! (load ! (from ! (stop !)) (look ! 7 refl)) (and-then ! (load ! (from ! (fld ! refl (stop !))) (look-in ! 25 (sub ! 1 refl (whole !)))) (no-more !)))) (from ! (stop !)) (init ! 5 refl (typed are .1 .1 .1 .1 .1 .1 .1 .0)) $
           -- the call
-          move ! (43 ∷ 44 ∷ 45 ∷ []) $ use3 W (raw (Callee 𝓤 H A at-mem run .pre to)) (passes-on 𝓤 H A W T.the-type T′.the-laws T′.the-plain h was tokens (owns Os a′ vals′) Asked) $
-          calls-at ! fm (Callee 𝓤 H A at-mem run) known to (and-then ! (load ! (from ! (stop !)) (look ! 22 refl)) (and-then ! (load ! (from ! (stop !)) (look ! 38 refl)) (and-then ! (load ! (from ! (stop !)) (look ! 36 refl)) (and-then ! (load ! (from ! (stop !)) (look ! 34 refl)) (and-then ! (load ! (from ! (stop !)) (look ! 18 refl)) (and-then ! (load ! (from ! (stop !)) (look ! 14 refl)) (and-then ! (load ! (from ! (stop !)) (look ! 10 refl)) (and-then ! (load ! (from ! (stop !)) (look ! 6 refl)) (no-more !))))))))) (λ w.
+          move ! (45 ∷ 46 ∷ 47 ∷ []) $ use3 W (raw (Callee 𝓤 H A at-mem run .pre to)) (passes-on 𝓤 H A W T.the-type T′.the-laws T′.the-plain h was tokens (owns Os a′ vals′) Asked) $
+          calls-at ! fm (Callee 𝓤 H A at-mem run) known to (and-then ! (load ! (from ! (stop !)) (look ! 22 refl)) (and-then ! (load ! (from ! (stop !)) (look ! 40 refl)) (and-then ! (load ! (from ! (stop !)) (look ! 38 refl)) (and-then ! (load ! (from ! (stop !)) (look ! 36 refl)) (and-then ! (load ! (from ! (stop !)) (look ! 34 refl)) (and-then ! (load ! (from ! (stop !)) (look ! 18 refl)) (and-then ! (load ! (from ! (stop !)) (look ! 14 refl)) (and-then ! (load ! (from ! (stop !)) (look ! 10 refl)) (and-then ! (load ! (from ! (stop !)) (look ! 6 refl)) (no-more !)))))))))) (λ w.
           returned ! tt g.ended (g.clauses 𝓤 H A at-mem run) to w (λ r ws. peeks ! P.the-row (Is P.the-row) (shows 𝓤 H A P.the-row) r (w ∷ []) (λ is.
-          -- [what the result owns; the others' tokens; the last values; what is said of them; the record's cell; what it owned; the open borrow; obs; auth; _18; …; ..; room for _0; …]
-          land ! (from ! (stop !)) (init ! 27 refl (result-typed 𝓤 H A W r w is .0)) $ rewrite ! 27 (λ (u : Val). ‵ (fat fullShare P′.mir l₉ 0 u)) (result-told r w is) refl $
-          assigns ! (of-opd ! (load ! (from ! (fld ! refl (stop !))) (look-in ! 27 (sub ! 1 refl (whole !))))) (from ! (hop ! (look ! 43 refl) (stop !))) (store-raw ! 4 refl (run-typed 𝓤 H A W (r .run) (run-is r w is) .0)) $
-          assigns ! (of-opd ! (load ! (from ! (fld ! refl (stop !))) (look-in ! 27 (sub ! 0 refl (whole !))))) (from ! (stop !)) (init ! 45 refl (answer-typed 𝓤 H A W (r .answer) (answer-is r w is) .0)) $
+          -- [what the result owns; the others' tokens; the last values; what is said of them; the record's cell; what it owned; the open borrow; obs; auth; _19; …; ..; room for _0; …]
+          land ! (from ! (stop !)) (init ! 27 refl (result-typed 𝓤 H A W r w is .0)) $ rewrite ! 27 (λ (u : Val). ‵ (fat fullShare P′.mir l₁₀ 0 u)) (result-told r w is) refl $
+          assigns ! (of-opd ! (load ! (from ! (fld ! refl (stop !))) (look-in ! 27 (sub ! 1 refl (whole !))))) (from ! (hop ! (look ! 45 refl) (stop !))) (store-raw ! 4 refl (run-typed 𝓤 H A W (r .run) (run-is r w is) .0)) $
+          assigns ! (of-opd ! (load ! (from ! (fld ! refl (stop !))) (look-in ! 27 (sub ! 0 refl (whole !))))) (from ! (stop !)) (init ! 47 refl (answer-typed 𝓤 H A W (r .answer) (answer-is r w is) .0)) $
           move ! (4 ∷ 5 ∷ 6 ∷ 7 ∷ 8 ∷ []) $ closes-record ! tt T.the-type T′.the-laws T′.the-plain (r .run) b o (run-is r w is) $
-          -- [obs; the borrow; its token; what the result owns; the others' tokens; the last values; what is said of them; _18; …; ..; _0; …]
-          returns ! (look ! 43 refl) $ forget ! 43 refl $ forget ! 41 refl $ forget ! 39 refl $ forget ! 37 refl $ forget ! 35 refl $ forget ! 33 refl $ forget ! 31 refl $ forget ! 29 refl $ forget ! 27 refl $ forget ! 25 refl $ forget ! 23 refl $ forget ! 21 refl $ forget ! 19 refl $ forget ! 17 refl $ forget ! 15 refl $ forget ! 13 refl $ forget ! 11 refl $ forget ! 9 refl $ forget ! 7 refl $
-          move ! (43 ∷ 44 ∷ []) $ free1 ! $ move ! (41 ∷ 42 ∷ []) $ free1 ! $ move ! (39 ∷ 40 ∷ []) $ free1 ! $ move ! (37 ∷ 38 ∷ []) $ free1 ! $ move ! (35 ∷ 36 ∷ []) $ free1 ! $ move ! (33 ∷ 34 ∷ []) $ free1 ! $ move ! (31 ∷ 32 ∷ []) $ free1 ! $ move ! (29 ∷ 30 ∷ []) $ free1 ! $ move ! (27 ∷ 28 ∷ []) $ free1 ! $ move ! (25 ∷ 26 ∷ []) $ free1 ! $ move ! (23 ∷ 24 ∷ []) $ free1 ! $ move ! (21 ∷ 22 ∷ []) $ free1 ! $ move ! (19 ∷ 20 ∷ []) $ free1 ! $ move ! (17 ∷ 18 ∷ []) $ free1 ! $ move ! (15 ∷ 16 ∷ []) $ free1 ! $ move ! (13 ∷ 14 ∷ []) $ free1 ! $ move ! (11 ∷ 12 ∷ []) $ free1 ! $ move ! (9 ∷ 10 ∷ []) $ free1 ! $ move ! (7 ∷ 8 ∷ []) $ free1 ! $ free0 ! $
-          keep ! (0 ∷ 1 ∷ 2 ∷ 4 ∷ 5 ∷ 6 ∷ []) $ by ! (exits r ws (answer-is r w is)))))))))))))))))))))))))
+          -- [obs; the borrow; its token; what the result owns; the others' tokens; the last values; what is said of them; _19; …; ..; _0; …]
+          returns ! (look ! 45 refl) $ forget ! 45 refl $ forget ! 43 refl $ forget ! 41 refl $ forget ! 39 refl $ forget ! 37 refl $ forget ! 35 refl $ forget ! 33 refl $ forget ! 31 refl $ forget ! 29 refl $ forget ! 27 refl $ forget ! 25 refl $ forget ! 23 refl $ forget ! 21 refl $ forget ! 19 refl $ forget ! 17 refl $ forget ! 15 refl $ forget ! 13 refl $ forget ! 11 refl $ forget ! 9 refl $ forget ! 7 refl $
+          move ! (45 ∷ 46 ∷ []) $ free1 ! $ move ! (43 ∷ 44 ∷ []) $ free1 ! $ move ! (41 ∷ 42 ∷ []) $ free1 ! $ move ! (39 ∷ 40 ∷ []) $ free1 ! $ move ! (37 ∷ 38 ∷ []) $ free1 ! $ move ! (35 ∷ 36 ∷ []) $ free1 ! $ move ! (33 ∷ 34 ∷ []) $ free1 ! $ move ! (31 ∷ 32 ∷ []) $ free1 ! $ move ! (29 ∷ 30 ∷ []) $ free1 ! $ move ! (27 ∷ 28 ∷ []) $ free1 ! $ move ! (25 ∷ 26 ∷ []) $ free1 ! $ move ! (23 ∷ 24 ∷ []) $ free1 ! $ move ! (21 ∷ 22 ∷ []) $ free1 ! $ move ! (19 ∷ 20 ∷ []) $ free1 ! $ move ! (17 ∷ 18 ∷ []) $ free1 ! $ move ! (15 ∷ 16 ∷ []) $ free1 ! $ move ! (13 ∷ 14 ∷ []) $ free1 ! $ move ! (11 ∷ 12 ∷ []) $ free1 ! $ move ! (9 ∷ 10 ∷ []) $ free1 ! $ move ! (7 ∷ 8 ∷ []) $ free1 ! $ free0 ! $
+          keep ! (0 ∷ 1 ∷ 2 ∷ 4 ∷ 5 ∷ 6 ∷ []) $ by ! (exits r ws (answer-is r w is))))))))))))))))))))))))))
 
 smoother-project-meets : {M : Type 1} (𝓤 : URA M) (H : Heap 𝓤) (A : Atoms 𝓤) → Given 𝓤 H A → (mem : Memory → SProp 𝓤) (run : Routine → Fun 𝓤) (𝓣 : Tables 𝓤 H) → Triple 𝓤 (𝓣 .C #g) (Callee 𝓤 H A mem run)
     → Meets 𝓤 H A f.signature (WpFn 𝓤 H (𝓣 .C) (𝓣 .Λ) code.function) (f.spec 𝓤 H A mem run)
 smoother-project-meets 𝓤 H A W mem run 𝓣 known =
-    by-walk 𝓤 H A W f.ended stayed (goes-ref 𝓤 H A W 7 0 tt (plain (λ _. T.the-row)), gives-go 𝓤 H A W 7 (tail (f.signature .params)) (f.ended .kept .1)) (f.clauses 𝓤 H A mem run) 𝓣 code.function
+    by-walk 𝓤 H A W f.ended stayed (goes-ref 𝓤 H A W 8 0 tt (plain (λ _. T.the-row)), gives-go 𝓤 H A W 8 (tail (f.signature .params)) (f.ended .kept .1)) (f.clauses 𝓤 H A mem run) 𝓣 code.function
     (λ κs. (ptr-vals, spells (κs .0) (κs .1))) (λ κs. (mut-tells (named 0) (κs .0) T.the-row, tells (κs .0) (κs .1)))
     (λ κs qs bounds a _ are. walk 𝓤 H A W mem run (κs .0) (qs .0) (κs .1) (qs .1) (a .0 .ptr .0) (a .0 .ptr .1) (a .0 .name) (a .0 .now) (a .1) (𝓣 .C) (𝓣 .Λ) (fmOf 𝓤 H (W .laws) 𝓣) known (are .1))
 
