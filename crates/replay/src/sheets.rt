@@ -1,4 +1,5 @@
-// The reading of a sheet text: `read`, the limits of sides and of iterations, the refusal's number and line, a digest of what was read, and the text's bytes.
+// The reading of a sheet text: `read`, the limits of sides and of iterations, the refusal's number and line, a digest of what was read (the record's numbers, lows, highs,
+// tables), and the text's bytes.
 use contents::Limits;
 use float::bits::to_bits;
 use interval::whole;
@@ -81,35 +82,57 @@ fn refused(number: u8, line: usize) -> Given {
 }
 
 // Reads into the front of the buffers, where there is room.
-fn read_text(text: &[u8], limits: Limits, levels: &mut [i16], tables: &mut [u16]) -> Given {
-    match sheet::read(text, limits, levels, tables) {
+fn read_text(
+    text: &[u8],
+    limits: Limits,
+    lows: &mut [i16],
+    highs: &mut [i16],
+    tables: &mut [u16],
+) -> Given {
+    match sheet::read(text, limits, lows, highs, tables) {
         Answer::Sheet(s) => {
             let header = smoother::numbers(s);
             let d = with_header(0, &header);
-            let e = with_levels(d, &levels[..]);
+            let e = with_levels(d, &lows[..]);
+            let f = with_levels(e, &highs[..]);
             Given {
                 number: 0,
                 line: 0,
-                digest: with_tables(e, &tables[..]),
+                digest: with_tables(f, &tables[..]),
             }
         }
         Answer::Refused { number, line } => refused(number, line),
     }
 }
 
-fn read_measured(text: &[u8], limits: Limits, levels: &mut [i16], tables: &mut [u16]) -> Given {
+fn read_measured(
+    text: &[u8],
+    limits: Limits,
+    lows: &mut [i16],
+    highs: &mut [i16],
+    tables: &mut [u16],
+) -> Given {
     match sheet::measure(text, limits) {
         Measured::Lengths {
             levels: n,
             tables: m,
         } => {
-            if levels.len() < n {
+            if lows.len() < n {
+                return refused(255, n);
+            }
+            if highs.len() < n {
                 return refused(255, n);
             }
             if tables.len() < m {
                 return refused(255, m);
             }
-            read_text(text, limits, &mut levels[0..n], &mut tables[0..m])
+            read_text(
+                text,
+                limits,
+                &mut lows[0..n],
+                &mut highs[0..n],
+                &mut tables[0..m],
+            )
         }
         Measured::Refused { number, line } => refused(number, line),
     }
@@ -118,9 +141,10 @@ fn read_measured(text: &[u8], limits: Limits, levels: &mut [i16], tables: &mut [
 fn read_bytes(text: &[u8], n: usize, limits: Limits) -> Given
     requires { ⌜ n ≤ length (now text) ⌝ }
 {
-    let mut levels = [0i16; 3072];
+    let mut lows = [0i16; 3072];
+    let mut highs = [0i16; 3072];
     let mut tables = [0u16; 192];
-    read_measured(&text[0..n], limits, &mut levels, &mut tables)
+    read_measured(&text[0..n], limits, &mut lows, &mut highs, &mut tables)
 }
 
 // Whether word k is this number.

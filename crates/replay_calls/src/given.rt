@@ -1,5 +1,5 @@
-// A line's words, in hexadecimal: `serve`, the digest, what all values of the six buffers are before, the lengths of the six, of levels, tables, jobs, channels
-// and answers, the record's 30 numbers, the levels modulo 2^16, the quantisers, the jobs' numbers and the channels.
+// A line's words, in hexadecimal: `serve`, the digest, what all values of the six buffers are before, the lengths of the six, of lows, highs, tables, jobs,
+// channels and answers, the record's 30 numbers, the lows and the highs modulo 2^16, the quantisers, the jobs' numbers and the channels.
 use crate::served;
 use float::bits::from_bits;
 use record::Channel;
@@ -131,16 +131,16 @@ fn read_channel(s: &[u8], at: usize, k: usize) -> Channel
 fn read_run(s: &[u8], at: usize) -> Run
     requires { ⌜ at ≤ length (now s) ⌝ }
 {
-    let a = read_channel(s, at, 20);
-    let b = read_channel(s, at, 28);
-    let c = read_channel(s, at, 36);
+    let a = read_channel(s, at, 21);
+    let b = read_channel(s, at, 29);
+    let c = read_channel(s, at, 37);
     Run {
-        w: word(s, at, 14),
-        h: word(s, at, 15),
-        n: word(s, at, 16),
-        smoothing: from_bits(word(s, at, 17)),
-        reorder: reorder_of(word(s, at, 18)),
-        count: word(s, at, 19),
+        w: word(s, at, 15),
+        h: word(s, at, 16),
+        n: word(s, at, 17),
+        smoothing: from_bits(word(s, at, 18)),
+        reorder: reorder_of(word(s, at, 19)),
+        count: word(s, at, 20),
         channels: [a, b, c],
     }
 }
@@ -152,7 +152,8 @@ fn digest_of(
     jobs: &[u8],
     channels: &[u32],
     answers: &mut [u8],
-    levels: &[i16],
+    lows: &[i16],
+    highs: &[i16],
     tables: &[u16],
 ) -> u64
     requires { ⌜ at ≤ length (now s) ⌝ }
@@ -176,7 +177,8 @@ fn digest_of(
         jobs,
         channels,
         answers,
-        levels,
+        lows,
+        highs,
         tables,
         &mut plane[0..a],
         &mut prior[0..b],
@@ -188,15 +190,15 @@ fn digest_of(
 }
 
 // Reads the lists of jobs and of channels, which start at i, and makes the calls.
-fn same_calls(s: &[u8], at: usize, i: usize, levels: &[i16], tables: &[u16]) -> bool
+fn same_calls(s: &[u8], at: usize, i: usize, lows: &[i16], highs: &[i16], tables: &[u16]) -> bool
     requires { ⌜ (at ≤ length (now s)) × (i ≤ length (now s)) ⌝ }
 {
     let mut jobs = [0u8; 256];
     let mut channels = [0u32; 256];
     let mut answers = [77u8; 256];
-    let n = length_of(s, at, 11, 256);
-    let m = length_of(s, at, 12, 256);
-    let k = length_of(s, at, 13, 256);
+    let n = length_of(s, at, 12, 256);
+    let m = length_of(s, at, 13, 256);
+    let k = length_of(s, at, 14, 256);
     let j = read_jobs(s, i, &mut jobs, n);
     read_channels(s, j, &mut channels, m);
     let d = digest_of(
@@ -205,7 +207,8 @@ fn same_calls(s: &[u8], at: usize, i: usize, levels: &[i16], tables: &[u16]) -> 
         &jobs[0..n],
         &channels[0..m],
         &mut answers[0..k],
-        levels,
+        lows,
+        highs,
         tables,
     );
     word(s, at, 1) as u64 == d
@@ -215,11 +218,14 @@ fn same_calls(s: &[u8], at: usize, i: usize, levels: &[i16], tables: &[u16]) -> 
 pub fn same_line(s: &[u8], at: usize) -> bool
     requires { ⌜ at ≤ length (now s) ⌝ }
 {
-    let mut levels = [0i16; 3072];
+    let mut lows = [0i16; 3072];
+    let mut highs = [0i16; 3072];
     let mut tables = [0u16; 256];
     let n = length_of(s, at, 9, 3072);
-    let m = length_of(s, at, 10, 256);
-    let i = read_levels(s, word_at(s, at, 44), &mut levels, n);
-    let j = read_tables(s, i, &mut tables, m);
-    same_calls(s, at, j, &levels[0..n], &tables[0..m])
+    let o = length_of(s, at, 10, 3072);
+    let m = length_of(s, at, 11, 256);
+    let i = read_levels(s, word_at(s, at, 45), &mut lows, n);
+    let j = read_levels(s, i, &mut highs, o);
+    let k = read_tables(s, j, &mut tables, m);
+    same_calls(s, at, k, &lows[0..n], &highs[0..o], &tables[0..m])
 }
