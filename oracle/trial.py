@@ -72,7 +72,7 @@ USES = {
     'Rattle.utils.specs.Blocks': 'fromBlocks toBlocks',
     'Rattle.utils.specs.Dct': 'onLine idct8 dct8 idct8x8 dct8x8',
     'Rattle.utils.specs.Auxiliary': 'upsamplePixels',
-    'Rattle.interval.specs.Interval': 'lowest highest dequantised',
+    'Rattle.interval.specs.Interval': 'lowest highest dequantised mid',
     'Rattle.steps.specs.Solve': 'nextTerm termOf constants pushed',
     'Rattle.steps.specs.Step': 'dataAlpha gradientNorm movedBy moved',
     'Rattle.gradients.specs.Tv': 'difference bump bumpUnless tvDifferencesAt tvDifferences gNormOf tvChannelDerivatives tvDerivatives store tvGradientPx tvAlpha tvGradient',

@@ -5,7 +5,7 @@ use crate::{
     jobs::Buffers,
     probe::{ffi::lend, *},
     run::Run,
-    sheet::{self, Reorder, Sheet},
+    sheet::{self, Levels, Reorder, Sheet},
 };
 
 /// A channel of the run, as the library declares it.
@@ -191,7 +191,9 @@ impl Record {
 #[derive(Clone)]
 pub struct Lent {
     pub record: Record,
-    pub levels: Vec<i16>,
+    /// "Levels are from now on lent as lows and highs, two buffers of the old length each" (M-105).
+    pub lows: Vec<i16>,
+    pub highs: Vec<i16>,
     pub tables: Vec<u16>,
     pub buffers: Buffers,
     /// Two places for the totals that blend returns (M-103).
@@ -199,7 +201,18 @@ pub struct Lent {
 }
 
 impl Lent {
-    /// The first refusal of 13, 8, 4, 5, 12, 10, 11, 9 that applies; 0 for none.
+    /// "14 "range", low above high, checked after 5 on the same pair and before the next pair, in the text and in the calls alike": 0 for none.
+    fn levels_fault(&self) -> u32 {
+        let legal = |level: i16| (-2047..=2047).contains(&level);
+        let fault = |(low, high): (&i16, &i16)| match (legal(*low) && legal(*high), low <= high) {
+            (false, _) => Some(5),
+            (_, false) => Some(14),
+            _ => None,
+        };
+        self.lows.iter().zip(&self.highs).find_map(fault).unwrap_or(0)
+    }
+
+    /// The first refusal of 13, 8, 4, then pair by pair 5 and 14, then 12, 10, 11, 9 that applies; 0 for none.
     pub fn refusal(&self, job: Job, c: u32) -> u32 {
         let r = &self.record;
         if !r.is_legal() {
@@ -212,14 +225,15 @@ impl Lent {
             return 8;
         }
         if lent_levels(job) {
-            if self.levels.len() != r.levels() || self.tables.len() != r.tables() {
+            if !self.is_fed() {
                 return 8;
             }
             if self.tables.iter().any(|q| !(1..=255).contains(q)) {
                 return 4;
             }
-            if self.levels.iter().any(|d| !(-2047..=2047).contains(d)) {
-                return 5;
+            let fault = self.levels_fault();
+            if fault != 0 {
+                return fault;
             }
         }
         if job == Start {
@@ -280,17 +294,18 @@ impl Lent {
     }
 
     fn coefficients(&self) -> Vec<sheet::Channel> {
-        let mut rest = &self.levels[..];
+        let mut from = 0;
         let channel = |(c, table): (&Channel, &[u16])| {
-            let (own, after) = rest.split_at((c.width * c.height) as usize);
-            rest = after;
+            let own = from..from + (c.width * c.height) as usize;
+            from = own.end;
+            let part = |levels: &[i16]| levels[own.clone()].iter().map(|d| (*d).into()).collect();
             sheet::Channel {
                 w: c.width,
                 h: c.height,
                 across: c.across,
                 down: c.down,
                 table: table.iter().map(|q| (*q).into()).collect(),
-                levels: own.iter().map(|d| (*d).into()).collect(),
+                levels: Levels::of(part(&self.lows), part(&self.highs)),
             }
         };
         self.record.owns().iter().zip(self.tables.chunks(64)).map(channel).collect()
@@ -298,7 +313,8 @@ impl Lent {
 
     /// Push, blend and move are not lent levels and tables: whatever stands there, they read none.
     fn is_fed(&self) -> bool {
-        self.levels.len() == self.record.levels() && self.tables.len() == self.record.tables()
+        let (levels, tables) = (self.record.levels(), self.record.tables());
+        self.lows.len() == levels && self.highs.len() == levels && self.tables.len() == tables
     }
 
     /// The published run of this record on these buffers. A buffer of another length, which the job is not lent, is taken as zeros.
@@ -307,7 +323,8 @@ impl Lent {
         let fed = if self.is_fed() {
             self.clone_fed()
         } else {
-            Self { levels: vec![0; r.levels()], tables: vec![1; r.tables()], ..self.clone_fed() }
+            let levels = vec![0; r.levels()];
+            Self { lows: levels.clone(), highs: levels, tables: vec![1; r.tables()], ..self.clone_fed() }
         };
         let part = |b: usize, c: usize| -> Vec<f32> {
             let whole = self.buffers[b].len() == r.values();
@@ -321,7 +338,8 @@ impl Lent {
     fn clone_fed(&self) -> Self {
         Self {
             record: self.record,
-            levels: self.levels.clone(),
+            lows: self.lows.clone(),
+            highs: self.highs.clone(),
             tables: self.tables.clone(),
             buffers: Buffers::default(),
             totals: vec![],
@@ -391,18 +409,19 @@ impl Lent {
 
 /// The proved call, by the library.
 pub fn proved(x: &mut Lent, job: Job, c: u32) -> u32 {
-    let Lent { record: run, levels, tables, buffers: [plane, prior, gradient, across, down, saved], totals } = x;
+    let Lent { record: run, lows, highs, tables, buffers: [plane, prior, gradient, across, down, saved], totals } = x;
     unsafe {
         match job {
             Start => lend!(smoother_start(
-                run, read levels, read tables, write plane, write prior, write gradient, write across, write down, write saved
+                run, read lows, read highs, read tables, write plane, write prior, write gradient, write across, write down,
+                write saved
             )),
             Push => lend!(smoother_push(run, c, write plane, write prior)),
-            Data => lend!(smoother_data(run, c, read levels, read tables, write gradient, read saved)),
+            Data => lend!(smoother_data(run, c, read lows, read highs, read tables, write gradient, read saved)),
             Blend => lend!(smoother_blend(run, read plane, write gradient, write across, write down, write totals)),
             Move => lend!(smoother_move(run, c, write plane, read gradient)),
             Project => lend!(smoother_project(
-                run, c, read levels, read tables, write plane, write across, write down, write saved
+                run, c, read lows, read highs, read tables, write plane, write across, write down, write saved
             )),
         }
     }
@@ -410,10 +429,10 @@ pub fn proved(x: &mut Lent, job: Job, c: u32) -> u32 {
 
 /// The proved list of calls, by the library.
 pub fn proved_serve(x: &mut Lent, jobs: &[u8], channels: &[u32], answers: &mut [u8]) -> u32 {
-    let Lent { record: run, levels, tables, buffers: [plane, prior, gradient, across, down, saved], .. } = x;
+    let Lent { record: run, lows, highs, tables, buffers: [plane, prior, gradient, across, down, saved], .. } = x;
     unsafe {
         lend!(smoother_serve(
-            run, read jobs, read channels, write answers, read levels, read tables, write plane, write prior,
+            run, read jobs, read channels, write answers, read lows, read highs, read tables, write plane, write prior,
             write gradient, write across, write down, write saved
         ))
     }
@@ -458,9 +477,11 @@ mod tests {
 
     fn fresh(sheet: &Sheet) -> Lent {
         let record = Record::of(sheet, 0);
+        let (lows, highs) = sheet::lent_levels(&sheet.channels);
         Lent {
             record,
-            levels: sheet.channels.iter().flat_map(|c| &c.levels).map(|d| *d as i16).collect(),
+            lows,
+            highs,
             tables: sheet.channels.iter().flat_map(|c| &c.table).map(|q| *q as u16).collect(),
             buffers: [0; 6].map(|_| vec![f32::NAN; record.values()]),
             totals: vec![0.0; 2],
@@ -481,7 +502,7 @@ mod tests {
         x.record.smoothing = -0.0;
         x.buffers[0].pop();
         x.tables[0] = 256;
-        x.levels[0] = -2048;
+        x.lows[0] = -2048;
         assert_eq!(x.call(Project, 3), 13);
         x.record.smoothing = 0.0;
         assert_eq!(x.call(Project, 3), 8);
@@ -489,9 +510,17 @@ mod tests {
         x.buffers[0].push(0.0);
         assert_eq!(x.call(Project, 3), 4);
         x.tables[0] = 255;
-        assert_eq!(x.call(Project, 3), 5);
-        x.levels[0] = -2047;
+        let last = x.lows.len() - 1;
+        (x.lows[last], x.highs[last]) = (2, 1);
+        assert_eq!(x.call(Project, 3), 5, "5 of the first pair before 14 of the last channel's");
+        (x.lows[0], x.highs[0]) = (2, 1);
+        x.highs[last] = 2048;
+        assert_eq!(x.call(Project, 3), 14, "14 of the first pair before 5 of the last channel's");
+        (x.lows[0], x.highs[0], x.highs[last]) = (-2047, 2047, 2);
         assert_eq!(x.call(Project, 3), 12);
+        let high = x.highs.pop().expect("a level");
+        assert_eq!(x.call(Project, 3), 8);
+        x.highs.push(high);
         assert_eq!(x.call(Project, 2), 9);
         x.record.channels.iter_mut().for_each(|c| c.position = 5);
         assert_eq!(x.call(Project, 2), 11);

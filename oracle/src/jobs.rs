@@ -17,7 +17,8 @@ pub struct Own {
     across: usize,
     down: usize,
     weight: f32,
-    levels: Vec<i16>,
+    lows: Vec<i16>,
+    highs: Vec<i16>,
     table: Vec<u16>,
 }
 
@@ -37,14 +38,18 @@ pub struct Lent {
 
 /// A run of all channels in joint mode, and of each channel in separate mode, as `run::runs` has them. The buffers hold `fill`.
 pub fn runs(sheet: &sheet::Sheet, fill: f32) -> Vec<Lent> {
-    let own = |c: &sheet::Channel, weight: sheet::Weight| Own {
-        w: c.w as usize,
-        h: c.h as usize,
-        across: c.across as usize,
-        down: c.down as usize,
-        weight: weight.value(),
-        levels: c.levels.iter().map(|level| *level as i16).collect(),
-        table: c.table.iter().map(|quantiser| *quantiser as u16).collect(),
+    let own = |c: &sheet::Channel, weight: sheet::Weight| {
+        let (lows, highs) = sheet::lent_levels([c]);
+        Own {
+            w: c.w as usize,
+            h: c.h as usize,
+            across: c.across as usize,
+            down: c.down as usize,
+            weight: weight.value(),
+            lows,
+            highs,
+            table: c.table.iter().map(|quantiser| *quantiser as u16).collect(),
+        }
     };
     let lent = |c: usize, channels: Vec<Own>| Lent {
         w: sheet.w,
@@ -91,7 +96,7 @@ impl Lent {
         let (n, o, step) = (self.count(), &self.channels[c], step as u32);
         let (w, h, full_w, full_h) = (self.w, self.h, self.w as usize, self.h as usize);
         let (iterations, weight) = (self.iterations, self.weight);
-        let (levels, levels_len, table) = (o.levels.as_ptr(), o.levels.len(), o.table.as_ptr());
+        let (lows, highs, own, table) = (o.lows.as_ptr(), o.highs.as_ptr(), o.lows.len(), o.table.as_ptr());
         match job {
             "start" => unsafe {
                 probe_start(
@@ -114,8 +119,10 @@ impl Lent {
                     full_w,
                     full_h,
                     self.reorder,
-                    levels,
-                    levels_len,
+                    lows,
+                    own,
+                    highs,
+                    own,
                     table,
                     64,
                 );
@@ -123,7 +130,7 @@ impl Lent {
             "push" => unsafe { probe_push(plane, n, prior, n, w, h, iterations, weight, step) },
             "data" => unsafe {
                 probe_data(
-                    saved, n, gradient, n, o.w, o.h, o.across, o.down, full_w, full_h, o.weight, levels, levels_len,
+                    saved, n, gradient, n, o.w, o.h, o.across, o.down, full_w, full_h, o.weight, lows, own, highs, own,
                     table, 64,
                 );
             },
@@ -138,8 +145,8 @@ impl Lent {
             "move" => unsafe { probe_move(plane, n, gradient, n, w, h, iterations, weight, step) },
             "project" => unsafe {
                 self.clipped = probe_project(
-                    plane, n, across, n, down, n, saved, n, o.w, o.h, o.across, o.down, full_w, full_h, levels,
-                    levels_len, table, 64,
+                    plane, n, across, n, down, n, saved, n, o.w, o.h, o.across, o.down, full_w, full_h, lows, own,
+                    highs, own, table, 64,
                 ) as u32;
             },
             _ => panic!("{job} is no job"),

@@ -9,6 +9,7 @@ pub mod probe;
 pub mod program;
 pub mod published;
 pub mod random;
+pub mod ranges;
 pub mod replay;
 pub mod run;
 pub mod segments;

@@ -77,8 +77,10 @@ mod probes {
             w: usize,
             h: usize,
             reorder: u32,
-            levels: *const i16,
-            levels_len: usize,
+            lows: *const i16,
+            lows_len: usize,
+            highs: *const i16,
+            highs_len: usize,
             table: *const u16,
             table_len: usize,
         );
@@ -105,8 +107,10 @@ mod probes {
             w: usize,
             h: usize,
             weight: f32,
-            levels: *const i16,
-            levels_len: usize,
+            lows: *const i16,
+            lows_len: usize,
+            highs: *const i16,
+            highs_len: usize,
             table: *const u16,
             table_len: usize,
         );
@@ -154,8 +158,10 @@ mod probes {
             down_factor: usize,
             w: usize,
             h: usize,
-            levels: *const i16,
-            levels_len: usize,
+            lows: *const i16,
+            lows_len: usize,
+            highs: *const i16,
+            highs_len: usize,
             table: *const u16,
             table_len: usize,
         ) -> usize;
@@ -175,19 +181,20 @@ pub fn measure(text: &[u8], limits: Limits, levels: &mut usize, tables: &mut usi
 pub fn read(
     text: &[u8],
     limits: Limits,
-    levels: &mut [i16],
+    lows: &mut [i16],
+    highs: &mut [i16],
     tables: &mut [u16],
     header: &mut [u32],
     line: &mut usize,
 ) -> u32 {
     unsafe {
-        lend!(smoother_read(read text, limits.side, limits.iterations, write levels, write tables, write header, line))
+        lend!(smoother_read(read text, limits.side, limits.iterations, write lows, write highs, write tables, write header, line))
     }
 }
 
 pub fn solve(
     header: &[u32],
-    levels: &[i16],
+    [lows, highs]: [&[i16]; 2],
     tables: &[u16],
     six: &mut Buffers,
     clipped: &mut [u32],
@@ -196,7 +203,7 @@ pub fn solve(
     let [plane, prior, gradient, across, down, saved] = six;
     unsafe {
         lend!(smoother_solve(
-            read header, read levels, read tables, write plane, write prior, write gradient, write across, write down, write saved,
+            read header, read lows, read highs, read tables, write plane, write prior, write gradient, write across, write down, write saved,
             write clipped, write totals
         ))
     }

@@ -1,4 +1,4 @@
-//! The published Rust on a sheet: `each` as it was published, `once` with the one line more by which the start's blocks are reordered once (M-102; `artefact/build.rs`).
+//! The published Rust on a sheet, of a range (M-105) by its half sum: `each` as it was published, `once` with the one line more by which the start's blocks are reordered once (M-102; `artefact/build.rs`).
 
 macro_rules! built {
     ($name:ident, $built:ident) => {
@@ -19,7 +19,7 @@ macro_rules! built {
                     block_count: c.w * c.h / 64,
                     horizontal_samp_factor: SampleFactor(c.across as u8),
                     vertical_samp_factor: SampleFactor(c.down as u8),
-                    dct_coefs: c.levels.iter().map(|level| *level as f32).collect(),
+                    dct_coefs: c.levels.half_sums(),
                     quant_table: std::array::from_fn(|i| c.table[i] as f32),
                 }
             }

@@ -13,15 +13,15 @@ pub struct Calls<'a> {
 }
 
 /// A line, all its numbers in hexadecimal: `serve`; the digest; what all values of the six buffers are before; the lengths of plane, prior, gradient,
-/// across, down, saved, levels, tables, jobs, channels and answers; the record's 30 numbers; levels (modulo 2^16), quantisers, jobs and channels.
+/// across, down, saved, lows, highs, tables, jobs, channels and answers; the record's 30 numbers; lows and highs (modulo 2^16), quantisers, jobs and channels.
 pub fn line(digest: u64, fill: f32, x: &Lent, calls: &Calls) -> String {
-    let lengths = x.buffers.iter().map(Vec::len).chain([x.levels.len(), x.tables.len()]);
+    let lengths = x.buffers.iter().map(Vec::len).chain([x.lows.len(), x.highs.len(), x.tables.len()]);
     let lengths = lengths.chain([calls.jobs.len(), calls.channels.len(), calls.answers]);
     let words = [bits(fill)]
         .into_iter()
         .chain(lengths.map(|n| n as u32))
         .chain(x.record.numbers())
-        .chain(x.levels.iter().map(|d| u32::from(*d as u16)))
+        .chain(x.lows.iter().chain(&x.highs).map(|d| u32::from(*d as u16)))
         .chain(x.tables.iter().map(|q| u32::from(*q)))
         .chain(calls.jobs.iter().map(|j| u32::from(*j)))
         .chain(calls.channels.iter().copied());
@@ -38,7 +38,7 @@ pub fn digest(answer: u32, answers: &[u8], record: &Record, buffers: &Buffers) -
 
 /// Whether the program has room for it, and a value for its letter: there the letter is no number.
 pub fn fits(x: &Lent, calls: &Calls) -> bool {
-    let large = x.buffers.iter().map(Vec::len).chain([x.levels.len()]).max();
+    let large = x.buffers.iter().map(Vec::len).chain([x.lows.len(), x.highs.len()]).max();
     let small = [x.tables.len(), calls.jobs.len(), calls.channels.len(), calls.answers].into_iter().max();
     large <= Some(3072) && small <= Some(256) && x.record.reorder <= 1
 }

@@ -1,10 +1,12 @@
 //! A sheet's runs, job by job: document 01, "Jobs and positions". The jobs call the published functions. What stands as loops inside the published
 //! `solve` and `solver_step` is copied here statement by statement, and `check` holds the planes against the published `solve`. The start with one reordering
-//! (M-102) is written here too, and held against the published `solve` built with it.
+//! (M-102) is written here too, and held against the published `solve` built with it. Levels within a range (M-105) are the published functions' levels by their half sum; only the
+//! projection onto ranges is own code, held against the published one at every call.
 use crate::{
     floats::same,
     macros::mul_add,
     published::{each, once},
+    ranges::{nearest, outside, project_onto_ranges},
     sheet::{self, Reorder},
 };
 use artefact::{
@@ -48,13 +50,6 @@ fn converted(own: &sheet::Channel, reorder: Reorder) -> ScalarCoef {
         Reorder::Each => given.into(),
         Reorder::Once => ScalarCoef { image_data: image_once(&given), ..without_image(&given) },
     }
-}
-
-/// "block places where the transformed value lay outside its interval", which runs from (2d - 1) q / 2 to (2d + 1) q / 2: all is exact in f64. A NaN is neither below nor
-/// above (M-104).
-fn outside(x: f32, level: i32, quantiser: u32) -> bool {
-    let (twice, level, quantiser) = (2.0 * f64::from(x), f64::from(level), f64::from(quantiser));
-    twice < (2.0 * level - 1.0) * quantiser || twice > (2.0 * level + 1.0) * quantiser
 }
 
 /// "The step constants of a sheet are four f32 values."
@@ -232,28 +227,59 @@ impl Run {
 
     /// A channel's coefficients as the projection finds them: those that the published one keeps where each interval has no end, the quantisers being infinite.
     fn transformed(&self, c: usize) -> AlignedF32 {
-        let (aux, given) = (&self.auxs[c], each::coefficient(&self.owns[c]));
+        let given = each::coefficient(&self.owns[c]);
         let free = ScalarCoef {
             dct_coefs: vec![0.0; given.dct_coefs.len()],
             quant_table: [f32::INFINITY; 64],
             ..without_image(&given)
         };
+        self.projected(c, &free).cos
+    }
+
+    /// What the published projection leaves of a channel with these levels and quantisers.
+    fn projected(&self, c: usize, coef: &ScalarCoef) -> Aux {
+        let aux = &self.auxs[c];
         let pixel_diff = PixelDifference { x: aux.pixel_diff.x.clone(), y: aux.pixel_diff.y.clone() };
         let [cos, obj_gradient, fista] = [(); 3].map(|()| AlignedF32::zeros(0));
         let mut copy = Aux { cos, obj_gradient, pixel_diff, fdata: aux.fdata.clone(), fista };
-        project_onto_box(self.w, self.h, &mut copy, &free);
-        copy.cos
+        project_onto_box(self.w, self.h, &mut copy, coef);
+        copy
     }
 
-    /// The published projection. The own count of the values that lay outside is held against it: it keeps the others as they were, and only those.
+    /// The projection onto ranges. It must leave what the published projection leaves where each level is the one of its range that is nearest to the value.
+    fn project_ranges(&mut self, c: usize, found: &AlignedF32) {
+        let (own, pairs): (_, Vec<_>) = (&self.owns[c], self.owns[c].levels.pairs().collect());
+        let given = each::coefficient(own);
+        let level = |(k, pair): (usize, &(i32, i32))| nearest(found[k], *pair, own.table[k % 64]) as f32;
+        let single = ScalarCoef { dct_coefs: pairs.iter().enumerate().map(level).collect(), ..without_image(&given) };
+        let due = self.projected(c, &single);
+        let (aux, table) = (&mut self.auxs[c], &own.table);
+        project_onto_ranges(self.w, self.h, aux, &self.coefs[c], &pairs, table);
+        let equal = |x: &AlignedF32, y: &AlignedF32| x.iter().zip(y.iter()).all(|(x, y)| same(*x, *y));
+        let (diff, published) = (&aux.pixel_diff, &due.pixel_diff);
+        assert!(
+            equal(&aux.fdata, &due.fdata)
+                && equal(&aux.cos, &due.cos)
+                && equal(&diff.x, &published.x)
+                && equal(&diff.y, &published.y),
+            "the projection onto ranges and the published one onto their nearest levels"
+        );
+    }
+
+    /// The published projection, or the own one onto ranges. The own count of the values that lay outside is held against it: it keeps the others as they were, and only
+    /// those.
     pub fn project(&mut self, c: usize) {
         let found = self.transformed(c);
-        project_onto_box(self.w, self.h, &mut self.auxs[c], &self.coefs[c]);
+        if self.owns[c].levels.are_equal() {
+            project_onto_box(self.w, self.h, &mut self.auxs[c], &self.coefs[c]);
+        } else {
+            self.project_ranges(c, &found);
+        }
         self.positions[c] += 1;
         let own = self.coefs[c].rounded_px_count as usize;
         let aux = &self.auxs[c];
         let (levels, table) = (&self.owns[c].levels, &self.owns[c].table);
-        let moved = |k: &usize| outside(found[*k], levels[*k], table[*k % 64]);
+        let moved = |k: &usize| outside(found[*k], (levels.lows[*k], levels.highs[*k]), table[*k % 64]);
         assert!(
             (0..own).all(|k| moved(&k) != same(found[k], aux.cos[k])),
             "the own count and the published projection"
@@ -310,8 +336,11 @@ impl Run {
         ]
     }
 
-    /// Whether the planes of a run that is done are those of the published `solve`.
+    /// Whether the planes of a run that is done are those of the published `solve`, which knows no ranges: "The oracle judges sheets without `G`, these rules the others".
     pub fn check(&self) -> bool {
+        if self.owns.iter().any(|own| !own.levels.are_equal()) {
+            return true;
+        }
         let solve = match self.reorder {
             Reorder::Each => each::solve,
             Reorder::Once => once::solve,
@@ -326,20 +355,6 @@ impl Run {
 mod tests {
     use super::*;
     use crate::{random::Random, texts::legal};
-
-    #[test]
-    fn only_beyond_an_end_is_outside() {
-        for (level, quantiser) in [(0, 1), (1, 8), (-2047, 255), (2047, 254), (-3, 7)] {
-            for end in [2 * level - 1, 2 * level + 1] {
-                let end = (end * quantiser as i32) as f32 / 2.0;
-                let beyond = if end < level as f32 * quantiser as f32 { end.next_down() } else { end.next_up() };
-                assert!(!outside(end, level, quantiser) && outside(beyond, level, quantiser));
-            }
-            assert!(!outside(f32::NAN, level, quantiser));
-            assert!(outside(f32::INFINITY, level, quantiser) && outside(f32::NEG_INFINITY, level, quantiser));
-        }
-        assert!(!outside(-0.0, 0, 1));
-    }
 
     #[test]
     fn planes_are_those_of_solve() {

@@ -11,6 +11,7 @@ const TABLE: Fault = 4;
 const LEVEL: Fault = 5;
 const WEIGHT: Fault = 6;
 const CUT: Fault = 7;
+const RANGE: Fault = 14;
 const PAGE: Fault = 15;
 
 #[derive(Clone, Copy, Debug, PartialEq)]
@@ -44,6 +45,56 @@ pub enum Reorder {
     Once,
 }
 
+/// A channel's levels, block after block: the lowest and the highest of each place, and whether the block's line is `G` (M-105). "a `B` level stands in both".
+#[derive(Clone, Debug, Default, PartialEq)]
+pub struct Levels {
+    pub lows: Vec<i32>,
+    pub highs: Vec<i32>,
+    pub ranged: Vec<bool>,
+}
+
+/// Levels of lines `B`.
+impl FromIterator<i32> for Levels {
+    fn from_iter<I: IntoIterator<Item = i32>>(levels: I) -> Self {
+        let lows: Vec<i32> = levels.into_iter().collect();
+        Self { highs: lows.clone(), ranged: vec![false; lows.len() / 64], lows }
+    }
+}
+
+impl From<Vec<i32>> for Levels {
+    fn from(levels: Vec<i32>) -> Self {
+        levels.into_iter().collect()
+    }
+}
+
+impl Levels {
+    /// Of pairs, low and high: a block's line is `G` where a pair of it is unequal.
+    pub fn of(lows: Vec<i32>, highs: Vec<i32>) -> Self {
+        let ranged = lows.chunks(64).zip(highs.chunks(64)).map(|(low, high)| low != high).collect();
+        Self { lows, highs, ranged }
+    }
+
+    pub fn pairs(&self) -> impl Iterator<Item = (i32, i32)> {
+        self.lows.iter().copied().zip(self.highs.iter().copied())
+    }
+
+    /// Whether each pair is equal, whatever the lines.
+    pub fn are_equal(&self) -> bool {
+        self.lows == self.highs
+    }
+
+    /// "the exact half sum of the pair": at most 2,047, with one binary place.
+    pub fn half_sums(&self) -> Vec<f32> {
+        self.pairs().map(|(low, high)| (low + high) as f32 / 2.0).collect()
+    }
+}
+
+/// As the calls are lent them, channel after channel: all lows, and all highs.
+pub fn lent_levels<'a>(channels: impl IntoIterator<Item = &'a Channel>) -> (Vec<i16>, Vec<i16>) {
+    let pairs = channels.into_iter().flat_map(|c| c.levels.pairs());
+    pairs.map(|(low, high)| (low as i16, high as i16)).unzip()
+}
+
 #[derive(Clone, Debug, PartialEq)]
 pub struct Channel {
     pub w: u32,
@@ -51,7 +102,7 @@ pub struct Channel {
     pub across: u32,
     pub down: u32,
     pub table: Vec<u32>,
-    pub levels: Vec<i32>,
+    pub levels: Levels,
 }
 
 #[derive(Clone, Debug, PartialEq)]
@@ -193,13 +244,30 @@ impl<'a> Lines<'a> {
         if w * across > full_w || h * down > full_h {
             return Err(SIZE);
         }
-        let mut levels = Vec::with_capacity((w * h) as usize);
+        let mut levels = Levels::default();
         for _ in 0..w * h / 64 {
-            for field in self.next(b"B", 65)? {
-                levels.push(level(field)?);
-            }
+            self.block(&mut levels)?;
         }
         Ok(Channel { w, h, across, down, table, levels })
+    }
+}
+
+impl Lines<'_> {
+    /// "A block may be written `G` with 64 pairs, low then high, in place of `B`." "low above high, checked after 5 on the same pair and before the next pair".
+    fn block(&mut self, levels: &mut Levels) -> Result<(), Fault> {
+        let ranged = self.is_next(b"G");
+        let mut fields = if ranged { self.next(b"G", 129)? } else { self.next(b"B", 65)? };
+        while let Some(field) = fields.next() {
+            let low = level(field)?;
+            let high = if ranged { level(fields.next().expect("counted"))? } else { low };
+            if low > high {
+                return Err(RANGE);
+            }
+            levels.lows.push(low);
+            levels.highs.push(high);
+        }
+        levels.ranged.push(ranged);
+        Ok(())
     }
 }
 
@@ -272,6 +340,21 @@ impl Sheet {
         self.reorder.unwrap_or(Reorder::Each)
     }
 
+    /// Whether a line of it is `G`.
+    pub fn is_ranged(&self) -> bool {
+        self.channels.iter().any(|c| c.levels.ranged.contains(&true))
+    }
+
+    /// The same sheet with lines `B` alone, where it has lines `G` and each pair is equal.
+    pub fn plain(&self) -> Option<Self> {
+        let equal = self.channels.iter().all(|c| c.levels.are_equal());
+        (self.is_ranged() && equal).then(|| {
+            let mut plain = self.clone();
+            plain.channels.iter_mut().for_each(|c| c.levels.ranged.fill(false));
+            plain
+        })
+    }
+
     pub fn text(&self) -> Vec<u8> {
         let spelled = self.weights().map(|weight| match weight {
             Weight::Bits(bits) => format!("h{bits:08x}"),
@@ -292,8 +375,13 @@ impl Sheet {
         };
         for c in &self.channels {
             text += &format!("C\t{}\t{}\n", joined([c.w, c.h, c.across, c.down], "\t"), joined(&c.table, "\t"));
-            for block in c.levels.chunks(64) {
-                text += &format!("B\t{}\n", joined(block, "\t"));
+            let pairs: Vec<_> = c.levels.pairs().collect();
+            for (block, ranged) in pairs.chunks(64).zip(&c.levels.ranged) {
+                text += &if *ranged {
+                    format!("G\t{}\n", joined(block.iter().flat_map(|(low, high)| [low, high]), "\t"))
+                } else {
+                    format!("B\t{}\n", joined(block.iter().map(|(low, _)| low), "\t"))
+                };
             }
         }
         (text + "E\n").into_bytes()

@@ -1,14 +1,14 @@
 //! Sheet texts at random: legal ones, and ones damaged at each of document 01's rules; and fixed ones with their answers.
 use crate::{
     random::Random,
-    sheet::{Channel, Refusal, Reorder, Rounding, SMOOTH, Sheet, Weight, read},
+    sheet::{Channel, Levels, Refusal, Reorder, Rounding, SMOOTH, Sheet, Weight, read},
 };
 use std::{fs, path::Path};
 
 /// A legal sheet with sides up to `limit` and iteration counts up to `steps`.
 pub fn legal(r: &mut Random, limit: u32, steps: u32) -> Sheet {
     let (w, h) = (full_side(r, limit), full_side(r, limit));
-    let channels = r.pick(&[1, 1, 3]);
+    let (channels, ranges) = (r.pick(&[1, 1, 3]), r.pick(&RANGES));
     let sheet = Sheet {
         w,
         h,
@@ -20,7 +20,7 @@ pub fn legal(r: &mut Random, limit: u32, steps: u32) -> Sheet {
         data: [0; 3].map(|_| weight(r)),
         rounding: None,
         reorder: None,
-        channels: (0..channels).map(|_| channel(r, w, h)).collect(),
+        channels: (0..channels).map(|_| channel(r, w, h, ranges)).collect(),
     };
     // of two sheets in five none, of two in five `n`
     let letters = [None, None, Some(Rounding::Truncate), Some(Rounding::Nearest), Some(Rounding::Nearest)];
@@ -74,11 +74,24 @@ fn cover(r: &mut Random, full: u32) -> (u32, u32) {
     (factor, 8 * if r.one_in(2) { most } else { r.between(1, most.into()) as u32 })
 }
 
-fn channel(r: &mut Random, full_w: u32, full_h: u32) -> Channel {
+/// Of a sheet: one block in how many has a line `G` (none where 0), and how far its ranges reach to either side. Of five sheets two have none, and one has equal pairs.
+const RANGES: [(usize, i64); 10] = [(0, 0), (0, 0), (0, 0), (0, 0), (2, 0), (1, 0), (2, 1), (2, 5), (1, 60), (3, 4094)];
+
+fn channel(r: &mut Random, full_w: u32, full_h: u32, (share, reach): (usize, i64)) -> Channel {
     let ((across, w), (down, h)) = (cover(r, full_w), cover(r, full_h));
     let most = r.pick(&[1, 2, 24, 255]);
     let table = (0..64).map(|_| r.between(1, most) as u32).collect();
-    let levels = (0..w * h / 64).flat_map(|_| block(r)).collect();
+    let mut levels: Levels = (0..w * h / 64).flat_map(|_| block(r)).collect();
+    for b in 0..levels.ranged.len() {
+        levels.ranged[b] = share > 0 && r.one_in(share);
+        for k in (64 * b..64 * (b + 1)).filter(|_| reach > 0 && levels.ranged[b]) {
+            if r.one_in(2) {
+                let [below, above] = [0; 2].map(|_| r.between(0, reach) as i32);
+                levels.lows[k] = (levels.lows[k] - below).max(-2047);
+                levels.highs[k] = (levels.highs[k] + above).min(2047);
+            }
+        }
+    }
     Channel { w, h, across, down, table, levels }
 }
 
@@ -92,7 +105,7 @@ type Lines = Vec<Vec<Vec<u8>>>;
 type Damage = (&'static str, fn(&mut Random, &mut Vec<u8>));
 
 /// Each changes a text; the result may still be legal.
-pub const DAMAGES: [Damage; 11] = [
+pub const DAMAGES: [Damage; 12] = [
     ("range", |r, text| fields(r, text, |r, line, at, full| line[at] = edge(r, line, at, full))),
     ("spelling", |r, text| fields(r, text, |r, line, at, _| line[at] = misspelt(r, &line[at]))),
     ("two fields", |r, text| {
@@ -103,8 +116,11 @@ pub const DAMAGES: [Damage; 11] = [
         });
     }),
     ("cover", covered),
+    ("pair", paired),
     ("tag", |r, text| {
-        fields(r, text, |r, line, _, _| line[0] = r.pick(&["S", "C", "B", "E", "", "b", "BB", "F", "A", "G"]).into());
+        fields(r, text, |r, line, _, _| {
+            line[0] = r.pick(&["S", "C", "B", "E", "", "b", "BB", "F", "A", "G", "N"]).into()
+        });
     }),
     ("field count", field_count),
     ("order of lines", order),
@@ -124,7 +140,7 @@ fn join(lines: &Lines) -> Vec<u8> {
 }
 
 fn tagged(r: &mut Random, lines: &Lines) -> usize {
-    let tag = r.pick(&["S", "S", "S", "S", "F", "A", "C", "C", "C", "B", "B", "E"]).as_bytes();
+    let tag = r.pick(&["S", "S", "S", "S", "F", "A", "C", "C", "C", "B", "B", "G", "G", "E"]).as_bytes();
     let found: Vec<usize> = (0..lines.len()).filter(|i| lines[*i][0] == tag).collect();
     if found.is_empty() { r.below(lines.len()) } else { r.pick(&found) }
 }
@@ -160,7 +176,7 @@ fn edge(r: &mut Random, line: &[Vec<u8>], at: usize, [w, h]: [u32; 2]) -> Vec<u8
         (b"C", 1 | 2) => n(r, &[0, 4, 8, 12, full, full + 8, 512, 520, 65_544, 999_992, 999_999]),
         (b"C", 3 | 4) => n(r, &[0, 1, 2, 3, 4, 5, 257, 999_999]),
         (b"C", 5..) => n(r, &[0, 1, 254, 255, 256, 257, 511, 65_537, 999_999]),
-        (b"B", 1..) => r
+        (b"B" | b"G", 1..) => r
             .pick(&[
                 "2047", "-2047", "2048", "-2048", "-0", "0", "-1", "-999999", "999999", "65535", "-1000000", "1000000",
             ])
@@ -249,6 +265,42 @@ fn covered(r: &mut Random, text: &mut Vec<u8>) {
     *text = join(&lines);
 }
 
+/// Changes a pair of a line `G`, and perhaps a field near it; or writes a line `B` as `G`, with equal pairs.
+fn paired(r: &mut Random, text: &mut Vec<u8>) {
+    let mut lines = split(text);
+    let tagged = |lines: &Lines, tag: &[u8], count: usize| -> Vec<usize> {
+        (0..lines.len()).filter(|i| lines[*i][0] == tag && lines[*i].len() == count).collect()
+    };
+    let (plain, ranged) = (tagged(&lines, b"B", 65), tagged(&lines, b"G", 129));
+    if !plain.is_empty() && (ranged.is_empty() || r.one_in(3)) {
+        let line = &mut lines[r.pick(&plain)];
+        let pairs = line[1..].iter().flat_map(|level| [level.clone(), level.clone()]);
+        *line = [b"G".to_vec()].into_iter().chain(pairs).collect();
+    } else if !ranged.is_empty() {
+        let line = &mut lines[r.pick(&ranged)];
+        let pair = r.pick(&[0, 63, 0, 1, 7, 31]);
+        let words = [
+            ["2", "1"],
+            ["-1", "-2"],
+            ["2047", "-2047"],
+            ["1", "1"],
+            ["-2047", "2047"],
+            ["2048", "2047"],
+            ["5", "-2048"],
+            ["2048", "x"],
+            ["5", "-0"],
+            ["x", "0"],
+        ];
+        let [low, high] = r.pick(&words);
+        (line[2 * pair + 1], line[2 * pair + 2]) = (low.into(), high.into());
+        if r.one_in(2) {
+            let other = (2 * pair).saturating_add_signed(r.between(-3, 6) as isize).clamp(1, 128);
+            line[other] = r.pick(&["2048", "x", "-2047", "2047", "-0", "1"]).into();
+        }
+    }
+    *text = join(&lines);
+}
+
 fn field_count(r: &mut Random, text: &mut Vec<u8>) {
     fields(r, text, |r, line, at, _| match r.below(4) {
         0 => drop(line.remove(at)),
@@ -290,7 +342,7 @@ fn cut(r: &mut Random, text: &mut Vec<u8>) {
 
 fn bytes(r: &mut Random, text: &mut Vec<u8>) {
     let at = r.below(text.len().max(1));
-    let byte = r.pick(b"\t\n\r\0 -+0189wxhjsSFACBE\xff\xc3");
+    let byte = r.pick(b"\t\n\r\0 -+0189wxhjsSFACBGE\xff\xc3");
     match r.below(6) {
         0 => *text = String::from_utf8_lossy(text).replace('\n', r.pick(&["\r\n", "\r", "\n\n"])).into_bytes(),
         1 | 2 => text.insert(at.min(text.len()), byte),
@@ -495,6 +547,43 @@ pub fn fixed() -> Vec<(&'static str, Vec<u8>, Option<Refusal>)> {
         ("A, then E", [lines[0], b"A\to\n", lines[3]].concat(), Some((1, 3))),
         ("A, long", before(1, &[b"A\t".as_slice(), &[b'o'; 1023], b"\n"].concat()), Some((1, 2))),
     ]);
+    // line `G` in place of `B`: 64 pairs, each judged before the next
+    let ranged = |pairs: &str| {
+        let zeros = 128 - pairs.split_whitespace().count();
+        format!("G {pairs}{}\n", " 0".repeat(zeros)).replace(' ', "\t").into_bytes()
+    };
+    let in_place = |block: &[u8]| [lines[0], lines[1], block, lines[3]].concat();
+    all.extend([
+        ("G", in_place(&ranged("1 4")), None),
+        ("G, equal pairs", in_place(&ranged("1 1")), None),
+        ("G, the widest range", in_place(&ranged("-2047 2047")), None),
+        ("G, low above high", in_place(&ranged("2 1")), Some((14, 3))),
+        ("G, then a later spelling", in_place(&ranged("2 1 x 0")), Some((14, 3))),
+        ("G, then a later level", in_place(&ranged("2 1 2048 2048")), Some((14, 3))),
+        ("G, an earlier level", in_place(&ranged("2048 2048 2 1")), Some((5, 3))),
+        ("G, the high beyond", in_place(&ranged("5 -2048")), Some((5, 3))),
+        ("G, the low beyond, the high misspelt", in_place(&ranged("2048 x")), Some((5, 3))),
+        ("G, the high misspelt", in_place(&ranged("5 -0")), Some((1, 3))),
+        ("G, the low beyond, above the high", in_place(&ranged("2048 2047")), Some((5, 3))),
+        ("G, the last pair", in_place(&ranged(&("0 ".repeat(126) + "0 -1"))), Some((14, 3))),
+        (
+            "G with 64 fields",
+            in_place(&replaced("B", "G")[lines[0].len() + lines[1].len()..][..lines[2].len()]),
+            Some((1, 3)),
+        ),
+        ("B with 128 fields", in_place(&[b"B", &ranged("1 1")[1..]].concat()), Some((1, 3))),
+        ("G with 127 fields", in_place(&[&ranged("1 1")[..256], b"\n"].concat()), Some((1, 3))),
+        ("G and B", before(2, &ranged("1 1")), Some((1, 4))),
+        ("G for C", before(1, &ranged("1 1")), Some((1, 2))),
+        ("G after F", before(1, &[b"F\tn\n".to_vec(), ranged("1 1")].concat()), Some((1, 3))),
+        ("G first", before(0, &ranged("1 1")), Some((1, 1))),
+        ("G after B", before(3, &ranged("1 1")), Some((1, 4))),
+        ("G after E", before(4, &ranged("1 1")), Some((7, 5))),
+        ("G unended", [lines[0], lines[1], &ranged("1 1")[..257]].concat(), Some((7, 3))),
+        ("G and no more", [lines[0], lines[1], &ranged("1 1")].concat(), Some((7, 4))),
+        ("G, long", in_place(&ranged(&format!("2 1 {}", "0".repeat(900)))), Some((1, 3))),
+        ("N", before(3, b"N\t0\t0\t0\n"), Some((1, 4))),
+    ]);
     all.extend(edits.iter().map(|(edits, answer)| ("an edited field", edited(edits), *answer)));
     all
 }
@@ -595,7 +684,8 @@ fn about(r: &mut Random, limit: u32) -> u32 {
 
 /// Texts about as long as the longest that `smooth` accepts, and beyond, with their answers.
 pub fn long() -> Vec<(Vec<u8>, Option<Refusal>)> {
-    let channel = Channel { w: 32, h: 32, across: 1, down: 1, table: vec![255; 64], levels: vec![-2047; 1024] };
+    let levels = Levels { ranged: vec![true; 16], ..vec![-2047; 1024].into() };
+    let channel = Channel { w: 32, h: 32, across: 1, down: 1, table: vec![255; 64], levels };
     let weights = [Weight::Bits(0x3f80_0000); 3];
     let sheet = Sheet {
         w: 32,
@@ -671,7 +761,7 @@ pub fn fixed_runs() -> Vec<(&'static str, Sheet, bool)> {
     // a channel whose gradient overflows in the third step of three, after planes that moved
     let mut levels = vec![0; 256];
     [(0, 1), (25, -1), (64, 1), (65, 1), (128, 50), (192, 50)].into_iter().for_each(|(k, level)| levels[k] = level);
-    let late = Channel { w: 16, h: 16, across: 1, down: 1, table: vec![1; 64], levels };
+    let late = Channel { w: 16, h: 16, across: 1, down: 1, table: vec![1; 64], levels: levels.into() };
     let with_late = |sheet: Sheet| {
         let mut channels = sheet.channels;
         *channels.last_mut().expect("a channel") = late.clone();

@@ -5,13 +5,14 @@
 //!     calls --list N SEED             N lists of calls with the oracle's answers, for replay
 //!
 //! A list is made on a sheet of sides up to 40, in joint mode or one channel of it, with at most a few iterations: a start on any legal record and any
-//! values, then calls in any order, most of them the next of some channel. Between them stand calls on a changed copy of what is lent: a length, a quantiser, a level or a
-//! field of the record, or two of them; or other legal places and values. Each list ends with a call on a record with another kept number.
+//! values, then calls in any order, most of them the next of some channel. Between them stand calls on a changed copy of what is lent: a length, a quantiser, a level, a pair or a
+//! field of the record, or two of them; or other legal places and values. Each list ends with a call on a record with another kept number, and one on a damaged pair of levels.
 use oracle::{
     calls::{BLOWN, Channel, JOBS, Job, Lent, NAMES, Record, lent, proved, proved_serve},
     floats::{any, at, bits, bits64, same, special, subnormal},
     random::Random,
     replay::{Calls, digest, fits, line},
+    sheet::lent_levels,
     tally::Tally,
     texts::legal,
 };
@@ -43,9 +44,11 @@ fn fresh(r: &mut Random, limit: u32) -> Lent {
         record.n = r.between(1, 3) as u32;
     }
     let owns = if sheet.joint { &sheet.channels[..] } else { &sheet.channels[c..=c] };
+    let (lows, highs) = lent_levels(owns);
     let mut x = Lent {
         record,
-        levels: owns.iter().flat_map(|c| &c.levels).map(|d| *d as i16).collect(),
+        lows,
+        highs,
         tables: owns.iter().flat_map(|c| &c.table).map(|q| *q as u16).collect(),
         buffers: Default::default(),
         totals: vec![7.0; 2],
@@ -113,7 +116,7 @@ fn choose(r: &mut Random, x: &Lent, likely: usize) -> (Job, u32) {
 
 /// A change that a call may have to refuse. It may be none, for that call or at all.
 fn damage(r: &mut Random, x: &mut Lent, job: Job) {
-    match r.below(8) {
+    match r.below(10) {
         0 | 1 => {
             if job == Job::Blend && r.one_in(4) {
                 x.totals.resize(r.pick(&[0, 1, 3, 4]), 7.0);
@@ -125,8 +128,9 @@ fn damage(r: &mut Random, x: &mut Lent, job: Job) {
             x.buffers[b].resize(length, 1.0);
         }
         2 => {
-            let length = other_length(r, x.levels.len(), 64);
-            x.levels.resize(length, 0);
+            let levels = if r.one_in(2) { &mut x.lows } else { &mut x.highs };
+            let length = other_length(r, levels.len(), 64);
+            levels.resize(length, 0);
         }
         3 => {
             let length = other_length(r, x.tables.len(), 64);
@@ -136,11 +140,29 @@ fn damage(r: &mut Random, x: &mut Lent, job: Job) {
             let i = end_or_any(r, x.tables.len());
             x.tables[i] = r.pick(&[0, 256, 255, 257, 1 << 15, u16::MAX]);
         }
-        5 if !x.levels.is_empty() => {
-            let i = end_or_any(r, x.levels.len());
-            x.levels[i] = r.pick(&[-2048, 2048, 2047, -2047, i16::MIN, i16::MAX]);
+        5 if !x.lows.is_empty() && !x.highs.is_empty() => {
+            let levels = if r.one_in(2) { &mut x.lows } else { &mut x.highs };
+            let i = end_or_any(r, levels.len());
+            levels[i] = r.pick(&[-2048, 2048, 2047, -2047, i16::MIN, i16::MAX]);
         }
+        6 | 7 => damage_pairs(r, x),
         _ => damage_record(r, &mut x.record),
+    }
+}
+
+/// A pair with its low above its high, and often a level beyond ±2,047 in a pair before or after it, in any channel.
+fn damage_pairs(r: &mut Random, x: &mut Lent) {
+    let count = x.lows.len().min(x.highs.len());
+    if count == 0 {
+        return;
+    }
+    let i = end_or_any(r, count);
+    (x.lows[i], x.highs[i]) =
+        r.pick(&[(2, 1), (-1, -2), (2047, -2047), (2048, 2047), (5, -2048), (i16::MAX, i16::MIN)]);
+    if r.one_in(2) {
+        let j = r.pick(&[i, i.saturating_sub(1), (i + 1).min(count - 1), 0, count - 1]);
+        let levels = if r.one_in(2) { &mut x.lows } else { &mut x.highs };
+        levels[j] = r.pick(&[2048, -2048, i16::MIN, i16::MAX]);
     }
 }
 
@@ -403,6 +425,15 @@ impl Compare {
         self.call("kept number", &mut mine, &mut theirs, job, c);
     }
 
+    /// A call on levels with a damaged pair.
+    fn pairs(&mut self, r: &mut Random, x: &Lent) {
+        let mut mine = x.clone();
+        damage_pairs(r, &mut mine);
+        let mut theirs = mine.clone();
+        let (job, c) = (r.pick(&[Job::Start, Job::Data, Job::Project]), r.pick(&CHANNELS));
+        self.call("pairs", &mut mine, &mut theirs, job, c);
+    }
+
     /// A start and calls in any order.
     fn list(&mut self, r: &mut Random, limit: u32) {
         let mut mine = fresh(r, limit);
@@ -419,6 +450,7 @@ impl Compare {
             self.call("list", &mut mine, &mut theirs, job, c);
         }
         self.kept(r, &mine);
+        self.pairs(r, &mine);
         let ends = mine.record.owns();
         let at_end = ends.iter().all(|c| c.position == 5 * mine.record.n);
         let (marked, done) = (ends.iter().any(|c| c.mark), at_end && mine.record.n > 0);
@@ -540,7 +572,7 @@ fn list(count: u64, seed: u64) -> ExitCode {
         let most = r.pick(&[64, 64, 192, 192, 320, 640]);
         let limit = r.pick(&[8, 16, 24, 32]);
         let mut x = fresh(&mut r, limit);
-        if x.levels.len() > most {
+        if x.lows.len() > most {
             continue;
         }
         displace(&mut r, &mut x);

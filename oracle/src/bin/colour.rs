@@ -92,7 +92,7 @@ fn main() {
             across: factor,
             down: factor,
             table: table.to_vec(),
-            levels: levels(&plane, side, table),
+            levels: levels(&plane, side, table).into(),
         }
     };
     // the conversion of JPEG files (T.871)

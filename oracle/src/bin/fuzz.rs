@@ -30,16 +30,17 @@ fn bytes(r: &mut Random) -> Vec<u8> {
     let most = r.pick(&[4, 40, 400, 4_000]);
     let length = r.below(most + 1);
     let alphabet: &[u8] =
-        r.pick(&[b"".as_slice(), b"\t\n", b"0123456789\t\n-", b"SFACBEtnmojswh0123456789abcdef\t\n- \r"]);
+        r.pick(&[b"".as_slice(), b"\t\n", b"0123456789\t\n-", b"SFACBGEtnmojswh0123456789abcdef\t\n- \r"]);
     (0..length).map(|_| if alphabet.is_empty() { r.word() as u8 } else { r.pick(alphabet) }).collect()
 }
 
-const TOKENS: [&str; 48] = [
+const TOKENS: [&str; 50] = [
     "S",
     "F",
     "A",
     "C",
     "B",
+    "G",
     "E",
     "\t",
     "\t",
@@ -52,6 +53,7 @@ const TOKENS: [&str; 48] = [
     "A\t",
     "C\t",
     "B\t",
+    "G\t",
     "j",
     "s",
     "t",
@@ -93,7 +95,7 @@ fn tokens(r: &mut Random) -> Vec<u8> {
 /// Lines with the right tags and field counts, and fields that are mostly right, in an order that is mostly right.
 fn lines(r: &mut Random) -> Vec<u8> {
     let odd = r.pick(&[20, 100, 1_000]);
-    let mut field = |words: &[&'static str]| if r.one_in(odd) { r.pick(&TOKENS[17..]) } else { r.pick(words) };
+    let mut field = |words: &[&'static str]| if r.one_in(odd) { r.pick(&TOKENS[19..]) } else { r.pick(words) };
     let (full, sides) = (["16", "16", "32"], ["8", "8", "16"]);
     let factors = ["1", "1", "2"];
     let channels = field(&["1", "3"]);
@@ -109,8 +111,14 @@ fn lines(r: &mut Random) -> Vec<u8> {
         text.extend(["\n", "C", w, h, field(&factors), field(&factors)]);
         text.extend([0; 64].map(|_| field(&["1", "2", "16", "255"])));
         for _ in 0..w.parse::<u32>().unwrap_or(8).min(32) / 8 {
-            text.extend(["\n", "B"]);
-            text.extend([0; 64].map(|_| field(&["0", "0", "0", "1", "-1", "12", "-2047", "2047"])));
+            let tag = field(&["B", "B", "G"]);
+            text.extend(["\n", tag]);
+            if tag == "G" {
+                let pairs = ["0\t0", "0\t0", "0\t1", "-1\t-1", "-12\t12", "-2047\t2047"];
+                text.extend([0; 64].map(|_| field(&pairs)));
+            } else {
+                text.extend([0; 64].map(|_| field(&["0", "0", "0", "1", "-1", "12", "-2047", "2047"])));
+            }
         }
     }
     text.extend(["\n", "E", "\n"]);
@@ -228,7 +236,7 @@ fn main() -> ExitCode {
         tally.count_in(kind, fault.is_none(), || format!("{}: input {i} of {} bytes", fault.expect("one"), text.len()));
     }
     let shares: Vec<_> = KINDS.iter().flat_map(|kind| vec![kind; kind.1]).collect();
-    let (mut pictures, mut refusals) = (0, [0; 11]);
+    let (mut pictures, mut refusals) = (0, [0; 16]);
     let all: Vec<u64> = (0..count).collect();
     for part in all.chunks(2_000) {
         let ended = answers(part, 2, |i| {
@@ -249,7 +257,7 @@ fn main() -> ExitCode {
         }
     }
     let refusals: Vec<String> =
-        (1..=10).filter(|n| refusals[*n] > 0).map(|n| format!("{n}: {}", refusals[n])).collect();
+        (1..=15).filter(|n| refusals[*n] > 0).map(|n| format!("{n}: {}", refusals[n])).collect();
     println!("{pictures} pictures; refusals {}", refusals.join(", "));
     tally.close()
 }

@@ -72,7 +72,7 @@ fn covers(r: &mut Random, i: usize) -> Sheet {
 fn extreme(r: &mut Random, c: &mut Channel) {
     let (levels, quantisers) =
         (r.pick(&[&[-2047, 2047][..], &[2047], &[-2047, 0, 0, 1]]), r.pick(&[&[1, 255][..], &[1], &[255]]));
-    c.levels.iter_mut().for_each(|level| *level = r.pick(levels));
+    c.levels = c.levels.lows.iter().map(|_| r.pick(levels)).collect();
     c.table.iter_mut().for_each(|quantiser| *quantiser = r.pick(quantisers));
 }
 
@@ -179,6 +179,7 @@ impl Compare {
             self.met("channels", 1);
             self.met("channels with a factor", (c.across * c.down > 1).into());
             self.met("channels covering a part", (c.w * c.across < sheet.w || c.h * c.down < sheet.h).into());
+            self.met("channels with ranges", (!c.levels.are_equal()).into());
             let once = sheet.reorders() == Reorder::Once && c.w > 8;
             self.met("channels wider than 8, reordered once", once.into());
         }

@@ -1,6 +1,6 @@
 //! The whole run and the picture of the proved library beside the published `solve_cpu` and `finish`, bit for bit.
 //!
-//!     planes [N [SEED]]       N sheets at random (34,000), and fixed ones
+//!     planes [N [SEED]]       N sheets at random (64,000), and fixed ones
 //!     planes --faults         plants faults, one kind after another, and fails unless each is reported
 //!     planes --bench [N]      times `solve_cpu` and `smoother_solve` on 32 by 32, three channels, N iterations (1,000), in both modes
 //!
@@ -12,7 +12,7 @@ use oracle::{
     picture::{drawn, ended, nearest, solved},
     probe,
     random::Random,
-    sheet::{Channel, MOST, Reorder, Rounding, Sheet, Weight},
+    sheet::{Channel, Levels, MOST, Reorder, Rounding, Sheet, Weight},
     tally::Tally,
     texts::{fixed_runs, legal},
 };
@@ -26,7 +26,7 @@ fn main() -> ExitCode {
         Some("--bench") => bench(number(1, 1000) as u32),
         _ => {
             println!("seed {}", number(1, 1));
-            let (tally, answers) = compare(number(0, 34_000), number(1, 1), "");
+            let (tally, answers) = compare(number(0, 64_000), number(1, 1), "");
             println!("answers of solve, and how often: {answers:?}");
             tally.close()
         }
@@ -37,7 +37,8 @@ fn main() -> ExitCode {
 #[derive(Clone)]
 struct Lent {
     numbers: Vec<u32>,
-    levels: Vec<i16>,
+    lows: Vec<i16>,
+    highs: Vec<i16>,
     tables: Vec<u16>,
     six: [Vec<f32>; 6],
     /// Each channel's number of the last project.
@@ -51,22 +52,25 @@ impl Lent {
     fn read(r: &mut Random, text: &[u8]) -> Self {
         let (mut n, mut m, mut line) = (0, 0, 0);
         let measured = probe::measure(text, MOST, &mut n, &mut m, &mut line);
-        let (mut levels, mut tables, mut numbers) = (vec![0; n], vec![0; m], vec![0; probe::NUMBERS]);
-        let read = probe::read(text, MOST, &mut levels, &mut tables, &mut numbers, &mut line);
+        let ([mut lows, mut highs], mut tables, mut numbers) =
+            ([0; 2].map(|_| vec![0; n]), vec![0; m], vec![0; probe::NUMBERS]);
+        let read = probe::read(text, MOST, &mut lows, &mut highs, &mut tables, &mut numbers, &mut line);
         assert_eq!((measured, read), (0, 0), "a legal text");
         let all = (numbers[4] * numbers[0] * numbers[1]) as usize;
         let left = any(r);
         let six = [0; 6].map(|_| (0..all).map(|i| if i % 7 == 0 { any(r) } else { left }).collect());
         let clipped = vec![77; numbers[4] as usize];
         let totals = vec![7.0; 2 * blends(&numbers)];
-        Self { numbers, levels, tables, six, clipped, totals }
+        Self { numbers, lows, highs, tables, six, clipped, totals }
     }
 
     fn solve(&mut self) -> u32 {
-        probe::solve(&self.numbers, &self.levels, &self.tables, &mut self.six, &mut self.clipped, &mut self.totals)
+        let levels = [&self.lows[..], &self.highs];
+        probe::solve(&self.numbers, levels, &self.tables, &mut self.six, &mut self.clipped, &mut self.totals)
     }
 
-    /// By document 01 and docs/DECISIONS.md, in order: no record (8), no legal record (13), lengths (8), quantisers (4), levels (5).
+    /// By document 01 and docs/DECISIONS.md, in order: no record (8), no legal record (13), lengths (8), quantisers (4), pair by pair levels (5) and ranges
+    /// (14).
     fn refusal(&self) -> u32 {
         let n = &self.numbers;
         if n.len() != probe::NUMBERS {
@@ -78,16 +82,21 @@ impl Lent {
         let count = n[4] as usize;
         let all = count * (n[0] * n[1]) as usize;
         let own: usize = (0..count).map(|c| (n[15 + 4 * c] * n[16 + 4 * c]) as usize).sum();
-        let inputs = self.levels.len() == own && self.tables.len() == 64 * count;
+        let inputs = self.lows.len() == own && self.highs.len() == own && self.tables.len() == 64 * count;
         let lent_out = self.clipped.len() == count && self.totals.len() == 2 * blends(n);
         if !inputs || !lent_out || self.six.iter().any(|x| x.len() != all) {
             8
         } else if self.tables.iter().any(|q| !(1..=255).contains(q)) {
             4
-        } else if self.levels.iter().any(|d| !(-2047..=2047).contains(d)) {
-            5
         } else {
-            0
+            let legal = |level: &i16| (-2047..=2047).contains(level);
+            let pairs = self.lows.iter().zip(&self.highs);
+            let mut faults = pairs.map(|(low, high)| match (legal(low) && legal(high), low <= high) {
+                (false, _) => 5,
+                (_, false) => 14,
+                _ => 0,
+            });
+            faults.find(|fault| *fault != 0).unwrap_or(0)
         }
     }
 
@@ -114,11 +123,14 @@ impl Lent {
     fn sheet(&self) -> Sheet {
         let n = &self.numbers;
         let weights = |at: usize| [0, 1, 2].map(|c| Weight::Bits(n[at + c]));
-        let mut levels = self.levels.iter().map(|d| i32::from(*d));
+        let mut from = 0;
         let channel = |c: usize| {
             let [w, h, across, down] = [15, 16, 17, 18].map(|i| n[i + 4 * c]);
             let table = self.tables[64 * c..][..64].iter().map(|q| u32::from(*q)).collect();
-            Channel { w, h, across, down, table, levels: levels.by_ref().take((w * h) as usize).collect() }
+            let own = from..from + (w * h) as usize;
+            from = own.end;
+            let part = |levels: &[i16]| levels[own.clone()].iter().map(|d| (*d).into()).collect();
+            Channel { w, h, across, down, table, levels: Levels::of(part(&self.lows), part(&self.highs)) }
         };
         Sheet {
             w: n[0],
@@ -168,11 +180,14 @@ fn damage(r: &mut Random, x: &mut Lent) {
         0xbf80_0000,
         u32::MAX,
     ];
-    match r.below(12) {
-        11 => x.totals.resize(longer(r, x.totals.len()), 7.0),
+    match r.below(14) {
+        12 => x.totals.resize(longer(r, x.totals.len()), 7.0),
         10 => x.clipped.resize(r.pick(&[0, 1, 2, 3, 4]), 77),
         0 => x.numbers.resize(r.pick(&[0, 1, 27, 28, 30, 58]), 1),
-        1 => x.levels.resize(longer(r, x.levels.len()), 0),
+        1 => {
+            let levels = if r.one_in(2) { &mut x.lows } else { &mut x.highs };
+            levels.resize(longer(r, levels.len()), 0);
+        }
         2 => x.tables.resize(longer(r, x.tables.len()), 1),
         3 => {
             let b = r.below(6);
@@ -182,9 +197,14 @@ fn damage(r: &mut Random, x: &mut Lent) {
             let at = r.below(x.tables.len());
             x.tables[at] = r.pick(&[0, 1, 255, 256, u16::MAX]);
         }
-        5 if !x.levels.is_empty() => {
-            let at = r.below(x.levels.len());
-            x.levels[at] = r.pick(&[2047, 2048, -2047, -2048, i16::MIN, i16::MAX]);
+        5 if !x.lows.is_empty() && !x.highs.is_empty() => {
+            let levels = if r.one_in(2) { &mut x.lows } else { &mut x.highs };
+            let at = r.below(levels.len());
+            levels[at] = r.pick(&[2047, 2048, -2047, -2048, i16::MIN, i16::MAX]);
+        }
+        11 if !x.lows.is_empty() && !x.highs.is_empty() => {
+            let at = r.below(x.lows.len().min(x.highs.len()));
+            (x.lows[at], x.highs[at]) = r.pick(&[(2, 1), (-1, -2), (2047, -2047), (2048, 2047), (0, 0)]);
         }
         _ => {
             let at = r.below(x.numbers.len().max(1));
@@ -242,9 +262,11 @@ fn full(r: &mut Random, side: u32, joint: bool, steps: u32) -> Sheet {
     }
 }
 
-const FAULTS: [&str; 15] = [
+const FAULTS: [&str; 17] = [
     "the other mode",
     "the other start",
+    "the lows for both",
+    "the highs for both",
     "the second data weight for the first",
     "one step less",
     "the lowest bit of the last value",
@@ -266,6 +288,12 @@ fn compare(count: u64, seed: u64, fault: &str) -> (Tally, BTreeMap<u32, u64>) {
     let mut made = Random::new(seed ^ 0x5eed);
     for (kind, sheet) in sheets(&mut made, count, fault.is_empty()) {
         let whole = Lent::read(&mut r, &sheet.text());
+        if let Some(plain) = sheet.plain() {
+            let other = Lent::read(&mut r, &plain.text());
+            let levels = whole.lows == whole.highs && (&whole.lows, &whole.highs) == (&other.lows, &other.highs);
+            let equal = levels && whole.tables == other.tables && whole.numbers == other.numbers;
+            tally.count_in("equal pairs, beside lines B", equal, || String::from_utf8_lossy(&sheet.text()).into());
+        }
         if r.one_in(2) {
             let mut x = whole.clone();
             (0..r.pick(&[1, 1, 2])).for_each(|_| damage(&mut r, &mut x));
@@ -294,7 +322,12 @@ fn compare(count: u64, seed: u64, fault: &str) -> (Tally, BTreeMap<u32, u64>) {
             Some(Reorder::Each) => ", A m",
             Some(Reorder::Once) => ", A o",
         };
-        let plane = solved_as(&mut tally, &mut answers, &format!("{kind}{letter}"), &sheet, whole, fault);
+        let lines = match (sheet.is_ranged(), sheet.plain()) {
+            (false, _) => "",
+            (true, Some(_)) => ", G with equal pairs",
+            (true, None) => ", G",
+        };
+        let plane = solved_as(&mut tally, &mut answers, &format!("{kind}{letter}{lines}"), &sheet, whole, fault);
         finished(&mut tally, &mut r, &sheet, plane, fault);
     }
     if fault.is_empty() {
@@ -345,6 +378,8 @@ fn solved_as(
     match fault {
         "the other mode" => x.numbers[5] ^= 1,
         "the other start" => x.numbers[28] ^= 1,
+        "the lows for both" => x.highs.clone_from(&x.lows),
+        "the highs for both" => x.lows.clone_from(&x.highs),
         "the second data weight for the first" => x.numbers[12] = x.numbers[13],
         "one step less" => x.numbers[6] = x.numbers[6].saturating_sub(1),
         _ => (),

@@ -1,7 +1,7 @@
 //! Runs of small sheets for replay by `replay_calls`. Answers, positions, marks and buffers are those of the trace of the published Rust (`src/run.rs`);
 //! the oracle's own model of the calls has to agree.
 //!
-//!     runs [N [SEED]]     the sheets of SHEETS and FORMS, and some with `A o`, call by call: a line for each call, that of the list which ends with it;
+//!     runs [N [SEED]]     the sheets of SHEETS and FORMS, and some with `A o` or with ranges, call by call: a line for each call, that of the list which ends with it;
 //!                         lists that are refused whole; and the whole runs of N sheets (60) of one block, up to 20 steps
 //!
 //! After its last step each run has calls that are refused: 10 where a channel is marked, 11, 9 and 12.
@@ -11,7 +11,7 @@ use oracle::{
     random::Random,
     replay::{Calls, digest, fits, line},
     run::{Run, runs},
-    sheet::{Channel, Reorder, SMOOTH, Sheet, Weight, read},
+    sheet::{Channel, Reorder, SMOOTH, Sheet, Weight, lent_levels, read},
     texts::{WEIGHTS, example},
 };
 
@@ -98,9 +98,11 @@ fn sheet(r: &mut Random, ([w, h], steps, joint, smoothing, data, owns): &Form) -
 fn lent(sheet: &Sheet, c: usize, fill: f32) -> Lent {
     let record = Record::of(sheet, c);
     let owns = if sheet.joint { &sheet.channels[..] } else { &sheet.channels[c..=c] };
+    let (lows, highs) = lent_levels(owns);
     Lent {
         record,
-        levels: owns.iter().flat_map(|c| &c.levels).map(|d| *d as i16).collect(),
+        lows,
+        highs,
         tables: owns.iter().flat_map(|c| &c.table).map(|q| *q as u16).collect(),
         buffers: [0; 6].map(|_| vec![fill; record.values()]),
         totals: vec![0.0; 2],
@@ -192,24 +194,38 @@ fn walk(mut run: Run, before: Lent, fill: f32, each: bool) {
     list.print(&record, &buffers);
 }
 
-/// Lists that are refused whole, with nothing changed: 5 for a level beyond ±2,047, the least of all among them, 4 for a quantiser.
+/// Lists that are refused whole, with nothing changed: 5 for a level beyond ±2,047, the least of all among them, 14 for a low above its high, 4 for a quantiser.
 fn refused(before: &Lent, fill: f32) {
     let show = |due: u32, x: Lent| {
         let calls = Calls { jobs: &[0], channels: &[0], answers: 1 };
         assert_eq!(x.clone().serve(calls.jobs, calls.channels, &mut [77]), due);
         println!("{}", line(digest(due, &[77], &x.record, &x.buffers), fill, &x, &calls));
     };
-    for at in [0, before.levels.len() - 1] {
+    let last = before.lows.len() - 1;
+    for at in [0, last] {
         for level in [i16::MIN, -2048, 2048, i16::MAX] {
             let mut x = before.clone();
-            x.levels[at] = level;
+            (if level < 0 { &mut x.lows } else { &mut x.highs })[at] = level;
             show(5, x);
         }
+    }
+    // pairs are judged one after the other, 5 before 14 on each
+    for (first, second, due) in [
+        ((2, 1), (0, 0), 14),
+        ((0, 0), (2, 1), 14),
+        ((2, 1), (2048, 2048), 14),
+        ((2048, 2047), (2, 1), 5),
+        ((5, -2048), (2, 1), 5),
+    ] {
+        let mut x = before.clone();
+        (x.lows[0], x.highs[0]) = first;
+        (x.lows[last], x.highs[last]) = second;
+        show(due, x);
     }
     for at in [0, before.tables.len() - 1] {
         for quantiser in [0, 256, u16::MAX] {
             let mut x = before.clone();
-            (x.levels[0], x.tables[at]) = (i16::MIN, quantiser);
+            (x.lows[0], x.tables[at]) = (i16::MIN, quantiser);
             show(4, x);
         }
     }
@@ -219,11 +235,31 @@ fn refused(before: &Lent, fill: f32) {
 fn reordered(sheets: &[Sheet]) -> Vec<Sheet> {
     let mut wide = read(&example(), SMOOTH).expect("legal");
     (wide.w, wide.channels[0].w) = (16, 16);
-    wide.channels[0].levels.extend([0; 64]);
+    wide.channels[0].levels = [1].into_iter().chain([0; 127]).collect();
     let with = |sheet: &Sheet, letter| Sheet { reorder: Some(letter), ..sheet.clone() };
     let lines = sheets.iter().find(|sheet| sheet.channels[0].w > 8 && sheet.channels[0].h > 8).expect("one of FORMS");
     let apart = sheets.iter().find(|sheet| !sheet.joint).expect("one of FORMS");
     vec![with(&wide, Reorder::Each), with(&wide, Reorder::Once), with(lines, Reorder::Once), with(apart, Reorder::Once)]
+}
+
+/// Levels within ranges, of one channel with factors and of three channels, some blocks with equal pairs; with start as in document 01 and reordered once.
+fn ranged(r: &mut Random, sheets: &[Sheet]) -> Vec<Sheet> {
+    let mut wider = |sheet: &Sheet, reorder| {
+        let mut sheet = Sheet { reorder: Some(reorder), counts: [1; 3], ..sheet.clone() };
+        for levels in sheet.channels.iter_mut().map(|c| &mut c.levels) {
+            for k in 0..levels.lows.len() {
+                if k / 64 % 3 != 1 && r.one_in(2) {
+                    levels.lows[k] = (levels.lows[k] - r.between(0, 6) as i32).max(-2047);
+                    levels.highs[k] = (levels.highs[k] + r.between(0, 6) as i32).min(2047);
+                }
+            }
+        }
+        sheet
+    };
+    let factors = sheets.iter().find(|sheet| sheet.channels[0].across == 2).expect("one of FORMS");
+    let joint =
+        sheets.iter().rfind(|sheet| sheet.joint && sheet.channels.len() == 3 && sheet.w > 8).expect("one of FORMS");
+    vec![wider(factors, Reorder::Each), wider(joint, Reorder::Once)]
 }
 
 /// One block, large and small levels and quantisers, and weights at the ends of what is legal.
@@ -254,6 +290,7 @@ fn main() {
     let fixed = SHEETS.iter().map(|text| read(text.as_bytes(), SMOOTH).expect("a legal sheet"));
     let mut sheets: Vec<Sheet> = fixed.chain(FORMS.iter().map(|form| sheet(&mut r, form))).collect();
     sheets.extend(reordered(&sheets));
+    sheets.extend(ranged(&mut r, &sheets));
     for (sheet, fill) in sheets.iter().zip(fills.into_iter().cycle()) {
         for (c, run) in runs(sheet).into_iter().enumerate() {
             walk(run, lent(sheet, c, fill), fill, true);

@@ -10,7 +10,7 @@ use oracle::{
     bench::best,
     probe,
     random::Random,
-    sheet::{Channel, Limits, MOST, Refusal, Reorder, Rounding, SMOOTH, Sheet, Weight, joined, read},
+    sheet::{Channel, Limits, MOST, Refusal, Reorder, Rounding, SMOOTH, Sheet, Weight, joined, lent_levels, read},
     tally::Tally,
     texts,
 };
@@ -38,11 +38,11 @@ fn main() -> ExitCode {
     ExitCode::SUCCESS
 }
 
-/// What a reader gives: the refusal, or levels, tables and the record's numbers.
+/// What a reader gives: the refusal, or lows and highs, tables and the record's numbers.
 #[derive(Debug, PartialEq)]
 enum Given {
     Refused(u32, usize),
-    Sheet(Vec<i16>, Vec<u16>, Vec<u32>),
+    Sheet((Vec<i16>, Vec<i16>), Vec<u16>, Vec<u32>),
 }
 
 fn expected(text: &[u8], limits: Limits) -> Given {
@@ -56,7 +56,7 @@ fn expected(text: &[u8], limits: Limits) -> Given {
     let owns = c.iter().flat_map(|c| [c.w, c.h, c.across, c.down]).chain([0; 8]).take(12);
     let settings = [u32::from(sheet.rounds() == Rounding::Nearest), u32::from(sheet.reorders() == Reorder::Once)];
     Given::Sheet(
-        c.iter().flat_map(|c| &c.levels).map(|level| *level as i16).collect(),
+        lent_levels(c),
         c.iter().flat_map(|c| &c.table).map(|quantiser| *quantiser as u16).collect(),
         sides.into_iter().chain(sheet.counts).chain(weights).chain(owns).chain(settings).collect(),
     )
@@ -64,25 +64,26 @@ fn expected(text: &[u8], limits: Limits) -> Given {
 
 /// The proved reader: measuring, then reading into buffers of `spare` more values than it asks for. Buffers start as 7s, and a
 /// refusal must leave them so.
-fn proved(text: &[u8], limits: Limits, spare: (usize, usize, usize)) -> Given {
+fn proved(text: &[u8], limits: Limits, spare: (usize, usize, usize, usize)) -> Given {
     let (mut n, mut m, mut line) = (7, 7, 7);
     let measured = probe::measure(text, limits, &mut n, &mut m, &mut line);
     let measured_line = line;
     if measured != 0 {
         assert_eq!((n, m), (7, 7), "a refusal leaves both lengths");
     }
-    let mut levels = vec![7i16; n + spare.0];
-    let mut tables = vec![7u16; m + spare.1];
-    let mut header = vec![7u32; probe::NUMBERS + spare.2];
-    let number = probe::read(text, limits, &mut levels, &mut tables, &mut header, &mut line);
+    let [mut lows, mut highs] = [spare.0, spare.1].map(|more| vec![7i16; n + more]);
+    let mut tables = vec![7u16; m + spare.2];
+    let mut header = vec![7u32; probe::NUMBERS + spare.3];
+    let number = probe::read(text, limits, &mut lows, &mut highs, &mut tables, &mut header, &mut line);
     if number == 0 {
         assert_eq!((measured, line), (0, 0), "measuring accepts what reading accepts");
-        return Given::Sheet(levels, tables, header);
+        return Given::Sheet((lows, highs), tables, header);
     }
     if measured != 0 {
         assert_eq!((measured, measured_line), (number, line), "measuring refuses as reading does");
     }
-    let untouched = levels.iter().all(|x| *x == 7) && tables.iter().all(|x| *x == 7) && header.iter().all(|x| *x == 7);
+    let untouched =
+        lows.iter().chain(&highs).all(|x| *x == 7) && tables.iter().all(|x| *x == 7) && header.iter().all(|x| *x == 7);
     assert!(untouched, "a refusal leaves the buffers");
     Given::Refused(number, line)
 }
@@ -107,9 +108,9 @@ fn list(count: u64, seed: u64) {
     }
 }
 
-/// Of the record's numbers, the bits of the levels as f32, and the tables: each is added to 31 times what was there, modulo 2^32.
-fn digest(levels: &[i16], tables: &[u16], header: &[u32]) -> u64 {
-    let levels = levels.iter().map(|level| u64::from(f32::from(*level).to_bits()));
+/// Of the record's numbers, the bits of the lows and of the highs as f32, and the tables: each is added to 31 times what was there, modulo 2^32.
+fn digest((lows, highs): &(Vec<i16>, Vec<i16>), tables: &[u16], header: &[u32]) -> u64 {
+    let levels = lows.iter().chain(highs).map(|level| u64::from(f32::from(*level).to_bits()));
     let tables = tables.iter().map(|quantiser| u64::from(*quantiser));
     let all = header.iter().map(|number| u64::from(*number)).chain(levels).chain(tables);
     all.fold(0, |digest, number| (digest * 31 + number) % (1 << 32))
@@ -122,10 +123,13 @@ struct Faults {
     planted: u64,
 }
 
-const FAULTS: [&str; 12] = [
+const FAULTS: [&str; 15] = [
     "another refusal",
     "another line",
-    "the last level",
+    "the last low",
+    "the last high",
+    "low and high exchanged",
+    "14 as 5",
     "the last quantiser",
     "the lowest bit of a weight",
     "the other letter of A",
@@ -148,10 +152,23 @@ impl Faults {
                 *line += 1;
                 true
             }
-            (Given::Sheet(levels, ..), "the last level") => levels.last_mut().is_some_and(|d| {
+            (Given::Sheet((lows, _), ..), "the last low") => lows.last_mut().is_some_and(|d| {
                 *d ^= 1;
                 true
             }),
+            (Given::Sheet((_, highs), ..), "the last high") => highs.last_mut().is_some_and(|d| {
+                *d ^= 1;
+                true
+            }),
+            (Given::Sheet((lows, highs), ..), "low and high exchanged") => {
+                let unequal = lows != highs;
+                std::mem::swap(lows, highs);
+                unequal
+            }
+            (Given::Refused(number @ 14, _), "14 as 5") => {
+                *number = 5;
+                true
+            }
             (Given::Sheet(_, tables, _), "the last quantiser") => tables.last_mut().is_some_and(|q| {
                 *q ^= 1;
                 true
@@ -169,7 +186,7 @@ impl Faults {
                 true
             }
             (Given::Refused(8, 0), "another length taken") => {
-                given = Given::Sheet(vec![], vec![], vec![]);
+                given = Given::Sheet((vec![], vec![]), vec![], vec![]);
                 true
             }
             _ => false,
@@ -213,9 +230,9 @@ fn compare(count: u64, seed: u64, faults: &mut Faults) -> Tally {
         for (kind, text) in texts::all(seed, count, limits.side, 1000) {
             tally.start(&format!("{kind}, limit {}", limits.side));
             let rust = expected(&text, limits);
-            let answer = faults.plant(proved(&text, limits, (0, 0, 0)));
+            let answer = faults.plant(proved(&text, limits, (0, 0, 0, 0)));
             tally.count(rust == answer, || String::from_utf8_lossy(&text).into_owned());
-            for spare in [(1, 0, 0), (0, 1, 0), (0, 0, 1)] {
+            for spare in [(1, 0, 0, 0), (0, 1, 0, 0), (0, 0, 1, 0), (0, 0, 0, 1)] {
                 if let Given::Sheet(..) = rust {
                     let answer = faults.plant(proved(&text, limits, spare));
                     tally.count(answer == Given::Refused(8, 0), || format!("a buffer too long: {spare:?}"));
@@ -225,12 +242,12 @@ fn compare(count: u64, seed: u64, faults: &mut Faults) -> Tally {
     }
     tally.kind("limits that are no side");
     for side in [0, 1, 4, 7, 9, 31, 33, 513, 520, 1024, u32::MAX] {
-        let answer = faults.plant(proved(&texts::example(), Limits { side, ..MOST }, (0, 0, 0)));
+        let answer = faults.plant(proved(&texts::example(), Limits { side, ..MOST }, (0, 0, 0, 0)));
         tally.count(answer == Given::Refused(2, 0), || format!("{side}: {answer:?}"));
     }
     tally.kind("fixed texts, answers as written down");
     for (name, text, refusal) in texts::fixed() {
-        let answer = proved(&text, SMOOTH, (0, 0, 0));
+        let answer = proved(&text, SMOOTH, (0, 0, 0, 0));
         let right = match refusal {
             Some((number, line)) => answer == Given::Refused(number, line),
             None => matches!(answer, Given::Sheet(..)),
@@ -246,8 +263,8 @@ fn compare(count: u64, seed: u64, faults: &mut Faults) -> Tally {
 fn compare_pages(count: u64, seed: u64, faults: &mut Faults, tally: &mut Tally) {
     let mut met = BTreeMap::<u32, u64>::new();
     let mut one = |tally: &mut Tally, kind: &str, text: &[u8], limits: Limits, due: Given| {
-        let wide = || proved(text, Limits { iterations: 1000, ..limits }, (0, 0, 0));
-        let answer = faults.plant_page(proved(text, limits, (0, 0, 0)), wide);
+        let wide = || proved(text, Limits { iterations: 1000, ..limits }, (0, 0, 0, 0));
+        let answer = faults.plant_page(proved(text, limits, (0, 0, 0, 0)), wide);
         *met.entry(if let Given::Refused(number, _) = due { number } else { 0 }).or_default() += 1;
         tally.count_in(kind, answer == due, || format!("{limits:?}: {}", String::from_utf8_lossy(text)));
     };
@@ -284,14 +301,15 @@ fn compare_pages(count: u64, seed: u64, faults: &mut Faults, tally: &mut Tally) 
 }
 
 /// `X number line`, or `M`, both lengths, the header's fields, four numbers of each of three channels (0 where there is none),
-/// levels, tables. A weight is its letter and a decimal number.
+/// lows, highs, tables. A weight is its letter and a decimal number.
 fn answer(result: &Result<Sheet, Refusal>) -> String {
     let sheet = match result {
         Err((number, line)) => return format!("X {number} {line}"),
         Ok(sheet) => sheet,
     };
     let c = &sheet.channels;
-    let levels: Vec<i32> = c.iter().flat_map(|c| &c.levels).copied().collect();
+    let [lows, highs]: [Vec<i32>; 2] = [|c: &Channel| c.levels.lows.clone(), |c: &Channel| c.levels.highs.clone()]
+        .map(|part| c.iter().flat_map(part).collect());
     let tables: Vec<u32> = c.iter().flat_map(|c| &c.table).copied().collect();
     let owns = c.iter().flat_map(|c| [c.w, c.h, c.across, c.down]).chain([0; 8]).take(12);
     let weights = sheet.weights().map(|weight| match weight {
@@ -299,13 +317,14 @@ fn answer(result: &Result<Sheet, Refusal>) -> String {
         Weight::Whole(number) => format!("w{number}"),
     });
     [
-        format!("M {} {}", levels.len(), tables.len()),
+        format!("M {} {}", lows.len(), tables.len()),
         joined([sheet.w, sheet.h, sheet.picture_w, sheet.picture_h, c.len() as u32], " "),
         sheet.mode().into(),
         joined(sheet.counts, " "),
         joined(weights, " "),
         joined(owns, " "),
-        joined(levels, " "),
+        joined(lows, " "),
+        joined(highs, " "),
         joined(tables, " "),
     ]
     .join(" ")
@@ -360,8 +379,8 @@ fn bench(rounds: usize) {
     let time = best(rounds, 1, || read(&text, MOST));
     let each = |time: f64| format!("{:.2} ms, {:.2} ns a byte", time / 1e6, time / text.len() as f64);
     println!("{} bytes read in {} by the oracle", text.len(), each(time));
-    let (mut levels, mut tables) = (vec![0i16; 3 * 512 * 512], vec![0u16; 192]);
+    let ([mut lows, mut highs], mut tables) = ([0; 2].map(|_| vec![0i16; 3 * 512 * 512]), vec![0u16; 192]);
     let (mut header, mut line) = ([0u32; probe::NUMBERS], 0);
-    let time = best(rounds, 1, || probe::read(&text, MOST, &mut levels, &mut tables, &mut header, &mut line));
+    let time = best(rounds, 1, || probe::read(&text, MOST, &mut lows, &mut highs, &mut tables, &mut header, &mut line));
     println!("{} by the proved reader", each(time));
 }

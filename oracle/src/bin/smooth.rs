@@ -1,11 +1,13 @@
 //! What the program `smooth` has to print, by the published Rust.
 //!
 //!     smooth < FILE.tsv                               prints it
-//!     smooth --compare PROGRAM [N [SEED [STEPS]]]     runs PROGRAM on N texts (1,000) with at most STEPS iterations (5) and compares
+//!     smooth --compare PROGRAM [N [SEED [STEPS]]]     runs PROGRAM on N texts (1,000) with at most STEPS iterations (5) and compares; where all pairs of lines
+//!                                                     G are equal, also with what it prints for lines B
 //!     smooth --pack N SEED DIR [STEPS]                DIR/texts, each text after its length in five digits, and DIR/answers
 use oracle::{
     picture::smooth,
     program::{Ending, answers, run},
+    sheet::{SMOOTH, read},
     tally::Tally,
     texts,
 };
@@ -45,16 +47,24 @@ fn main() -> ExitCode {
 fn compare(program: &str, texts: impl Iterator<Item = (&'static str, Vec<u8>)>) -> ExitCode {
     let mut tally = Tally::default();
     let texts: Vec<_> = texts.collect();
+    let minute = Duration::from_secs(60);
     for part in texts.chunks(1_000) {
-        let ended = answers(part, 2, |(_, text)| (run(program, text, Duration::from_secs(60)), smooth(text)));
-        for ((kind, text), (ending, due)) in part.iter().zip(ended) {
-            tally.start(kind);
+        let ended = answers(part, 2, |(_, text)| {
+            let plain = read(text, SMOOTH).ok().and_then(|sheet| sheet.plain());
+            (run(program, text, minute), smooth(text), plain.map(|sheet| run(program, &sheet.text(), minute)))
+        });
+        for ((kind, text), (ending, due, plain)) in part.iter().zip(ended) {
+            if let Some(plain) = plain {
+                let shown = || String::from_utf8_lossy(text).into_owned();
+                tally.count_in("equal pairs, beside lines B", plain == ending, shown);
+            }
             let equal = matches!(&ending, Ending::Ended { printed, .. } if printed == due.as_bytes());
             let shown = || match &ending {
                 Ending::Ended { printed, .. } => String::from_utf8_lossy(printed).into_owned(),
                 Ending::Late => "nothing within a minute\n".into(),
             };
-            tally.count(equal, || format!("due {due}printed {}for {}", shown(), String::from_utf8_lossy(text)));
+            tally
+                .count_in(kind, equal, || format!("due {due}printed {}for {}", shown(), String::from_utf8_lossy(text)));
         }
     }
     tally.close()
