@@ -2,3 +2,4 @@
 pub mod Places
 pub mod Laws
 pub mod Examples
+pub mod Apart

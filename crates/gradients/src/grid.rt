@@ -6,11 +6,12 @@ ghost use lib.ListN.{length};
 ghost use Rattle.gradients.specs.Tv.{pxIdx, bump, bumpUnless, difference};
 ghost use Rattle.gradients.specs.Grid.{Inside, Fills};
 
-// n planes of w by h, one after the other.
+// n planes of w by h, one after the other, and which of them are held (M-108).
 pub struct Grid {
     pub n: usize,
     pub w: usize,
     pub h: usize,
+    pub held: [bool; 3],
 }
 
 // The place of column x of row y in channel c. Rules out: row and column exchanged, and a place of another channel.

@@ -8,6 +8,7 @@ use steps::solve::Constants;
 ghost use mathlib.Core.Path.{_≡_};
 ghost use Prim.Native.Nat.{_≤_};
 ghost use lib.ListN.{length};
+ghost use Rattle.gradients.specs.Held.{flag};
 ghost use Rattle.gradients.specs.Grid.{Fills};
 ghost use Rattle.gradients.specs.Blend.{blended, totals};
 
@@ -19,7 +20,7 @@ pub struct Totals {
 
 // Job 3: the first-order term, then the second-order term, on the buffers of all channels. The plane is only read.
 // Returned are the totals of both.
-// Rules out: the second-order term of the differences before this step's, and the divisor √n left out.
+// Rules out: the second-order term of the differences before this step's, the divisor √n left out, and a held channel read or written.
 pub fn blend(
     plane: &[f32],
     gradient: &mut [f32],
@@ -31,9 +32,9 @@ pub fn blend(
     requires { ⌜ (g .n ≤ 3) × Fills g (length (now plane)) × Fills g (length (now gradient))
         × Fills g (length (now across)) × Fills g (length (now down)) ⌝ }
     ensures { λ r. ⌜ (record { gradient = now (gradient .exit); across = now (across .exit); down = now (down .exit) }
-        ≡ blended (g .w) (g .h) (g .n) (k .second) (now (plane .entry))
+        ≡ blended (g .w) (g .h) (g .n) (flag (g .held)) (k .second) (now (plane .entry))
         (record { gradient = now (gradient .entry); across = now (across .entry); down = now (down .entry) }))
-        × (r ≡ totals (g .w) (g .h) (g .n) (k .second) (now (plane .entry))
+        × (r ≡ totals (g .w) (g .h) (g .n) (flag (g .held)) (k .second) (now (plane .entry))
         (record { gradient = now (gradient .entry); across = now (across .entry); down = now (down .entry) })) ⌝ }
 {
     let tv = tv::tv_gradient(plane, gradient, across, down, g);

@@ -9,6 +9,7 @@ ghost use lib.ListN.{length};
 ghost use lib.Ieee.{neg};
 ghost use Rattle.float.specs.Ops.{mulAdd, square};
 ghost use Rattle.float.specs.Names.{_⊗_, f2};
+ghost use Rattle.gradients.specs.Held.{flag};
 ghost use Rattle.gradients.specs.Grid.{Inside, Fills};
 ghost use Rattle.gradients.specs.Tgv.{tgvDifferences, g2NormOf, tgvBeside, tgvUpDown, tgvCorners, tgvChannelDerivatives, tgvDerivatives, tgvGradientPx, tgvTotalPx, tgvAlpha, tgvGradient, tgvTotal};
 
@@ -32,15 +33,19 @@ fn prev(k: usize) -> usize
 // The backward differences x and y of the differences at (x, y), and their mixed one made symmetric, of each channel.
 fn differences(across: &[f32], down: &[f32], g: Grid, y: usize, x: usize) -> Second
     requires { ⌜ (g .n ≤ 3) × Inside g y x × Fills g (length (now across)) × Fills g (length (now down)) ⌝ }
-    ensures { λ r. ⌜ r ≡ tgvDifferences (g .w) (g .h) (g .n) (now (across .entry)) (now (down .entry)) y x ⌝ }
+    ensures { λ r. ⌜ r ≡ tgvDifferences (g .w) (g .h) (g .n) (flag (g .held)) (now (across .entry)) (now (down .entry)) y x ⌝ }
 {
     let n = g.n;
+    let held = g.held;
     let left = prev(x);
     let above = prev(y);
     let mut g_xxs = [0.0f32; 3];
     let mut g_xy_syms = [0.0f32; 3];
     let mut g_yys = [0.0f32; 3];
     for c in 0..n {
+        if held[c] {
+            continue;
+        }
         g_xxs[c] = grid::difference(x == 0, across, g, c, y, x, y, left);
         let g_yx = grid::difference(x == 0, down, g, c, y, x, y, left);
         g_yys[c] = grid::difference(y == 0, down, g, c, y, x, above, x);
@@ -66,15 +71,18 @@ fn square_of(g_xx: f32, g_xy_sym: f32, g_yy: f32) -> f32
 }
 
 // g2_norm: √ of what each channel adds.
-fn g2_norm_of(n: usize, d: Second) -> f32
+fn g2_norm_of(n: usize, held: [bool; 3], d: Second) -> f32
     requires { ⌜ n ≤ 3 ⌝ }
-    ensures { λ r. ⌜ r ≡ g2NormOf n d ⌝ }
+    ensures { λ r. ⌜ r ≡ g2NormOf n (flag held) d ⌝ }
 {
     let g_xxs = d.g_xxs;
     let g_xy_syms = d.g_xy_syms;
     let g_yys = d.g_yys;
     let mut g2_norm = 0.0f32;
     for c in 0..n {
+        if held[c] {
+            continue;
+        }
         g2_norm += square_of(g_xxs[c], g_xy_syms[c], g_yys[c]);
     }
     float::sqrt(g2_norm)
@@ -248,9 +256,10 @@ fn derivatives(
     x: usize,
 )
     requires { ⌜ (g .n ≤ 3) × Inside g y x × Fills g (length (now gradient)) ⌝ }
-    ensures { λ _. ⌜ now (gradient .exit) ≡ tgvDerivatives (g .w) (g .h) (g .n) alpha «g2_norm» d y x (now (gradient .entry)) ⌝ }
+    ensures { λ _. ⌜ now (gradient .exit) ≡ tgvDerivatives (g .w) (g .h) (g .n) (flag (g .held)) alpha «g2_norm» d y x (now (gradient .entry)) ⌝ }
 {
     let n = g.n;
+    let held = g.held;
     let g_xxs = d.g_xxs;
     let g_xy_syms = d.g_xy_syms;
     let g_yys = d.g_yys;
@@ -258,6 +267,9 @@ fn derivatives(
         return;
     }
     for c in 0..n {
+        if held[c] {
+            continue;
+        }
         channel_derivatives(
             gradient,
             g,
@@ -286,12 +298,13 @@ fn tgv_gradient_px(
 ) -> f64
     requires { ⌜ (g .n ≤ 3) × Inside g y x × Fills g (length (now across)) × Fills g (length (now down)) × Fills g (length (now gradient)) ⌝ }
     ensures { λ r. ⌜ (now (gradient .exit)
-        ≡ tgvGradientPx (g .w) (g .h) (g .n) alpha (now (across .entry)) (now (down .entry)) y x (now (gradient .entry)))
-        × (r ≡ tgvTotalPx (g .w) (g .h) (g .n) alpha (now (across .entry)) (now (down .entry)) y x tv2) ⌝ }
+        ≡ tgvGradientPx (g .w) (g .h) (g .n) (flag (g .held)) alpha (now (across .entry)) (now (down .entry)) y x (now (gradient .entry)))
+        × (r ≡ tgvTotalPx (g .w) (g .h) (g .n) (flag (g .held)) alpha (now (across .entry)) (now (down .entry)) y x tv2) ⌝ }
 {
     let n = g.n;
+    let held = g.held;
     let d = differences(across, down, g, y, x);
-    let g2_norm = g2_norm_of(n, d);
+    let g2_norm = g2_norm_of(n, held, d);
     derivatives(gradient, g, alpha, g2_norm, d, y, x);
     float::double::add_product(tv2, alpha, g2_norm)
 }
@@ -309,8 +322,8 @@ fn alpha_of(n: usize, alpha: f32) -> f32
 pub fn tgv_gradient(across: &[f32], down: &[f32], gradient: &mut [f32], g: Grid, alpha: f32) -> f64
     requires { ⌜ (g .n ≤ 3) × Fills g (length (now across)) × Fills g (length (now down)) × Fills g (length (now gradient)) ⌝ }
     ensures { λ r. ⌜ (now (gradient .exit)
-        ≡ tgvGradient (g .w) (g .h) (g .n) alpha (now (across .entry)) (now (down .entry)) (now (gradient .entry)))
-        × (r ≡ tgvTotal (g .w) (g .h) (g .n) alpha (now (across .entry)) (now (down .entry))) ⌝ }
+        ≡ tgvGradient (g .w) (g .h) (g .n) (flag (g .held)) alpha (now (across .entry)) (now (down .entry)) (now (gradient .entry)))
+        × (r ≡ tgvTotal (g .w) (g .h) (g .n) (flag (g .held)) alpha (now (across .entry)) (now (down .entry))) ⌝ }
 {
     let n = g.n;
     let w = g.w;

@@ -5,6 +5,7 @@ use crate::grid::Grid;
 ghost use mathlib.Core.Path.{_≡_};
 ghost use Prim.Native.Nat.{_<_, _≤_};
 ghost use lib.ListN.{length};
+ghost use Rattle.gradients.specs.Held.{flag};
 ghost use Rattle.gradients.specs.Grid.{Inside, Fills};
 ghost use Rattle.gradients.specs.Tv.{tvDifferences, gNormOf, tvChannelDerivatives, tvDerivatives, store, tvGradientPx, tvTotalPx, tvAlpha, tvGradient, tvTotal};
 
@@ -17,9 +18,10 @@ pub struct Forward {
 // The forward differences at (x, y) of each channel.
 fn differences(plane: &[f32], g: Grid, y: usize, x: usize) -> Forward
     requires { ⌜ (g .n ≤ 3) × Inside g y x × Fills g (length (now plane)) ⌝ }
-    ensures { λ r. ⌜ r ≡ tvDifferences (g .w) (g .h) (g .n) (now (plane .entry)) y x ⌝ }
+    ensures { λ r. ⌜ r ≡ tvDifferences (g .w) (g .h) (g .n) (flag (g .held)) (now (plane .entry)) y x ⌝ }
 {
     let n = g.n;
+    let held = g.held;
     let w = g.w;
     let h = g.h;
     let right = x >= w - 1;
@@ -27,6 +29,9 @@ fn differences(plane: &[f32], g: Grid, y: usize, x: usize) -> Forward
     let mut g_xs = [0.0f32; 3];
     let mut g_ys = [0.0f32; 3];
     for c in 0..n {
+        if held[c] {
+            continue;
+        }
         g_xs[c] = grid::difference(right, plane, g, c, y, x + 1, y, x);
         g_ys[c] = grid::difference(bottom, plane, g, c, y + 1, x, y, x);
     }
@@ -34,14 +39,17 @@ fn differences(plane: &[f32], g: Grid, y: usize, x: usize) -> Forward
 }
 
 // g_norm: √ of the squares of both differences, added channel by channel.
-fn g_norm_of(n: usize, d: Forward) -> f32
+fn g_norm_of(n: usize, held: [bool; 3], d: Forward) -> f32
     requires { ⌜ n ≤ 3 ⌝ }
-    ensures { λ r. ⌜ r ≡ gNormOf n d ⌝ }
+    ensures { λ r. ⌜ r ≡ gNormOf n (flag held) d ⌝ }
 {
     let g_xs = d.g_xs;
     let g_ys = d.g_ys;
     let mut g_norm = 0.0f32;
     for c in 0..n {
+        if held[c] {
+            continue;
+        }
         g_norm += float::powi2(g_xs[c]);
         g_norm += float::powi2(g_ys[c]);
     }
@@ -81,13 +89,17 @@ fn derivatives(
     x: usize,
 )
     requires { ⌜ (g .n ≤ 3) × Inside g y x × Fills g (length (now gradient)) ⌝ }
-    ensures { λ _. ⌜ now (gradient .exit) ≡ tvDerivatives (g .w) (g .h) (g .n) alpha «g_norm» d y x (now (gradient .entry)) ⌝ }
+    ensures { λ _. ⌜ now (gradient .exit) ≡ tvDerivatives (g .w) (g .h) (g .n) (flag (g .held)) alpha «g_norm» d y x (now (gradient .entry)) ⌝ }
 {
     let n = g.n;
+    let held = g.held;
     let g_xs = d.g_xs;
     let g_ys = d.g_ys;
     if g_norm != 0.0 {
         for c in 0..n {
+            if held[c] {
+                continue;
+            }
             channel_derivatives(gradient, g, alpha, g_norm, g_xs[c], g_ys[c], y, x, c);
         }
     }
@@ -96,10 +108,14 @@ fn derivatives(
 // "store for the second-order TGV pass": one of the two differences of (x, y), each channel's.
 fn store(buffer: &mut [f32], g: Grid, vs: [f32; 3], y: usize, x: usize)
     requires { ⌜ (g .n ≤ 3) × Inside g y x × Fills g (length (now buffer)) ⌝ }
-    ensures { λ _. ⌜ now (buffer .exit) ≡ store (g .w) (g .h) (g .n) vs y x (now (buffer .entry)) ⌝ }
+    ensures { λ _. ⌜ now (buffer .exit) ≡ store (g .w) (g .h) (g .n) (flag (g .held)) vs y x (now (buffer .entry)) ⌝ }
 {
     let n = g.n;
+    let held = g.held;
     for c in 0..n {
+        if held[c] {
+            continue;
+        }
         let k = grid::px(g, c, y, x);
         buffer[k] = vs[c];
     }
@@ -120,13 +136,14 @@ fn tv_gradient_px(
     requires { ⌜ (g .n ≤ 3) × Inside g y x × Fills g (length (now plane)) × Fills g (length (now gradient))
         × Fills g (length (now across)) × Fills g (length (now down)) ⌝ }
     ensures { λ r. ⌜ (record { gradient = now (gradient .exit); across = now (across .exit); down = now (down .exit) }
-        ≡ tvGradientPx (g .w) (g .h) (g .n) alpha (now (plane .entry)) y x
+        ≡ tvGradientPx (g .w) (g .h) (g .n) (flag (g .held)) alpha (now (plane .entry)) y x
         (record { gradient = now (gradient .entry); across = now (across .entry); down = now (down .entry) }))
-        × (r ≡ tvTotalPx (g .w) (g .h) (g .n) alpha (now (plane .entry)) y x tv) ⌝ }
+        × (r ≡ tvTotalPx (g .w) (g .h) (g .n) (flag (g .held)) alpha (now (plane .entry)) y x tv) ⌝ }
 {
     let d = differences(plane, g, y, x);
     let n = g.n;
-    let g_norm = g_norm_of(n, d);
+    let held = g.held;
+    let g_norm = g_norm_of(n, held, d);
     derivatives(gradient, g, alpha, g_norm, d, y, x);
     let g_xs = d.g_xs;
     let g_ys = d.g_ys;
@@ -144,7 +161,7 @@ fn alpha_of(n: usize) -> f32
 }
 
 // tv_gradient: every pixel, row by row. The total is returned. Rules out: a norm of each channel alone, a pixel whose differences are left as they were,
-// and a total of rounded products, or one summed in f32 or channel by channel.
+// a total of rounded products, or one summed in f32 or channel by channel, and a held channel in the norm or out of the divisor.
 pub fn tv_gradient(
     plane: &[f32],
     gradient: &mut [f32],
@@ -155,9 +172,9 @@ pub fn tv_gradient(
     requires { ⌜ (g .n ≤ 3) × Fills g (length (now plane)) × Fills g (length (now gradient))
         × Fills g (length (now across)) × Fills g (length (now down)) ⌝ }
     ensures { λ r. ⌜ (record { gradient = now (gradient .exit); across = now (across .exit); down = now (down .exit) }
-        ≡ tvGradient (g .w) (g .h) (g .n) (now (plane .entry))
+        ≡ tvGradient (g .w) (g .h) (g .n) (flag (g .held)) (now (plane .entry))
         (record { gradient = now (gradient .entry); across = now (across .entry); down = now (down .entry) }))
-        × (r ≡ tvTotal (g .w) (g .h) (g .n) (now (plane .entry))) ⌝ }
+        × (r ≡ tvTotal (g .w) (g .h) (g .n) (flag (g .held)) (now (plane .entry))) ⌝ }
 {
     let n = g.n;
     let w = g.w;

@@ -5,22 +5,23 @@ use mathlib.Core.Path.{_≡_}
 use native.Mathlib.Omega.{arith}
 use Rattle.fold.proofs.Loops.{upto-call, upto-end}
 use Rattle.fold.specs.Fold.{upto}
+use Rattle.gradients.specs.Held.{flag}
 use Rattle.gradients.specs.Tgv.{tgvGradient, tgvGradientPx, tgvGradientRow, tgvTotal, tgvTotalPx, tgvTotalRow}
 use Rattle.gradients.proofs.tgv.tgv_gradient.Statement.{statement}
 use Rattle.gradients.proofs.tgv.tgv_gradient.Tie as tie
 
 abbrev Inv-loop2 : tie.InvT-loop2
 Inv-loop2 across down gradient₀ g alpha n w h alpha-over-root tv2₀ y x₀ gradient tv2 x =
-    (x ≤ w) × (length gradient ≡ length gradient₀) × (gradient ≡ upto (tgvGradientPx (g .w) (g .h) (g .n) alpha-over-root across down y) x gradient₀)
-    × (tv2 ≡ upto (tgvTotalPx (g .w) (g .h) (g .n) alpha-over-root across down y) x tv2₀)
+    (x ≤ w) × (length gradient ≡ length gradient₀) × (gradient ≡ upto (tgvGradientPx (g .w) (g .h) (g .n) (flag (g .held)) alpha-over-root across down y) x gradient₀)
+    × (tv2 ≡ upto (tgvTotalPx (g .w) (g .h) (g .n) (flag (g .held)) alpha-over-root across down y) x tv2₀)
 
 abbrev μ-loop2 : tie.MeasureT-loop2
 μ-loop2 across down gradient₀ g alpha n w h alpha-over-root tv2₀ y x₀ gradient tv2 x = w - x
 
 abbrev Inv-loop : tie.InvT-loop
 Inv-loop across down gradient₀ g alpha n w h alpha-over-root tv2₀ y₀ gradient tv2 y =
-    (y ≤ h) × (length gradient ≡ length gradient₀) × (gradient ≡ upto (tgvGradientRow (g .w) (g .h) (g .n) alpha-over-root across down) y gradient₀)
-    × (tv2 ≡ upto (tgvTotalRow (g .w) (g .h) (g .n) alpha-over-root across down) y tv2₀)
+    (y ≤ h) × (length gradient ≡ length gradient₀) × (gradient ≡ upto (tgvGradientRow (g .w) (g .h) (g .n) (flag (g .held)) alpha-over-root across down) y gradient₀)
+    × (tv2 ≡ upto (tgvTotalRow (g .w) (g .h) (g .n) (flag (g .held)) alpha-over-root across down) y tv2₀)
 
 abbrev μ-loop : tie.MeasureT-loop
 μ-loop across down gradient₀ g alpha n w h alpha-over-root tv2₀ y₀ gradient tv2 y = h - y

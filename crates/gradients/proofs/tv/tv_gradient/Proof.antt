@@ -5,6 +5,7 @@ use mathlib.Core.Path.{_≡_}
 use native.Mathlib.Omega.{arith}
 use Rattle.fold.proofs.Loops.{upto-call, upto-end}
 use Rattle.fold.specs.Fold.{upto}
+use Rattle.gradients.specs.Held.{flag}
 use Rattle.gradients.specs.Tv.{tvGradient, tvGradientPx, tvGradientRow, tvTotal, tvTotalPx, tvTotalRow}
 use Rattle.gradients.proofs.tv.tv_gradient.Statement.{statement}
 use Rattle.gradients.proofs.tv.tv_gradient.Tie as tie
@@ -12,8 +13,8 @@ use Rattle.gradients.proofs.tv.tv_gradient.Tie as tie
 abbrev Inv-loop2 : tie.InvT-loop2
 Inv-loop2 plane gradient₀ across₀ down₀ g n w h alpha tv₀ y x₀ gradient across down tv x =
     (x ≤ w) × (length gradient ≡ length gradient₀) × (length across ≡ length across₀) × (length down ≡ length down₀)
-    × (record { gradient = gradient; across = across; down = down } ≡ upto (tvGradientPx (g .w) (g .h) (g .n) alpha plane y) x (record { gradient = gradient₀; across = across₀; down = down₀ }))
-    × (tv ≡ upto (tvTotalPx (g .w) (g .h) (g .n) alpha plane y) x tv₀)
+    × (record { gradient = gradient; across = across; down = down } ≡ upto (tvGradientPx (g .w) (g .h) (g .n) (flag (g .held)) alpha plane y) x (record { gradient = gradient₀; across = across₀; down = down₀ }))
+    × (tv ≡ upto (tvTotalPx (g .w) (g .h) (g .n) (flag (g .held)) alpha plane y) x tv₀)
 
 abbrev μ-loop2 : tie.MeasureT-loop2
 μ-loop2 plane gradient₀ across₀ down₀ g n w h alpha tv₀ y x₀ gradient across down tv x = w - x
@@ -21,8 +22,8 @@ abbrev μ-loop2 : tie.MeasureT-loop2
 abbrev Inv-loop : tie.InvT-loop
 Inv-loop plane gradient₀ across₀ down₀ g n w h alpha tv₀ y₀ gradient across down tv y =
     (y ≤ h) × (length gradient ≡ length gradient₀) × (length across ≡ length across₀) × (length down ≡ length down₀)
-    × (record { gradient = gradient; across = across; down = down } ≡ upto (tvGradientRow (g .w) (g .h) (g .n) alpha plane) y (record { gradient = gradient₀; across = across₀; down = down₀ }))
-    × (tv ≡ upto (tvTotalRow (g .w) (g .h) (g .n) alpha plane) y tv₀)
+    × (record { gradient = gradient; across = across; down = down } ≡ upto (tvGradientRow (g .w) (g .h) (g .n) (flag (g .held)) alpha plane) y (record { gradient = gradient₀; across = across₀; down = down₀ }))
+    × (tv ≡ upto (tvTotalRow (g .w) (g .h) (g .n) (flag (g .held)) alpha plane) y tv₀)
 
 abbrev μ-loop : tie.MeasureT-loop
 μ-loop plane gradient₀ across₀ down₀ g n w h alpha tv₀ y₀ gradient across down tv y = h - y
