@@ -1,22 +1,22 @@
 -- The order of refusals, equal blends and marks, by computation on small records. Beside each stands what it excludes.
 use mathlib.Core.Path.{_≡_, refl}
-use mathlib.Core.Bool.{true, false}
-use mathlib.Core.List.{List, [], _∷_, _++_}
+use mathlib.Core.Bool.{true, false, cond}
+use mathlib.Core.List.{List, [], _∷_, _++_, map}
 use Prim.Native.Nat.{ℕ}
 use lib.IntN.{ℤ, pos, negsuc}
 use lib.ListN.{replicate}
-use lib.Ieee.{Float, nan, fin}
+use lib.Ieee.{Float, nan, fin, neg}
 use Rattle.start.specs.declared.coef.Reorder.the-variants.{Each}
 use Rattle.start.specs.Coef.{pairs}
 use Rattle.projection.specs.Blown.{isBlown}
-use Rattle.calls.specs.Run.{Sheet, Place, Given, weight, ownOk, headerOk, sheetOk, placeOk, placesOk}
-use Rattle.calls.specs.Buffers.{make, channel, joined}
-use Rattle.calls.specs.Jobs.{push, fidelity, move, project, Call, on, blend, Jobs, fixed}
+use Rattle.calls.specs.Run.{Sheet, Place, Given, held, weight, ownOk, headerOk, sheetOk, placeOk, placesOk}
+use Rattle.calls.specs.Buffers.{get, make, channel, joined}
+use Rattle.calls.specs.Jobs.{push, fidelity, move, project, Call, on, blend, Jobs, fixed, kept}
 use Rattle.calls.specs.Calls.{refused, done, blown, blended, first, turnTests, startRefusal, noneYet, plain, plainAnswers, plainPlaces}
 
--- n channels of 8 by 8, and N steps
-abbrev sheet : ℕ → ℕ → Sheet
-sheet n N =
+-- n channels of 8 by 8, held after k steps, and N steps
+abbrev sheet-held : ℕ → ℕ → ℕ → Sheet
+sheet-held k n N =
     let w : Float = fin false 1 (pos 0) in
     record {
       W = 8;
@@ -25,8 +25,12 @@ sheet n N =
       smoothing = w;
       reorder = Each;
       count = n;
-      owns = replicate n (record { width = 8; height = 8; across = 1; down = 1; data-weight = w });
+      owns = replicate n (record { width = 8; height = 8; across = 1; down = 1; data-weight = w; held = k });
     }
+
+-- held after all
+abbrev sheet : ℕ → ℕ → Sheet
+sheet n N = sheet-held N n N
 
 abbrev at : ℕ → Place
 at p = record { position = p; mark = false; clipped = 0 }
@@ -172,3 +176,53 @@ kept-on = refl
 pub kept-last : plainPlaces (still one) two-steps (step ++ on fidelity 0 ∷ blend ∷ on move 0 ∷ on project 0 ∷ []) (noneYet two-steps) ≡ kept-at 10 7 ∷ []
 unfolding plainPlaces plain fixed channel joined isBlown
 kept-last = refl
+
+-- ---- M-108
+
+-- a held count above the iterations is 13; the iterations themselves and 0 are legal
+pub held-too-late : sheetOk (sheet-held 2 1 1) ≡ false
+unfolding sheetOk headerOk ownOk weight
+held-too-late = refl
+
+pub held-last : sheetOk (sheet-held 1 1 1) ≡ true
+unfolding sheetOk headerOk ownOk weight
+held-last = refl
+
+pub held-first : sheetOk (sheet-held 0 3 1) ≡ true
+unfolding sheetOk headerOk ownOk weight
+held-first = refl
+
+-- every job turns the sign of what it finds, and clips 7 coefficients
+abbrev turning : Jobs
+turning =
+    record {
+      start = λ G c. make (λ b. one ∷ []);
+      work = λ j G c step b. make (λ x. map neg (get x b));
+      blending = λ G step B. cond (held (G .sheet) 0 step) B (make (λ x. map neg (get x B)));
+      totals = λ G step B. (one, one);
+      clip = λ G c b. 7;
+    }
+
+abbrev of-two : ℕ → Given
+of-two k = record { sheet = sheet-held k 1 2; levels = pairs [] []; tables = [] }
+
+-- held after its first step: five signs are turned, not ten and not six; held from the start: none
+pub held-one : fixed turning (of-two 1) 10 0 ≡ make (λ b. neg one ∷ [])
+unfolding fixed channel joined neg
+held-one = refl
+
+pub held-none : fixed turning (of-two 0) 10 0 ≡ make (λ b. one ∷ [])
+unfolding fixed channel joined neg
+held-none = refl
+
+-- it takes its turns all the same, and keeps the number of its last project; with no project, 0
+abbrev all-ten : List Call
+all-ten = step ++ on fidelity 0 ∷ blend ∷ on move 0 ∷ on project 0 ∷ []
+
+pub held-kept : plainPlaces turning (of-two 1) all-ten (noneYet (of-two 1)) ≡ kept-at 10 7 ∷ []
+unfolding plainPlaces plain fixed kept channel joined isBlown neg
+held-kept = refl
+
+pub held-never-kept : plainPlaces turning (of-two 0) all-ten (noneYet (of-two 0)) ≡ kept-at 10 0 ∷ []
+unfolding plainPlaces plain fixed kept channel joined isBlown neg
+held-never-kept = refl

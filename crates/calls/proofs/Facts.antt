@@ -24,6 +24,7 @@ pub record OwnIs (S : Sheet) (o : Numbers) : Type 0 where
   pub covers-across : o .width * o .across ≤ S .W
   pub covers-down : o .height * o .down ≤ S .H
   pub weight-ok : T (weight (o .data-weight))
+  pub held-most : o .held ≤ S .N
 
 pub own-is : (S : Sheet) (o : Numbers) → T (ownOk S o) → OwnIs S o
 unfolding ownOk
@@ -40,6 +41,7 @@ own-is S o t =
       covers-across = leb→le (o .width * o .across) (S .W) (search (and-l, and-r) depth 12);
       covers-down = leb→le (o .height * o .down) (S .H) (search (and-l, and-r) depth 12);
       weight-ok = search (and-l, and-r) depth 12;
+      held-most = leb→le (o .held) (S .N) (search (and-l, and-r) depth 12);
     }
 
 one-or-three : (n : ℕ) → T (eqb n 1 || eqb n 3) → (n ≡ 1) ⊎ (n ≡ 3)

@@ -8,3 +8,4 @@ pub mod Step
 pub mod Turns
 pub mod Runs
 pub mod Unmarked
+pub mod Held

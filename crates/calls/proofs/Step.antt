@@ -5,17 +5,17 @@ use Prim.Native.Nat.{ℕ, zero, suc, _*_, _/_, _%_, _≤_, _<_}
 use native.Mathlib.Nat.{not-suc-le-zero, le-of-suc-le-suc}
 use native.Mathlib.Omega.{arith}
 use native.Mathlib.Decide.{ℕ-discrete}
-use mathlib.Core.Bool.{Bool, true, false}
+use mathlib.Core.Bool.{Bool, true, false, cond}
 use mathlib.Core.List.{List, [], _∷_, map}
 use lib.Dec.{eqb}
 use lib.Ieee.Fits.{and-i}
 use lib.ListN.{length, getD, set, take}
 use lib.Seq.{getD-take, length-take-le}
 use lib.Ieee.{Float, nan}
-use Rattle.calls.specs.Run.{Place, Given, place, count, area, coefs, sheetOk, placesOk}
+use Rattle.calls.specs.Run.{Place, Given, place, count, area, coefs, held, sheetOk, placesOk}
 use Rattle.start.specs.Buffers.{Buffers}
 use Rattle.calls.specs.Buffers.{Name, Saved, channel, putChannel, joined, Sized}
-use Rattle.calls.specs.Jobs.{Job, push, fidelity, move, project, Call, on, blend, turn, blendTurn, Jobs, next, fixed, kept, channelBlown, Seen, seen, seenAt}
+use Rattle.calls.specs.Jobs.{Job, push, fidelity, move, project, Call, on, blend, turn, blendTurn, Jobs, next, fixed, working, clips, kept, channelBlown, Seen, seen, seenAt}
 use Rattle.projection.specs.Blown.{bad, anyBad, isBlown}
 use Rattle.calls.specs.Calls.{State, Called, first, turnTests, lent, lentLevels, lengths, lendTests, refusal, advance, onward, reply, worked, seenIn, blendReply, accept, settle, call, Plain, plainAccept, plainSettle, plain}
 use Rattle.calls.specs.Between.{GivenOk, AllIn, Inv}
@@ -62,13 +62,22 @@ none-bad (x ∷ xs) e zero h = or-false-l (bad x) (anyBad xs) e
 none-bad (x ∷ xs) e (suc i) h = none-bad xs (or-false-r (bad x) (anyBad xs) e) i (le-of-suc-le-suc h)
 
 -- the kept number after one more job: a project's, or the one before
-kept-new : (J : Jobs) (G : Given) (p c : ℕ) → p % 5 ≡ turn project → kept J G (suc p) c ≡ J .clip G c (fixed J G p c)
+kept-new : (J : Jobs) (G : Given) (p c : ℕ) → p % 5 ≡ turn project → kept J G (suc p) c ≡ clips J G c (p / 5) (kept J G p c) (fixed J G p c)
 unfolding kept
 kept-new J G p c e = rw e
 
 kept-old : (J : Jobs) (G : Given) (p c r : ℕ) → p % 5 ≡ r → eqb r (turn project) ≡ false → kept J G (suc p) c ≡ kept J G p c
 unfolding kept
 kept-old J G p c r e f = rw (e, f)
+
+-- M-108: what holds of both holds of a channel that may be held
+either-way : (P : Buffers → Type 0) (h : Bool) (x y : Buffers) → P x → P y → P (cond h x y)
+either-way P true x y p q = p
+either-way P false x y p q = q
+
+pub either-most : (h : Bool) (m n k : ℕ) → m ≤ k → n ≤ k → cond h m n ≤ k
+either-most true m n k p q = p
+either-most false m n k p q = q
 
 -- a channel that is not blown has finite coefficients
 coefs-fine : (G : Given) (c : ℕ) (b : Buffers) → coefs (G .sheet) c ≤ length (b .saved) → channelBlown G c b ≡ false → (k : ℕ) → k < coefs (G .sheet) c → bad (getD (b .saved) k nan) ≡ false
@@ -85,13 +94,13 @@ module _ (J : Jobs) (laws : Laws J) (G : Given) (ok : GivenOk G) (s : State) (in
     unfolding fixed
     worked-is =
         let q : ℕ = place (s .places) c .position in
-        ap (J .work j G c (q / 5)) (inv .as-fixed c below)
-        ∙ sym (next-is J G j (q / 5) (fixed J G q) c)
-        ∙ ap (λ (r : ℕ). next J G r (q / 5) (fixed J G q) c) (sym (t .next))
+        ap (working J j G c (q / 5)) (inv .as-fixed c below)
+        ∙ ap (λ (b : Buffers). cond (held (G .sheet) c (q / 5)) (fixed J G q c) b)
+        (sym (next-is J G j (q / 5) (fixed J G q) c) ∙ ap (λ (r : ℕ). next J G r (q / 5) (fixed J G q) c) (sym (t .next)))
 
     -- and what it tells is told of the buffers fixed for both counts
     told-is : seenIn J G j c s ≡ seenAt J G (place (s .places) c .position) c
-    told-is = λ i. seen J G c (inv .as-fixed c below i) (worked-is i)
+    told-is = λ i. seen J G c (place (s .places) c .position / 5) (inv .as-kept c below i) (inv .as-fixed c below i) (worked-is i)
 
     x : Buffers
     x = worked J G j c s
@@ -105,7 +114,10 @@ module _ (J : Jobs) (laws : Laws J) (G : Given) (ok : GivenOk G) (s : State) (in
 
     x-sized : Sized (area G) x
     unfolding x
-    x-sized = laws .work-sized j G ok c (place (s .places) c .position / 5) below (channel (area G) c (s .buffers)) part-sized
+    x-sized =
+        let b : Buffers = channel (area G) c (s .buffers) in
+        let step : ℕ = place (s .places) c .position / 5 in
+        either-way (Sized (area G)) (held (G .sheet) c step) b (J .work j G c step b) part-sized (laws .work-sized j G ok c step below b part-sized)
 
     -- its coefficients are in their intervals, unless it is now marked
     x-in : o .mark ≡ false → AllIn G c x
@@ -124,11 +136,20 @@ module _ (J : Jobs) (laws : Laws J) (G : Given) (ok : GivenOk G) (s : State) (in
         long : coefs (G .sheet) c ≤ length (J .work project G c step b .saved)
         long = omega (arith, coefs-fit G ok c below, laws .work-sized project G ok c step below b part-sized Saved)
 
-        go : (i : Job) → advance i (seen J G c b (J .work i G c step b)) (place (s .places) c) .mark ≡ false → AllIn G c (J .work i G c step b)
-        go push e = laws .push-in G ok c step below b part-sized was
-        go fidelity e = laws .fidelity-in G ok c step below b part-sized was
-        go move e = laws .move-in G ok c step below b part-sized was
-        go project e = λ k h. laws .project-in G ok c step below b part-sized was k h (coefs-fine G c (J .work project G c step b) long e k h)
+        -- a held channel's are as they were
+        or-held : (i : Job) → AllIn G c (J .work i G c step b) → AllIn G c (working J i G c step b)
+        or-held i = either-way (AllIn G c) (held (G .sheet) c step) b (J .work i G c step b) was
+
+        projected : (h : Bool) → channelBlown G c (cond h b (J .work project G c step b)) ≡ false → AllIn G c (cond h b (J .work project G c step b))
+        projected true e = was
+        projected false e = λ k h. laws .project-in G ok c step below b part-sized was k h (coefs-fine G c (J .work project G c step b) long e k h)
+
+        go : (i : Job) → advance i (seen J G c step (place (s .places) c .clipped) b (working J i G c step b)) (place (s .places) c) .mark ≡ false
+            → AllIn G c (working J i G c step b)
+        go push e = or-held push (laws .push-in G ok c step below b part-sized was)
+        go fidelity e = or-held fidelity (laws .fidelity-in G ok c step below b part-sized was)
+        go move e = or-held move (laws .move-in G ok c step below b part-sized was)
+        go project e = projected (held (G .sheet) c step) e
 
     -- a mark is new, and tells that the job's result is blown
     x-marked : o .mark ≡ true → channelBlown G c x ≡ true
@@ -153,7 +174,7 @@ module _ (J : Jobs) (laws : Laws J) (G : Given) (ok : GivenOk G) (s : State) (in
         go push e = inv .as-kept c below ∙ sym (kept-old J G p c 0 e refl)
         go fidelity e = inv .as-kept c below ∙ sym (kept-old J G p c 1 e refl)
         go move e = inv .as-kept c below ∙ sym (kept-old J G p c 3 e refl)
-        go project e = ap (J .clip G c) (inv .as-fixed c below) ∙ sym (kept-new J G p c e)
+        go project e = (λ i. clips J G c (p / 5) (inv .as-kept c below i) (inv .as-fixed c below i)) ∙ sym (kept-new J G p c e)
 
     -- the lent buffers and the places afterwards
     B′ : Buffers
@@ -228,6 +249,13 @@ module _ (J : Jobs) (laws : Laws J) (G : Given) (ok : GivenOk G) (s : State) (in
               ∙ inv .marked d q (ap (λ (r : Place). r .mark) (sym (at-elsewhere d f)) ∙ m)
         ]
 
+    -- no more are clipped than the channel has
+    clipped-most : seenIn J G j c s .clipped ≤ coefs (G .sheet) c
+    clipped-most =
+        let b : Buffers = channel (area G) c (s .buffers) in
+        either-most (held (G .sheet) c (place (s .places) c .position / 5)) (place (s .places) c .clipped) (J .clip G c b) (coefs (G .sheet) c)
+        (inv .legal-places .each c below .clipped-most) (laws .clip-most G c b)
+
     pub job-good : Good J G (accept J G (on j c) s) (plainAccept J G (on j c) (s .places))
     unfolding x o B′ ps′
     job-good =
@@ -236,7 +264,7 @@ module _ (J : Jobs) (laws : Laws J) (G : Given) (ok : GivenOk G) (s : State) (in
           same-places = ap (λ (x : Seen). set (s .places) c (advance j x (place (s .places) c))) told-is;
           again =
               record {
-                legal-places = job-legal (G .sheet) (s .places) j c (seenIn J G j c s) (inv .legal-places) below t (laws .clip-most G c (channel (area G) c (s .buffers)));
+                legal-places = job-legal (G .sheet) (s .places) j c (seenIn J G j c s) (inv .legal-places) below t clipped-most;
                 sized = put-sized (area G) c (count G) (s .buffers) (inv .sized) below x x-sized;
                 as-fixed = after-fixed;
                 as-kept = after-kept;
@@ -267,11 +295,16 @@ module _ (J : Jobs) (laws : Laws J) (G : Given) (ok : GivenOk G) (s : State) (in
 
     blend-fixed : (c : ℕ) → c < count G → channel (area G) c after-blend ≡ fixed J G (suc q) c
     unfolding after-blend fixed q
-    blend-fixed c h =
-        let turn-is : place (s .places) 0 .position % 5 ≡ 2 = t 0 (omega arith) .next in
-        sym
-        (ap (λ (r : ℕ). next J G r (q / 5) (fixed J G q) c) turn-is
-        ∙ ap (λ (B : Buffers). channel (area G) c (J .blending G (q / 5) B)) all-fixed)
+    blend-fixed c h = go (held (G .sheet) c (q / 5)) refl
+      where
+        go : (d : Bool) → held (G .sheet) c (q / 5) ≡ d
+            → channel (area G) c (J .blending G (q / 5) (s .buffers)) ≡ cond d (fixed J G q c) (next J G (q % 5) (q / 5) (fixed J G q) c)
+        go true e = laws .blend-held G ok (q / 5) c h e (s .buffers) (inv .sized) ∙ inv .as-fixed c h ∙ ap (λ (r : ℕ). fixed J G r c) (at-q c h)
+        go false e =
+            let turn-is : place (s .places) 0 .position % 5 ≡ 2 = t 0 (omega arith) .next in
+            sym
+            (ap (λ (r : ℕ). next J G r (q / 5) (fixed J G q) c) turn-is
+            ∙ ap (λ (B : Buffers). channel (area G) c (J .blending G (q / 5) B)) all-fixed)
 
     at-blended : (c : ℕ) → c < count G → place (map onward (s .places)) c ≡ onward (place (s .places) c)
     at-blended c h = place-blended (G .sheet) (s .places) (inv .legal-places) t c h

@@ -1,18 +1,20 @@
 -- A run whose fixed buffers are never blown marks no channel, whatever calls are made, for any jobs.
 use mathlib.Core.Path.{_≡_, refl, ap, _∙_, subst}
-use Prim.Native.Nat.{ℕ, zero, suc, _*_, _≤_, _<_}
+use Prim.Native.Nat.{ℕ, zero, suc, _*_, _/_, _%_, _≤_, _<_}
 use native.Mathlib.Omega.{arith}
 use native.Mathlib.Decide.{ℕ-discrete}
 use mathlib.Core.Bool.{false}
 use mathlib.Core.List.{List, [], _∷_, map}
+use lib.Dec.{eqb}
 use lib.ListN.{set}
-use Rattle.calls.specs.Run.{Place, Given, place, count, coefs}
+use Rattle.calls.specs.Run.{Place, Given, place, count, coefs, held}
 use Rattle.start.specs.Buffers.{Buffers}
-use Rattle.calls.specs.Jobs.{Job, push, fidelity, move, project, Call, on, blend, turn, blendTurn, Jobs, fixed, channelBlown, seenAt}
+use Rattle.calls.specs.Jobs.{Job, push, fidelity, move, project, Call, on, blend, turn, blendTurn, Jobs, fixed, clips, kept, channelBlown, seenAt}
 use Rattle.calls.specs.Calls.{State, done, first, turnTests, onward, advance, start, final, noneYet, plain, plainAccept, plainSettle, plainPlaces}
 use Rattle.calls.specs.Between.{PlacesAre}
 use Rattle.calls.specs.Laws.{Laws}
 use Rattle.calls.proofs.Legal.{Ready, ready-of, blend-ready-of, place-here, place-elsewhere, job-legal, place-blended, blend-legal}
+use Rattle.calls.proofs.Step.{either-most}
 use Rattle.calls.proofs.Runs.{at-fresh, fresh-are, demand3}
 
 module _ (J : Jobs) (G : Given) (most : (c : ℕ) (b : Buffers) → J .clip G c b ≤ coefs (G .sheet) c)
@@ -20,6 +22,17 @@ module _ (J : Jobs) (G : Given) (most : (c : ℕ) (b : Buffers) → J .clip G c 
   record Unmarked (ps : List Place) : Type 0 where
     are : PlacesAre (G .sheet) ps
     none : (c : ℕ) → c < count G → place ps c .mark ≡ false
+
+  -- no more are clipped, and kept, than the channel has
+  clips-most : (c step last : ℕ) (b : Buffers) → last ≤ coefs (G .sheet) c → clips J G c step last b ≤ coefs (G .sheet) c
+  clips-most c step last b h = either-most (held (G .sheet) c step) last (J .clip G c b) (coefs (G .sheet) c) h (most c b)
+
+  kept-most : (p c : ℕ) → kept J G p c ≤ coefs (G .sheet) c
+  unfolding kept
+  kept-most zero c = omega arith
+  kept-most (suc p) c =
+      either-most (eqb (p % 5) (turn project)) (clips J G c (p / 5) (kept J G p c) (fixed J G p c)) (kept J G p c) (coefs (G .sheet) c)
+      (clips-most c (p / 5) (kept J G p c) (fixed J G p c) (kept-most p c)) (kept-most p c)
 
   one-on : (j : Job) (c : ℕ) (p : Place) → c < count G → p .mark ≡ false → p .position ≤ 5 * G .sheet .N → (p .position ≡ 5 * G .sheet .N → ⊥)
       → advance j (seenAt J G (p .position) c) p .mark ≡ false
@@ -33,7 +46,8 @@ module _ (J : Jobs) (G : Given) (most : (c : ℕ) (b : Buffers) → J .clip G c 
     job-unmarked j c below r =
         let p : Place = advance j (seenAt J G (place ps c .position) c) (place ps c) in
         record {
-          are = job-legal (G .sheet) ps j c (seenAt J G (place ps c .position) c) (u .are) below r (most c (fixed J G (place ps c .position) c));
+          are = job-legal (G .sheet) ps j c (seenAt J G (place ps c .position) c) (u .are) below r
+              (clips-most c (place ps c .position / 5) (kept J G (place ps c .position) c) (fixed J G (place ps c .position) c) (kept-most (place ps c .position) c));
           none =
               λ d h.
               elim (ℕ-discrete c d) [

@@ -11,7 +11,7 @@ use Rattle.calls.specs.Run.{Sheet, Place, Given, fresh, place, count, ar
 use Rattle.start.specs.Buffers.{Buffers}
 use Rattle.start.specs.Coef.{Levels}
 use Rattle.calls.specs.Buffers.{Name, Plane, Prior, Gradient, Across, Down, Saved, get, channel, putChannel, joined}
-use Rattle.calls.specs.Jobs.{Job, push, fidelity, move, project, Call, on, blend, turn, blendTurn, Jobs, Seen, seen, seenAt, totalsAt}
+use Rattle.calls.specs.Jobs.{Job, push, fidelity, move, project, Call, on, blend, turn, blendTurn, Jobs, Seen, working, seen, seenAt, totalsAt}
 pub use Rattle.answers.specs.Tests.{Tests, first, test, all, tableOk, levelOk}
 
 -- a call's answer: the refusal's number in the table; accepted; accepted, and the channel is now marked blown; blend accepted, with both its totals
@@ -134,11 +134,12 @@ reply project x = cond (x .blown) blown done
 
 -- channel c's buffers after its job; the step is the position's fifth
 abbrev pub worked : Jobs → Given → Job → ℕ → State → Buffers
-worked J G j c s = J .work j G c (place (s .places) c .position / 5) (channel (area G) c (s .buffers))
+worked J G j c s = working J j G c (place (s .places) c .position / 5) (channel (area G) c (s .buffers))
 
 -- and what the job tells
 abbrev pub seenIn : Jobs → Given → Job → ℕ → State → Seen
-seenIn J G j c s = seen J G c (channel (area G) c (s .buffers)) (worked J G j c s)
+seenIn J G j c s =
+    seen J G c (place (s .places) c .position / 5) (place (s .places) c .clipped) (channel (area G) c (s .buffers)) (worked J G j c s)
 
 -- "Blend also returns the f64 totals of `tv_gradient` and `tgv_gradient`" (document 02, M-103)
 abbrev pub blendReply : Float × Float → Answer

@@ -4,7 +4,7 @@ use Prim.Native.Nat.{ℕ, zero, suc, _/_, _%_}
 use mathlib.Core.Bool.{Bool, cond}
 use lib.Dec.{eqb}
 use lib.Ieee.{Float}
-use Rattle.calls.specs.Run.{Given, count, area, coefs}
+use Rattle.calls.specs.Run.{Given, count, area, coefs, held}
 use Rattle.start.specs.Buffers.{Buffers}
 use Rattle.projection.specs.Blown.{isBlown}
 use Rattle.calls.specs.Buffers.{channel, joined}
@@ -50,14 +50,23 @@ next J G (suc (suc (suc zero))) step before c = J .work move G c step (before c)
 next J G (suc (suc (suc (suc k)))) step before c = J .work project G c step (before c)
 
 -- "Buffers at position 0 are start's, and those at p + 1 follow from that channel's at p, for blend from all channels' at p; this recursion alone fixes them."
+-- M-108: "the position recursion includes this rule": the buffers of a held channel at p + 1 are those at p.
 unfoldable pub fixed : Jobs → Given → ℕ → ℕ → Buffers
 fixed J G zero c = J .start G c
-fixed J G (suc p) c = next J G (p % 5) (p / 5) (fixed J G p) c
+fixed J G (suc p) c = cond (held (G .sheet) c (p / 5)) (fixed J G p c) (next J G (p % 5) (p / 5) (fixed J G p) c)
+
+-- what a job of one channel makes of its buffers in a step, M-108's rule included
+abbrev pub working : Jobs → Job → Given → ℕ → ℕ → Buffers → Buffers
+working J j G c step b = cond (held (G .sheet) c step) b (J .work j G c step b)
+
+-- the number that project returns and keeps, by that of the project before: "Its project returns and keeps the last clipped number" (M-108)
+abbrev pub clips : Jobs → Given → ℕ → ℕ → ℕ → Buffers → ℕ
+clips J G c step last b = cond (held (G .sheet) c step) last (J .clip G c b)
 
 -- M-104: the number that channel c keeps for a count, 0 at the start. A project gives it anew, the other jobs leave it: "the last number".
 unfoldable pub kept : Jobs → Given → ℕ → ℕ → ℕ
 kept J G zero c = 0
-kept J G (suc p) c = cond (eqb (p % 5) (turn project)) (J .clip G c (fixed J G p c)) (kept J G p c)
+kept J G (suc p) c = cond (eqb (p % 5) (turn project)) (clips J G c (p / 5) (kept J G p c) (fixed J G p c)) (kept J G p c)
 
 -- the condition of job 5, of channel c with these buffers: "any plane value or saved coefficient is NaN or infinite"
 abbrev pub channelBlown : Given → ℕ → Buffers → Bool
@@ -70,13 +79,13 @@ pub record Seen : Type 0 where
   -- how many coefficients project clips
   pub clipped : ℕ
 
--- by the channel's buffers before and after the job
-abbrev pub seen : Jobs → Given → ℕ → Buffers → Buffers → Seen
-seen J G c before after = record { blown = channelBlown G c after; clipped = J .clip G c before }
+-- by the step, the number kept before, and the channel's buffers before and after the job: "job 5's test for the mark stays" (M-108)
+abbrev pub seen : Jobs → Given → ℕ → ℕ → ℕ → Buffers → Buffers → Seen
+seen J G c step last before after = record { blown = channelBlown G c after; clipped = clips J G c step last before }
 
 -- of channel c's job after its first p, by the buffers fixed for these counts
 abbrev pub seenAt : Jobs → Given → ℕ → ℕ → Seen
-seenAt J G p c = seen J G c (fixed J G p c) (fixed J G (suc p) c)
+seenAt J G p c = seen J G c (p / 5) (kept J G p c) (fixed J G p c) (fixed J G (suc p) c)
 
 -- the totals of the blend at position p, by the buffers fixed for that count
 abbrev pub totalsAt : Jobs → Given → ℕ → Float × Float

@@ -1,10 +1,10 @@
 -- What demand 3 asks of the jobs' arithmetic.
 use Prim.Native.Nat.{ℕ, _*_, _≤_, _<_}
 use mathlib.Core.Path.{_≡_}
-use mathlib.Core.Bool.{false}
+use mathlib.Core.Bool.{true, false}
 use lib.ListN.{getD}
 use lib.Ieee.{nan}
-use Rattle.calls.specs.Run.{Given, count, area, coefs}
+use Rattle.calls.specs.Run.{Given, count, area, coefs, held}
 use Rattle.start.specs.Buffers.{Buffers}
 use Rattle.calls.specs.Buffers.{channel, Sized}
 use Rattle.calls.specs.Jobs.{Job, push, fidelity, move, project, Jobs}
@@ -25,5 +25,8 @@ pub record Laws (J : Jobs) : Type 0 where
       → (k : ℕ) → k < coefs (G .sheet) c → bad (getD (J .work project G c step b .saved) k nan) ≡ false → SavedIn G c k (J .work project G c step b)
   pub clip-most : (G : Given) (c : ℕ) (b : Buffers) → J .clip G c b ≤ coefs (G .sheet) c
   pub blend-sized : (G : Given) → GivenOk G → (step : ℕ) (B : Buffers) → Sized (count G * area G) B → Sized (count G * area G) (J .blending G step B)
+  -- blend leaves a held channel's buffers (M-108)
+  pub blend-held : (G : Given) → GivenOk G → (step c : ℕ) → c < count G → held (G .sheet) c step ≡ true → (B : Buffers) → Sized (count G * area G) B
+      → channel (area G) c (J .blending G step B) ≡ channel (area G) c B
   pub blend-in : (G : Given) → GivenOk G → (step c : ℕ) → c < count G → (B : Buffers) → Sized (count G * area G) B
       → AllIn G c (channel (area G) c B) → AllIn G c (channel (area G) c (J .blending G step B))

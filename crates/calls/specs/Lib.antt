@@ -6,3 +6,4 @@ pub mod Calls
 pub mod Demand
 pub mod Between
 pub mod Laws
+pub mod Held

@@ -11,13 +11,14 @@ use Rattle.fold.specs.Part.{part}
 use Rattle.start.specs.declared.coef.Reorder.{Reorder}
 use Rattle.start.specs.Coef.{Levels, lowAt, highAt, pairs}
 
--- a channel's own numbers: its sides, its factors and its data weight
+-- a channel's own numbers: its sides, its factors, its data weight, and the step after which it is held (M-108)
 pub record Numbers : Type 0 where
   pub width : ℕ
   pub height : ℕ
   pub across : ℕ
   pub down : ℕ
   pub data-weight : Float
+  pub held : ℕ
 
 -- full width and height, iterations, smoothing weight, the letter of M-102's line `A`, which only start looks at, and the channels: how many, and their own numbers
 pub record Sheet : Type 0 where
@@ -45,7 +46,7 @@ pub record Given : Type 0 where
 -- ---- channel c's own numbers and its place
 
 abbrev pub own : Sheet → ℕ → Numbers
-own S c = getD (S .owns) c (record { width = 0; height = 0; across = 0; down = 0; data-weight = nan })
+own S c = getD (S .owns) c (record { width = 0; height = 0; across = 0; down = 0; data-weight = nan; held = 0 })
 
 abbrev pub fresh : Place
 fresh = record { position = 0; mark = false; clipped = 0 }
@@ -93,6 +94,13 @@ abbrev pub among : ℕ → (ℕ → Bool) → Bool
 among zero f = false
 among (suc k) f = among k f || f k
 
+-- ---- M-108: "After its held step a channel still takes its turns, but push, data, move and project leave its buffers unchanged"
+
+-- Channel c of the run is held in a step, steps counted from 0. A job's step is its position's fifth: so a channel that is held after k steps is so
+-- in each job from position 5k on.
+abbrev pub held : Sheet → ℕ → ℕ → Bool
+held S c step = ltb c (S .count) && leb (own S c .held) step
+
 -- ---- legal records: "numbers within the sheet's rules, equal blends in all channels, marks only at positive multiples of 5"; and of the kept
 -- numbers (M-104) "A kept number above w × h, or not 0 before the first project, is 13"
 
@@ -113,11 +121,12 @@ weight nan = false
 weight (inf s) = false
 weight (fin s m e) = not s
 
--- "w × across ≤ W, h × down ≤ H"
+-- "w × across ≤ W, h × down ≤ H"; "a count above the iterations" (M-108) is 13 in a record
 unfoldable pub ownOk : Sheet → Numbers → Bool
 ownOk S o =
     side (o .width) && side (o .height) && factor (o .across) && factor (o .down)
     && leb (o .width * o .across) (S .W) && leb (o .height * o .down) (S .H) && weight (o .data-weight)
+    && leb (o .held) (S .N)
 
 -- "channels (1 or 3)", "iteration counts (0 to 1,000)"
 unfoldable pub headerOk : Sheet → Bool
