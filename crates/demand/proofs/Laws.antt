@@ -15,7 +15,7 @@ use Rattle.start.specs.Coef.{Covers, lowAt, highAt, quantAt, pxCount}
 use Rattle.work.specs.Work as Solver
 use Rattle.work.specs.Work.{starting, blending, projecting}
 use Rattle.work.proofs.Laws as Solver-laws
-use Rattle.calls.specs.Run.{Sheet, Given, own, count, area, coefs, low, high, quantiser, levelsBefore}
+use Rattle.calls.specs.Run.{Sheet, Given, own, count, area, coefs, low, high, quantiser, levelsBefore, held}
 use Rattle.calls.specs.Buffers.{channel, Sized}
 use Rattle.calls.specs.Jobs.{Job, push, fidelity, move, project}
 use Rattle.calls.specs.Calls.{all, tableOk}
@@ -112,7 +112,7 @@ stays : (G : Given) (c : ℕ) (b d : Buffers) → d .saved ≡ b .saved → AllI
 stays G c b d e i k l = rw e (i k l)
 
 blending-in : (G : Given) (step c : ℕ) (B : Buffers) → AllIn G c (channel (area G) c B)
-    → AllIn G c (channel (area G) c (blending (G .sheet .W) (G .sheet .H) (count G) (constantsOf (G .sheet) step) B))
+    → AllIn G c (channel (area G) c (blending (G .sheet .W) (G .sheet .H) (count G) (λ c. held (G .sheet) c step) (constantsOf (G .sheet) step) B))
 unfolding channel blending
 blending-in G step c B i = i
 
@@ -137,6 +137,9 @@ laws =
       clip-most = λ G c b. omega (arith, Solver-laws.clipping-most (coefOf G c) (G .sheet .W) (G .sheet .H) b, coef-count G c);
       blend-sized =
           λ G ok step B z.
-          Solver-laws.blending-sized (count G * area G) (G .sheet .W) (G .sheet .H) (count G) (constantsOf (G .sheet) step) B z;
+          Solver-laws.blending-sized (count G * area G) (G .sheet .W) (G .sheet .H) (count G) (λ c. held (G .sheet) c step) (constantsOf (G .sheet) step) B z;
+      blend-held =
+          λ G ok step c h e B z.
+          Solver-laws.blending-left (G .sheet .W) (G .sheet .H) (count G) (λ c. held (G .sheet) c step) (constantsOf (G .sheet) step) B z c h e;
       blend-in = λ G ok step c h B z i. blending-in G step c B i;
     }

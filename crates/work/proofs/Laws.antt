@@ -1,10 +1,12 @@
 -- Every job keeps the lengths; start's saved coefficients are in their intervals, and project's unless they are not finite; the other jobs leave
 -- saved alone.
 use mathlib.Core.Path.{_≡_, refl, sym, ap, _∙_, subst}
-use mathlib.Core.Bool.{false, true≢false}
-use Prim.Native.Nat.{ℕ, _*_, _%_, _<_, _≤_}
+use mathlib.Core.Bool.{Bool, true, false, true≢false}
+use mathlib.Core.List.{List}
+use Prim.Native.Nat.{ℕ, _+_, _-_, _*_, _%_, _<_, _≤_}
 use native.Mathlib.Omega.{arith}
-use lib.ListN.{length, replicate, length-replicate}
+use lib.ListN.{length, drop, replicate, length-replicate}
+use lib.Seq.{getD-take, getD-drop, ext-getD}
 use lib.Ieee.{Float, nan}
 use Rattle.float.specs.Names.{f0, val}
 use Rattle.interval.specs.Interval.{InInterval, clampTo, dequantised}
@@ -13,6 +15,8 @@ use Rattle.interval.proofs.HalfSum.{mid-in}
 use Rattle.steps.specs.declared.solve.Constants.{Constants}
 use Rattle.steps.proofs.Laws.{moved-length, push-plane-length, push-prior-length}
 use Rattle.gradients.specs.Tv.{Terms}
+use Rattle.gradients.specs.Apart.{NotWritten}
+use Rattle.gradients.proofs.Apart.{not-written}
 use Rattle.gradients.proofs.Laws.{blended-across-length, blended-down-length, blended-gradient-length}
 use Rattle.start.specs.declared.coef.Reorder.{Reorder}
 use Rattle.start.specs.Buffers.{Buffers}
@@ -26,7 +30,8 @@ use Rattle.fidelity.proofs.Lengths.{dataGradient-length}
 use Rattle.start.proofs.Lengths.{initDctTarget-length, initPixels-length}
 use Rattle.projection.proofs.Writes.{clipped-most, projected-saved}
 use Rattle.start.proofs.Writes.{initDctTarget-at}
-use Rattle.calls.specs.Buffers.{Plane, Prior, Gradient, Across, Down, Saved, Sized}
+use Rattle.calls.specs.Buffers.{Name, Plane, Prior, Gradient, Across, Down, Saved, get, make, partOf, channel, Sized}
+use Rattle.calls.proofs.Parts.{length-part}
 use Rattle.work.specs.Work.{CoefsIn, Legal, CoefIn, blending, boxOf, clipping, dataJob, moving, projecting, pushing, starting}
 
 -- ---- lengths
@@ -58,18 +63,54 @@ dataJob-sized C W H weight b z Across = z Across
 dataJob-sized C W H weight b z Down = z Down
 dataJob-sized C W H weight b z Saved = z Saved
 
-module _ (m W H n : ℕ) (k : Constants) (b : Buffers) (z : Sized m b) where
+module _ (m W H n : ℕ) (held : ℕ → Bool) (k : Constants) (b : Buffers) (z : Sized m b) where
   terms : Terms
   terms = record { gradient = b .gradient; across = b .across; down = b .down }
 
-  pub blending-sized : Sized m (blending W H n k b)
+  pub blending-sized : Sized m (blending W H n held k b)
   unfolding blending terms
   blending-sized Plane = z Plane
   blending-sized Prior = z Prior
-  blending-sized Gradient = blended-gradient-length W H n (k .second) (b .plane) terms ∙ z Gradient
-  blending-sized Across = blended-across-length W H n (k .second) (b .plane) terms ∙ z Across
-  blending-sized Down = blended-down-length W H n (k .second) (b .plane) terms ∙ z Down
+  blending-sized Gradient = blended-gradient-length W H n held (k .second) (b .plane) terms ∙ z Gradient
+  blending-sized Across = blended-across-length W H n held (k .second) (b .plane) terms ∙ z Across
+  blending-sized Down = blended-down-length W H n held (k .second) (b .plane) terms ∙ z Down
   blending-sized Saved = z Saved
+
+-- M-108: blend leaves the buffers of a held channel
+
+-- a channel's parts of two buffers are equal where its values are
+part-equal : (area n c : ℕ) (xs ys : List Float) → length xs ≡ n * area → length ys ≡ n * area → c < n
+    → ((o : ℕ) → o < area → val xs (c * area + o) ≡ val ys (c * area + o)) → partOf area c xs ≡ partOf area c ys
+part-equal area n c xs ys long-xs long-ys below e =
+    let at : (zs : List Float) (o : ℕ) → o < area → val (partOf area c zs) o ≡ val zs (c * area + o) =
+    λ zs o l. getD-take (c * area + area - c * area) (drop (c * area) zs) o nan (omega arith) ∙ getD-drop (c * area) zs o nan in
+    let xs-part = length-part area c n xs long-xs below in
+    ext-getD nan (partOf area c xs) (partOf area c ys) (xs-part ∙ sym (length-part area c n ys long-ys below))
+    (λ o l. let m : o < area = omega (arith, l, xs-part) in at xs o m ∙ e o m ∙ sym (at ys o m))
+
+module _ (W H n : ℕ) (held : ℕ → Bool) (k : Constants) (B : Buffers) (z : Sized (n * (W * H)) B) (c : ℕ) (below : c < n) (stays : held c ≡ true) where
+  left : NotWritten W H n held (k .second) (B .plane) (record { gradient = B .gradient; across = B .across; down = B .down })
+  left = not-written W H n held (k .second) (B .plane) (record { gradient = B .gradient; across = B .across; down = B .down })
+
+  -- each of the six
+  each-left : (b : Name) → partOf (W * H) c (get b (blending W H n held k B)) ≡ partOf (W * H) c (get b B)
+  unfolding blending
+  each-left Plane = refl
+  each-left Prior = refl
+  each-left Gradient =
+      part-equal (W * H) n c (get Gradient (blending W H n held k B)) (B .gradient) (blending-sized (n * (W * H)) W H n held k B z Gradient) (z Gradient) below
+      (λ o l. left .gradient-left c o l stays)
+  each-left Across =
+      part-equal (W * H) n c (get Across (blending W H n held k B)) (B .across) (blending-sized (n * (W * H)) W H n held k B z Across) (z Across) below
+      (λ o l. left .across-left c o l stays)
+  each-left Down =
+      part-equal (W * H) n c (get Down (blending W H n held k B)) (B .down) (blending-sized (n * (W * H)) W H n held k B z Down) (z Down) below
+      (λ o l. left .down-left c o l stays)
+  each-left Saved = refl
+
+  pub blending-left : channel (W * H) c (blending W H n held k B) ≡ channel (W * H) c B
+  unfolding channel
+  blending-left = λ i. make (λ b. each-left b i)
 
 pub moving-sized : (n : ℕ) (k : Constants) (b : Buffers) → Sized n b → Sized n (moving k b)
 unfolding moving
@@ -105,10 +146,10 @@ pub dataJob-saved : (C : Coef) (W H : ℕ) (weight : Float) (b : Buffers) → da
 unfolding dataJob
 dataJob-saved C W H weight b = refl
 
-pub blending-leaves : (W H n : ℕ) (k : Constants) (b : Buffers)
-    → (blending W H n k b .plane ≡ b .plane) × (blending W H n k b .prior ≡ b .prior) × (blending W H n k b .saved ≡ b .saved)
+pub blending-leaves : (W H n : ℕ) (held : ℕ → Bool) (k : Constants) (b : Buffers)
+    → (blending W H n held k b .plane ≡ b .plane) × (blending W H n held k b .prior ≡ b .prior) × (blending W H n held k b .saved ≡ b .saved)
 unfolding blending
-blending-leaves W H n k b = (refl, refl, refl)
+blending-leaves W H n held k b = (refl, refl, refl)
 
 pub moving-saved : (k : Constants) (b : Buffers) → moving k b .saved ≡ b .saved
 unfolding moving

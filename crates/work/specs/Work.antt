@@ -1,6 +1,7 @@
 -- The jobs of document 01, "Jobs and positions", over the definitions of the Rust's files. A buffer that a job does not name is as it was.
 use mathlib.Core.Path.{_≡_}
 use Prim.Native.Nat.{ℕ, _%_, _<_, _≤_}
+use mathlib.Core.Bool.{Bool}
 use lib.IntN.{natAbs}
 use lib.Signed.{_≤ℤ_}
 use lib.Ieee.{Float}
@@ -34,15 +35,15 @@ dataJob C W H weight b =
     let g = dataGradient C W H weight (b .saved) in
     record { plane = b .plane; prior = b .prior; gradient = g; across = b .across; down = b .down; saved = b .saved }
 
--- 3, blend, of the lent buffers, which hold those of all n channels
-unfoldable pub blending : ℕ → ℕ → ℕ → Constants → Buffers → Buffers
-blending W H n k B =
-    let t = blended W H n (k .second) (B .plane) (record { gradient = B .gradient; across = B .across; down = B .down }) in
+-- 3, blend, of the lent buffers, which hold those of all n channels; those that are held are left out (M-108)
+unfoldable pub blending : ℕ → ℕ → ℕ → (ℕ → Bool) → Constants → Buffers → Buffers
+blending W H n held k B =
+    let t = blended W H n held (k .second) (B .plane) (record { gradient = B .gradient; across = B .across; down = B .down }) in
     record { plane = B .plane; prior = B .prior; gradient = t .gradient; across = t .across; down = t .down; saved = B .saved }
 
 -- and the totals of both its gradients
-unfoldable pub blendTotals : ℕ → ℕ → ℕ → Constants → Buffers → Totals
-blendTotals W H n k B = totals W H n (k .second) (B .plane) (record { gradient = B .gradient; across = B .across; down = B .down })
+unfoldable pub blendTotals : ℕ → ℕ → ℕ → (ℕ → Bool) → Constants → Buffers → Totals
+blendTotals W H n held k B = totals W H n held (k .second) (B .plane) (record { gradient = B .gradient; across = B .across; down = B .down })
 
 -- 4, move
 unfoldable pub moving : Constants → Buffers → Buffers
