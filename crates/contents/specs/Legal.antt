@@ -13,6 +13,7 @@ use Rattle.contents.specs.declared.Limits.{Limits}
 use Rattle.contents.specs.declared.Header.{Header}
 use Rattle.contents.specs.declared.Channel.{Channel}
 use Rattle.contents.specs.declared.Sheet.{Sheet}
+use Rattle.contents.specs.Hold.{LegalHold}
 use Rattle.contents.specs.Sheets.{Lent, Held, noChannel, channelAt, levelsTo}
 
 pub record Between (a b n : ℕ) : Type 0 where
@@ -82,6 +83,7 @@ LegalRanges (l ∷ ls) (h ∷ hs) = (leZ l h ≡ true) × LegalRanges ls hs
 pub record LegalSheet (limits : Limits) (s : Sheet) (h : Lent) : Type 0 where
   pub limits-legal : LegalLimits limits
   pub header : LegalHeader limits (s .header)
+  pub hold : LegalHold (s .header) (s .settings .hold)
   pub channel : (j : ℕ) → j < s .header .channels → LegalChannel (s .header) (channelAt s j)
   pub spare : (j : ℕ) → s .header .channels ≤ j → j < 3 → channelAt s j ≡ noChannel
   pub lows-count : length (h .lows) ≡ levelsTo s (s .header .channels)

@@ -10,6 +10,7 @@ use Rattle.contents.specs.declared.Channel.{Channel}
 use Rattle.contents.specs.declared.Sheet.{Sheet}
 use Rattle.contents.specs.declared.Weight.the-variants as weight
 use Rattle.contents.specs.declared.Choice.the-variants as choice
+use Rattle.contents.specs.declared.Hold.the-variants as hold
 use Rattle.contents.specs.declared.Settings.{Settings}
 
 -- What goes to the lent buffers: the lowest and the highest level of each place, and the tables
@@ -54,7 +55,7 @@ noHeader =
     }
 
 abbrev pub noSettings : Settings
-noSettings = record { rounding = choice.Unsaid; start = choice.Unsaid }
+noSettings = record { rounding = choice.Unsaid; start = choice.Unsaid; hold = hold.Unsaid }
 
 abbrev pub noChannel : Channel
 noChannel = record { width = 0; height = 0; across = 0; down = 0 }

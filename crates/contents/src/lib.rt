@@ -1,6 +1,7 @@
 // A sheet but for its text: the types that reading gives and solving takes.
 ghost use mathlib.Core.Path.{_≡_};
 ghost use Rattle.contents.specs.Weights.{valueOf};
+ghost use Rattle.contents.specs.Hold.{ofThree, measured, holdAt};
 
 // A weight: the bits of an f32, or a whole number.
 pub enum Weight {
@@ -48,10 +49,17 @@ pub enum Choice {
     Second,
 }
 
-// The settings: F, the rounding, t or n; A, the start, m or o.
+// After how many steps each channel is held: no line says it, or the three counts of line H.
+pub enum Hold {
+    Unsaid,
+    Counts(u32, u32, u32),
+}
+
+// The settings: F, the rounding, t or n; A, the start, m or o; H, the held steps.
 pub struct Settings {
     pub rounding: Choice,
     pub start: Choice,
+    pub hold: Hold,
 }
 
 // A sheet but for its levels and quantisers. With one channel the second and third are zero.
@@ -76,5 +84,46 @@ pub fn weight_value(w: Weight) -> f32
             f32::from_bits(b)
         }
         Weight::Whole(n) => n as f32,
+    }
+}
+
+// The one of three values at the place c; every number above 1 is the third place.
+fn of_three(c: u32, first: u32, second: u32, third: u32) -> u32
+    ensures { λ r. ⌜ r ≡ ofThree c first second third ⌝ }
+{
+    if c == 0 {
+        return first;
+    }
+    if c == 1 {
+        return second;
+    }
+    third
+}
+
+// The iteration count that a channel's held count is measured against. Ruled out: the second count of a sheet of three channels in joint mode; the
+// first count for each channel of a separate sheet.
+pub fn measured_by(h: Header, c: u32) -> u32
+    ensures { λ r. ⌜ r ≡ measured h c ⌝ }
+{
+    let own = of_three(c, h.iterations0, h.iterations1, h.iterations2);
+    if h.channels == 3 {
+        if h.joint {
+            return h.iterations0;
+        }
+        return own;
+    }
+    own
+}
+
+// After how many steps channel c is held; every number above 1 is the third channel. Ruled out: 0 where no line says it; the count of another channel.
+pub fn held_after(s: Sheet, c: u32) -> u32
+    ensures { λ r. ⌜ r ≡ holdAt s c ⌝ }
+{
+    let header = s.header;
+    let settings = s.settings;
+    let hold = settings.hold;
+    match hold {
+        Hold::Unsaid => measured_by(header, c),
+        Hold::Counts(first, second, third) => of_three(c, first, second, third),
     }
 }
