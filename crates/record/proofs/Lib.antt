@@ -5,3 +5,4 @@ pub mod Placed
 pub mod Sizes
 pub mod Tested
 pub mod Turns
+pub mod Held

@@ -17,7 +17,7 @@ use Rattle.record.specs.declared.Answer.{Answer}
 use Rattle.record.specs.declared.Answer.the-variants.{Refused, Done, Blown, Blended}
 
 abbrev pub ownOf : Channel → Numbers
-ownOf c = record { width = c .width; height = c .height; across = c .across; down = c .down; data-weight = c .weight }
+ownOf c = record { width = c .width; height = c .height; across = c .across; down = c .down; data-weight = c .weight; held = c .held }
 
 abbrev pub placeOf : Channel → Place
 placeOf c = record { position = c .position; mark = c .mark; clipped = c .clipped }
@@ -61,6 +61,7 @@ withPlace c p =
       across = c .across;
       down = c .down;
       weight = c .weight;
+      held = c .held;
       position = p .position;
       mark = p .mark;
       clipped = p .clipped;
@@ -76,7 +77,7 @@ placed r ps = withChannels r (withPlaces (r .channels) ps)
 
 -- what is read past the three channels
 abbrev pub noChannel : Channel
-noChannel = record { width = 0; height = 0; across = 0; down = 0; weight = nan; position = 0; mark = false; clipped = 0 }
+noChannel = record { width = 0; height = 0; across = 0; down = 0; weight = nan; held = 0; position = 0; mark = false; clipped = 0 }
 
 -- x is channel c of the record: its own numbers and its place are the model's
 pub record ChannelIs (r : Run) (c : ℕ) (x : Channel) : Type 0 where

@@ -41,15 +41,16 @@ fn weight_ok(x: f32) -> bool
     f32::to_bits(x) < 2139095040
 }
 
-// A channel's own numbers, in a sheet of w by h: its sides, factors, cover and data weight.
-fn own_ok(w: u32, h: u32, c: Channel) -> bool
-    ensures { λ r. ⌜ ((S : Sheet) → S .W ≡ w → S .H ≡ h → r ≡ ownOk S (ownOf c)) ⌝ }
+// A channel's own numbers, in a sheet of w by h and n iterations: its sides, factors, cover, data weight and held count.
+fn own_ok(w: u32, h: u32, n: u32, c: Channel) -> bool
+    ensures { λ r. ⌜ ((S : Sheet) → S .W ≡ w → S .H ≡ h → S .N ≡ n → r ≡ ownOk S (ownOf c)) ⌝ }
 {
     let across = (c.width as u64) * (c.across as u64) <= w as u64;
     let down = (c.height as u64) * (c.down as u64) <= h as u64;
     let sides = both(side_ok(c.width), side_ok(c.height));
     let factors = both(both(sides, factor_ok(c.across)), factor_ok(c.down));
-    both(both(both(factors, across), down), weight_ok(c.weight))
+    let weighed = both(both(both(factors, across), down), weight_ok(c.weight));
+    both(weighed, c.held <= n)
 }
 
 // A kept number of at most w × h, and 0 before the first project has ended, at position 5.
@@ -92,7 +93,7 @@ fn header_ok(run: Run) -> bool
 fn channel_ok(run: Run, first: u64, x: Channel) -> bool
     ensures { λ r. ⌜ r ≡ (ownOk (sheetOf run) (ownOf x) && placeOk (sheetOf run) (ownOf x) (placeOf x) && eqb (blendsIn (x .position)) first) ⌝ }
 {
-    let own = own_ok(run.w, run.h, x);
+    let own = own_ok(run.w, run.h, run.n, x);
     let place = place_ok(run.n, x);
     let equal = blends(x.position) == first;
     both(both(own, place), equal)
@@ -114,7 +115,7 @@ fn channels_ok(run: Run) -> bool
 }
 
 // Whether the record is legal, by the rules of document 01.
-// This rules out a record accepted with a position past 5N or a kept number above w × h, and one refused for a mark at a positive multiple of 5.
+// This rules out a record accepted with a position past 5N, a kept number above w × h or a held count above N, and one refused for a mark at a positive multiple of 5.
 pub fn legal(run: Run) -> bool
     ensures { λ r. ⌜ r ≡ legal (sheetOf run) (placesOf run) ⌝ }
 {

@@ -7,7 +7,8 @@ pub mod scans;
 use start::coef::Reorder;
 ghost use mathlib.Core.Path.{_≡_};
 
-// A channel of the run: own sides, factors across and down, data weight, position, mark, and how many coefficients its last project clipped.
+// A channel of the run: own sides, factors across and down, data weight, the step after which it is held (M-108), position, mark, and how many
+// coefficients its last project clipped.
 #[repr(C)]
 pub struct Channel {
     pub width: u32,
@@ -15,6 +16,7 @@ pub struct Channel {
     pub across: u32,
     pub down: u32,
     pub weight: f32,
+    pub held: u32,
     pub position: u32,
     pub mark: bool,
     pub clipped: u32,

@@ -5,10 +5,10 @@ use crate::Seen;
 use crate::refusals::area;
 ghost use mathlib.Core.Path.{_≡_};
 ghost use mathlib.Core.List.{map};
-ghost use Prim.Native.Nat.{_+_, _*_, _/_, _<_, _≤_};
-ghost use mathlib.Core.Bool.{cond};
+ghost use Prim.Native.Nat.{ℕ, _+_, _*_, _/_, _<_, _≤_};
+ghost use mathlib.Core.Bool.{cond, false};
 ghost use lib.ListN.{getD, set};
-ghost use Rattle.calls.specs.Run.{Place, fresh, place, coefs};
+ghost use Rattle.calls.specs.Run.{Place, fresh, place, coefs, held};
 ghost use Rattle.calls.specs.Calls.{onward, marked};
 ghost use Rattle.record.specs.Model.{Legal, ChannelIs, sheetOf, placeOf, placesOf, placed, withChannels, withPlace, noChannel, seenOf, clippedOf};
 
@@ -61,6 +61,40 @@ pub fn span_of(run: Run, c: u32) -> Span
         to: from + n,
         step: x.position / 5,
     }
+}
+
+// Whether channel c is held in its next job (M-108). Rules out: held one step late, and a position taken for a step.
+pub fn held_of(run: Run, c: u32) -> bool
+    requires { ⌜ Legal run × (c < run .count) ⌝ }
+    ensures { λ r. ⌜ r ≡ held (sheetOf run) c (place (placesOf run) c .position / 5) ⌝ }
+{
+    let x = channel_of(run, c);
+    x.held <= x.position / 5
+}
+
+// Whether channel c is held in a step. A channel that the record does not have is not.
+fn held_in(run: Run, c: u32, step: u32) -> bool
+    requires { ⌜ Legal run ⌝ }
+    ensures { λ r. ⌜ r ≡ held (sheetOf run) c step ⌝ }
+{
+    if c >= run.count {
+        return false;
+    }
+    let x = channel_of(run, c);
+    x.held <= step
+}
+
+// Which channels are held in the step of the next blend, which is that of channel 0's position.
+pub fn held_flags(run: Run) -> [bool; 3]
+    requires { ⌜ Legal run ⌝ }
+    ensures { λ r. ⌜ ((c : ℕ) → getD r c false ≡ held (sheetOf run) c (place (placesOf run) 0 .position / 5)) ⌝ }
+{
+    let s = span_of(run, 0);
+    let step = s.step;
+    let first = held_in(run, 0, step);
+    let second = held_in(run, 1, step);
+    let third = held_in(run, 2, step);
+    [first, second, third]
 }
 
 // The record with another channel c.

@@ -13,7 +13,7 @@ mul-down c = record { fits = product-fits (search needs) (search needs) }
 
 returns : tie.Need-returns
 unfolding ownOk
-returns c = λ S w h. rw (w, h, ← c .before .before .before .before .before .before .before .before .before .before .side-ok .ensures, ← c .before .before .before .before .before .before .before .before .before .side-ok2 .ensures, ← c .before .before .before .before .before .before .before .factor-ok .ensures, ← c .before .before .before .before .before .factor-ok2 .ensures, ← c .before .weight-ok .ensures, ← c .before .before .before .before .before .before .before .before .both .ensures, ← c .before .before .before .before .before .before .both2 .ensures, ← c .before .before .before .before .both3 .ensures, ← c .before .before .before .both4 .ensures, ← c .before .before .both5 .ensures) (c .both6 .ensures)
+returns c = λ S w h n. rw (w, h, n, ← c .before .before .before .before .before .before .before .before .before .before .before .before .side-ok .ensures, ← c .before .before .before .before .before .before .before .before .before .before .before .side-ok2 .ensures, ← c .before .before .before .before .before .before .before .before .before .factor-ok .ensures, ← c .before .before .before .before .before .before .before .factor-ok2 .ensures, ← c .before .before .before .weight-ok .ensures, ← c .before .before .before .before .before .before .before .before .before .before .both .ensures, ← c .before .before .before .before .before .before .before .before .both2 .ensures, ← c .before .before .before .before .before .before .both3 .ensures, ← c .before .before .before .before .before .both4 .ensures, ← c .before .before .before .before .both5 .ensures, ← c .before .before .both6 .ensures) (c .both7 .ensures)
 
 pub own-ok-spec : {M : Type 1} → statement M
 own-ok-spec =
@@ -21,4 +21,4 @@ own-ok-spec =
     (tie.spec (λ c. search needs) (λ c. search needs) mul-across (λ c. search needs) (λ c. search needs) mul-down
     (λ c κs. search needs) (λ c κs. search needs) (λ c κs. search needs) (λ c κs. search needs)
     (λ c κs. search needs) (λ c κs. search needs) (λ c κs. search needs) (λ c κs. search needs)
-    (λ c κs. search needs) (λ c κs. search needs) (λ c κs. search needs) returns)
+    (λ c κs. search needs) (λ c κs. search needs) (λ c κs. search needs) (λ c κs. search needs) returns)
