@@ -158,7 +158,7 @@ def main(name):
         if p and job == 2:
             before = [(joined(p - 1), sum((names[p - 1, c] for c in range(n)), []))]
             after = [(joined(p), sum((names[p, c] for c in range(n)), []))]
-            theorem('blend-%d' % p, 'blending %d %d %d k%d %s' % (W, H, n, step, joined(p - 1)), joined(p), before + after + [('k%d' % step, [])])
+            theorem('blend-%d' % p, 'blending %d %d %d (λ c. false) k%d %s' % (W, H, n, step, joined(p - 1)), joined(p), before + after + [('k%d' % step, [])])
             continue
         for c in range(n):
             b, d = 'b%d-%d' % (p - 1, c), 'b%d-%d' % (p, c)

@@ -37,7 +37,7 @@ rows f =
 
 -- the first-order term of the plane whose values are 2 × row, one channel, onto zeros
 abbrev pub slope : Terms
-slope = tvGradient 8 8 1 (rows (λ y. float (y * 2))) (record { gradient = replicate 64 f0; across = replicate 64 f0; down = replicate 64 f0 })
+slope = tvGradient 8 8 1 (λ c. false) (rows (λ y. float (y * 2))) (record { gradient = replicate 64 f0; across = replicate 64 f0; down = replicate 64 f0 })
 
 -- 16 by 8, level 1 and quantiser 8 at the first place of block 0, block 1 zero; a row of the plane with v = 1 − 2⁻²⁴ in its left half, and a row of zeros
 abbrev pub wide : Coef
@@ -91,7 +91,7 @@ pub record Table : Type 0 where
   -- "8 by 8 plane, each value 2 × row, one channel: first-order gradient −1 in row 0, 1 in row 7, else 0. Second order with second-order
   -- weight 1 adds −1 in row 6, 2 in row 7"
   pub first-order : slope .gradient ≡ replicate 8 (neg f1) ++ (replicate 48 f0 ++ replicate 8 f1)
-  pub second-order : tgvGradient 8 8 1 f1 (slope .across) (slope .down) (slope .gradient)
+  pub second-order : tgvGradient 8 8 1 (λ c. false) f1 (slope .across) (slope .down) (slope .gradient)
       ≡ replicate 8 (neg f1) ++ (replicate 40 f0 ++ (replicate 8 (neg f1) ++ replicate 8 (float 3)))
   -- "planes 0, 0, 100: 255, 56, 128. One channel 0.875: 128"
   pub red-pixel : pixel (toByte rounding.Truncate) 3 1 (f0 ∷ f0 ∷ ofBits binary32 0x42c80000 ∷ []) 0 ≡ 255 ∷ 56 ∷ 128 ∷ []

@@ -143,7 +143,7 @@ pub data-2-0 : dataJob c0 8 8 (ofBits binary32 1017370378) b1-0 ≡ b2-0
 unfolding low8 c0 b2-0 b1-0 k0 l0 l1 l2 trailingZeros add sub mul div sum round units odd size span climb ofBits ofFields neg ne eq lt ofInt upto mulAdd fused square product half midpoint isqrt halves root clamp fromBlocks toBlocks onLine idct8 dct8 idct8x8 dct8x8 upsamplePixels lowest highest dequantised mid nextTerm termOf constants pushed dataAlpha gradientNorm movedBy moved difference bump bumpUnless tvDifferencesAt tvDifferences gNormOf tvChannelDerivatives tvDerivatives store tvGradientPx tvAlpha tvGradient tgvDifferencesAt tgvDifferences g2NormOf tgvBeside tgvUpDown tgvCorners tgvChannelDerivatives tgvDerivatives tgvGradientPx tgvAlpha tgvGradient blended dequantise imageBlock imageData initDctTarget initPixels auxInit cosbOf cosbsOf spread spreadBlock gradientBlock dctGradient dataGradient meanOf change splitAt split clampAt clampBlock clamped keep ontoBox back projectFull projectMeans projectOntoBox isBlown pushing dataJob blending moving projecting
 data-2-0 = refl
 
-pub blend-3 : blending 8 8 1 k0 b2-0 ≡ b3-0
+pub blend-3 : blending 8 8 1 (λ c. false) k0 b2-0 ≡ b3-0
 unfolding b2-0 b3-0 k0 l0 l1 l2 l3 l4 l5 trailingZeros add sub mul div sum round units odd size span climb ofBits ofFields neg ne eq lt ofInt upto mulAdd fused square product half midpoint isqrt halves root clamp fromBlocks toBlocks onLine idct8 dct8 idct8x8 dct8x8 upsamplePixels lowest highest dequantised mid nextTerm termOf constants pushed dataAlpha gradientNorm movedBy moved difference bump bumpUnless tvDifferencesAt tvDifferences gNormOf tvChannelDerivatives tvDerivatives store tvGradientPx tvAlpha tvGradient tgvDifferencesAt tgvDifferences g2NormOf tgvBeside tgvUpDown tgvCorners tgvChannelDerivatives tgvDerivatives tgvGradientPx tgvAlpha tgvGradient blended dequantise imageBlock imageData initDctTarget initPixels auxInit cosbOf cosbsOf spread spreadBlock gradientBlock dctGradient dataGradient meanOf change splitAt split clampAt clampBlock clamped keep ontoBox back projectFull projectMeans projectOntoBox isBlown pushing dataJob blending moving projecting
 blend-3 = refl
 
@@ -167,7 +167,7 @@ pub data-7-0 : dataJob c0 8 8 (ofBits binary32 1017370378) b6-0 ≡ b7-0
 unfolding low8 c0 b7-0 b6-0 k1 l3 l5 l7 l8 l9 l10 trailingZeros add sub mul div sum round units odd size span climb ofBits ofFields neg ne eq lt ofInt upto mulAdd fused square product half midpoint isqrt halves root clamp fromBlocks toBlocks onLine idct8 dct8 idct8x8 dct8x8 upsamplePixels lowest highest dequantised mid nextTerm termOf constants pushed dataAlpha gradientNorm movedBy moved difference bump bumpUnless tvDifferencesAt tvDifferences gNormOf tvChannelDerivatives tvDerivatives store tvGradientPx tvAlpha tvGradient tgvDifferencesAt tgvDifferences g2NormOf tgvBeside tgvUpDown tgvCorners tgvChannelDerivatives tgvDerivatives tgvGradientPx tgvAlpha tgvGradient blended dequantise imageBlock imageData initDctTarget initPixels auxInit cosbOf cosbsOf spread spreadBlock gradientBlock dctGradient dataGradient meanOf change splitAt split clampAt clampBlock clamped keep ontoBox back projectFull projectMeans projectOntoBox isBlown pushing dataJob blending moving projecting
 data-7-0 = refl
 
-pub blend-8 : blending 8 8 1 k1 b7-0 ≡ b8-0
+pub blend-8 : blending 8 8 1 (λ c. false) k1 b7-0 ≡ b8-0
 unfolding b7-0 b8-0 k1 l5 l7 l8 l9 l10 l11 l12 l13 trailingZeros add sub mul div sum round units odd size span climb ofBits ofFields neg ne eq lt ofInt upto mulAdd fused square product half midpoint isqrt halves root clamp fromBlocks toBlocks onLine idct8 dct8 idct8x8 dct8x8 upsamplePixels lowest highest dequantised mid nextTerm termOf constants pushed dataAlpha gradientNorm movedBy moved difference bump bumpUnless tvDifferencesAt tvDifferences gNormOf tvChannelDerivatives tvDerivatives store tvGradientPx tvAlpha tvGradient tgvDifferencesAt tgvDifferences g2NormOf tgvBeside tgvUpDown tgvCorners tgvChannelDerivatives tgvDerivatives tgvGradientPx tgvAlpha tgvGradient blended dequantise imageBlock imageData initDctTarget initPixels auxInit cosbOf cosbsOf spread spreadBlock gradientBlock dctGradient dataGradient meanOf change splitAt split clampAt clampBlock clamped keep ontoBox back projectFull projectMeans projectOntoBox isBlown pushing dataJob blending moving projecting
 blend-8 = refl
 

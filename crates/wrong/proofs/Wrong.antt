@@ -1,7 +1,7 @@
 -- Document 01, "Solvers that would fool a glance": each breaks demand 3 on the small sheet.
 use mathlib.Core.Path.{_≡_, refl, sym, ap, _∙_}
 use mathlib.Core.Logic.{_≢_}
-use mathlib.Core.Bool.{false, cond}
+use mathlib.Core.Bool.{Bool, false, cond}
 use mathlib.Core.List.{List, [], _∷_}
 use Prim.Native.Nat.{ℕ}
 use native.Mathlib.Omega.{arith}
@@ -29,10 +29,6 @@ fine-10 = ap (channelBlown low8 0) at-10 ∙ mark-10-0
 abbrev pub allSaid : List Answer
 allSaid = done ∷ done ∷ blendReply (totalsAt jobs low8 2) ∷ done ∷ done ∷ done ∷ done ∷ blendReply (totalsAt jobs low8 7) ∷ done ∷ done ∷ []
 
-pub all-done : plainAnswers jobs low8 inTurn (noneYet low8) ≡ allSaid
-unfolding plainAnswers plain low8
-all-done = rw fine-5 (rw fine-10 refl)
-
 -- what a claim says of the lent buffers where the plain run's places are those: they are the ones fixed for p
 held : (xs : List Call) (p : ℕ) → plainPlaces jobs low8 xs (noneYet low8) ≡ at p → (said : List Answer) (t : State)
     → Claim jobs low8 xs said t (plainPlaces jobs low8 xs (noneYet low8)) → t .buffers ≡ fixed jobs low8 p 0
@@ -51,6 +47,25 @@ over-5 = rw fine-5
 over-10 : plain jobs low8 (on project 0) (at 9) .places ≡ at 10
 unfolding plain low8 kept
 over-10 = rw fine-10
+
+said-5 : plain jobs low8 (on project 0) (at 4) .answer ≡ done
+unfolding plain low8 kept
+said-5 = ap (λ (b : Bool). cond b blown done) fine-5
+
+said-10 : plain jobs low8 (on project 0) (at 9) .answer ≡ done
+unfolding plain low8 kept
+said-10 = ap (λ (b : Bool). cond b blown done) fine-10
+
+-- the answers of the second step, and of both
+second-done : plainAnswers jobs low8 step (at 5) ≡ done ∷ done ∷ blendReply (totalsAt jobs low8 7) ∷ done ∷ done ∷ []
+unfolding plainAnswers plain low8 kept
+second-done = λ i. done ∷ done ∷ blendReply (totalsAt jobs low8 7) ∷ done ∷ said-10 i ∷ []
+
+pub all-done : plainAnswers jobs low8 inTurn (noneYet low8) ≡ allSaid
+unfolding plainAnswers plain low8 kept
+all-done =
+    (λ i. done ∷ done ∷ blendReply (totalsAt jobs low8 2) ∷ done ∷ said-5 i ∷ plainAnswers jobs low8 step (over-5 i))
+    ∙ ap (λ (xs : List Answer). done ∷ done ∷ blendReply (totalsAt jobs low8 2) ∷ done ∷ done ∷ xs) second-done
 
 place-1 : plainPlaces jobs low8 (take 1 inTurn) (noneYet low8) ≡ at 1
 unfolding plainPlaces plain low8 kept

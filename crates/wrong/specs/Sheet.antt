@@ -29,7 +29,7 @@ low8 =
             smoothing = ofBits binary32 1058642330;
             reorder = Each;
             count = 1;
-            owns = record { width = 8; height = 8; across = 1; down = 1; data-weight = ofBits binary32 1017370378 } ∷ [];
+            owns = record { width = 8; height = 8; across = 1; down = 1; data-weight = ofBits binary32 1017370378; held = 2 } ∷ [];
           };
       levels = pairs levels8 levels8;
       tables = 1 ∷ 2 ∷ 1 ∷ 1 ∷ 1 ∷ 2 ∷ 1 ∷ 1 ∷ 1 ∷ 1 ∷ 2 ∷ 2 ∷ 1 ∷ 2 ∷ 1 ∷ 2 ∷ 2 ∷ 1 ∷ 2 ∷ 1 ∷ 1 ∷ 2 ∷ 2 ∷ 2 ∷ 2 ∷ 1 ∷ 1 ∷ 2 ∷ 1 ∷ 1 ∷ 1 ∷ 2 ∷ 1 ∷ 2 ∷ 2 ∷ 1 ∷ 1 ∷ 2 ∷ 1 ∷ 2 ∷ 2 ∷ 1 ∷ 2 ∷ 2 ∷ 1 ∷ 2 ∷ 2 ∷ 2 ∷ 1 ∷ 2 ∷ 1 ∷ 1 ∷ 2 ∷ 1 ∷ 1 ∷ 2 ∷ 1 ∷ 1 ∷ 1 ∷ 1 ∷ 2 ∷ 1 ∷ 1 ∷ 1 ∷ [];
