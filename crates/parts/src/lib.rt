@@ -9,10 +9,10 @@ ghost use lib.ListN.{length};
 ghost use Rattle.fold.specs.Fold.{upto};
 ghost use Rattle.fold.specs.Part.{part};
 ghost use Rattle.start.specs.Coef.{pairs};
-ghost use Rattle.calls.specs.Run.{own, coefs, levelsBefore};
+ghost use Rattle.calls.specs.Run.{own, place, coefs, levelsBefore};
 ghost use Rattle.calls.specs.Buffers.{partOf};
 ghost use Rattle.projection.specs.Blown.{isBlown};
-ghost use Rattle.record.specs.Model.{Legal, sheetOf, givenOf};
+ghost use Rattle.record.specs.Model.{Legal, sheetOf, placesOf, givenOf};
 ghost use Rattle.parts.specs.Parts.{Fed, FedAll, Whole, fittedPart, projectedPart, blownPart, clippedPart, startedPart};
 
 pub fn own_of(run: Run, c: u32) -> Own
@@ -143,6 +143,21 @@ pub fn blown_part(run: Run, c: u32, plane: &[f32], saved: &[f32]) -> bool
     let to = s.to;
     let n = record::places::coefs_of(run, c);
     projection::blown::is_blown(&plane[from..to], &saved[from..to], n)
+}
+
+// What job 5 tells of a held channel, whose values stay (M-108): the test for the mark, and the number kept before.
+// Rules out: a number counted anew, and a channel that is blown told as one that isn't.
+pub fn held_seen(run: Run, c: u32, plane: &[f32], saved: &[f32]) -> Seen
+    requires { ⌜ Legal run × (c < run .count) × Whole run (now plane) × Whole run (now saved) ⌝ }
+    ensures { λ r. ⌜ (r .blown ≡ isBlown (coefs (sheetOf run) c) (partOf (run .w * run .h) c (now (plane .entry))) (partOf (run .w * run .h) c (now (saved .entry))))
+        × (r .clipped ≡ place (placesOf run) c .clipped) ⌝ }
+{
+    let x = record::places::channel_of(run, c);
+    let blown = blown_part(run, c, plane, saved);
+    Seen {
+        blown,
+        clipped: x.clipped,
+    }
 }
 
 // Job 5 on channel c's part, and what it tells of the channel.
