@@ -1,20 +1,52 @@
 -- The lent buffers after each job of a channel: what it writes is put back into its part, and the rest stays.
-use mathlib.Core.Path.{_≡_, refl}
+use mathlib.Core.Path.{_≡_, refl, ap, _∙_}
+use mathlib.Core.Bool.{Bool, true, false, cond}
 use mathlib.Core.List.{List}
-use Prim.Native.Nat.{ℕ, _+_, _*_}
+use Prim.Native.Nat.{ℕ, _+_, _*_, _/_}
 use lib.Ieee.{Float}
 use Rattle.start.specs.Buffers.{Buffers}
 use Rattle.steps.specs.declared.solve.Constants.{Constants}
 use Rattle.steps.specs.Solve.{pushedPart}
 use Rattle.steps.specs.Step.{movedPart}
 use Rattle.projection.specs.Blown.{isBlown}
-use Rattle.calls.specs.Run.{Given, own, area, coefs}
+use Rattle.calls.specs.Run.{Given, own, place, area, coefs, held}
 use Rattle.calls.specs.Buffers.{channel, putChannel}
-use Rattle.calls.proofs.Parts.{put-part}
+use Rattle.calls.specs.Jobs.{Job, project, Seen, channelBlown}
+use Rattle.calls.specs.Calls.{State, worked, seenIn}
+use Rattle.calls.proofs.Parts.{same, put-part, put-kept}
 use Rattle.work.specs.Work.{pushing, dataJob, moving, projecting, clipping}
-use Rattle.demand.specs.Solver.{coefOf}
+use Rattle.demand.specs.Solver.{coefOf, jobs}
 use Rattle.run.specs.Public.{forPush, forData, forMove, forProject}
 use Rattle.parts.specs.Parts.{fittedPart, projectedPart, blownPart, clippedPart}
+
+-- M-108: a held channel's buffers are put back as they were; those of another are its job's
+pub put-back : (n c : ℕ) (B : Buffers) → putChannel n c B (channel n c B) ≡ B
+put-back n c B = same (putChannel n c B (channel n c B)) B (λ b. put-kept n c B (channel n c B) b refl)
+
+module _ (G : Given) (j : Job) (c : ℕ) (s : State) where
+  -- what the job leaves, by whether the channel is held
+  abbrev left-by : Bool → Buffers
+  left-by h =
+      putChannel (area G) c (s .buffers) (cond h (channel (area G) c (s .buffers)) (jobs .work j G c (place (s .places) c .position / 5) (channel (area G) c (s .buffers))))
+
+  pub held-buffers : held (G .sheet) c (place (s .places) c .position / 5) ≡ true → putChannel (area G) c (s .buffers) (worked jobs G j c s) ≡ s .buffers
+  held-buffers e = ap left-by e ∙ put-back (area G) c (s .buffers)
+
+  pub free-buffers : held (G .sheet) c (place (s .places) c .position / 5) ≡ false → putChannel (area G) c (s .buffers) (worked jobs G j c s) ≡ left-by false
+  free-buffers e = ap left-by e
+
+-- what project tells of a channel that is not held, and of one that is
+module _ (G : Given) (c : ℕ) (s : State) where
+  abbrev told-by : Bool → Seen
+  told-by h =
+      let b = channel (area G) c (s .buffers) in
+      record {
+        blown = channelBlown G c (cond h b (jobs .work project G c (place (s .places) c .position / 5) b));
+        clipped = cond h (place (s .places) c .clipped) (jobs .clip G c b);
+      }
+
+  pub told-is : (h : Bool) → held (G .sheet) c (place (s .places) c .position / 5) ≡ h → seenIn jobs G project c s ≡ told-by h
+  told-is h e = ap told-by e
 
 module _ (n c : ℕ) (o : Buffers) (k : Constants) where
   pub push-buffers : (plane prior : List Float)

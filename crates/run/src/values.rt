@@ -24,7 +24,7 @@ fn constants_of(run: Run, c: u32) -> Constants
     steps::solve::step_constants(run.w, run.h, run.n, run.smoothing, s.step)
 }
 
-// Push. Rules out: a plane handed back unmoved, and a position counted up without the job.
+// Push. Rules out: a plane handed back unmoved, a position counted up without the job, and a held channel's prior overwritten by its plane.
 pub fn push_value(run: Run, c: u32, plane: &mut [f32], prior: &mut [f32]) -> Answered
     ensures { λ r. ⌜ PushIs run c (now (plane .entry)) (now (prior .entry)) (r .answer) (r .run) (now (plane .exit)) (now (prior .exit)) ⌝ }
 {
@@ -34,6 +34,13 @@ pub fn push_value(run: Run, c: u32, plane: &mut [f32], prior: &mut [f32]) -> Ans
         return Answered {
             answer: Answer::Refused(r),
             run,
+        };
+    }
+    if record::places::held_of(run, c) {
+        let next = record::places::advanced(run, c);
+        return Answered {
+            answer: Answer::Done,
+            run: next,
         };
     }
     let k = constants_of(run, c);
@@ -46,7 +53,7 @@ pub fn push_value(run: Run, c: u32, plane: &mut [f32], prior: &mut [f32]) -> Ans
     }
 }
 
-// Data. Rules out: saved coefficients changed, and the levels of another channel taken for this one's.
+// Data. Rules out: saved coefficients changed, the levels of another channel taken for this one's, and a held channel's gradient zeroed.
 pub fn data_value(
     run: Run,
     c: u32,
@@ -64,6 +71,13 @@ pub fn data_value(
         return Answered {
             answer: Answer::Refused(r),
             run,
+        };
+    }
+    if record::places::held_of(run, c) {
+        let next = record::places::advanced(run, c);
+        return Answered {
+            answer: Answer::Done,
+            run: next,
         };
     }
     parts::data_part(run, c, lows, highs, tables, gradient, saved);
@@ -94,10 +108,12 @@ pub fn blend_value(
         };
     }
     let k = constants_of(run, 0);
+    let held = record::places::held_flags(run);
     let g = Grid {
         n: run.count as usize,
         w: run.w as usize,
         h: run.h as usize,
+        held,
     };
     let t = gradients::blend(plane, gradient, across, down, g, k);
     let next = record::places::blended(run);
@@ -120,6 +136,13 @@ pub fn move_value(run: Run, c: u32, plane: &mut [f32], gradient: &[f32]) -> Answ
         return Answered {
             answer: Answer::Refused(r),
             run,
+        };
+    }
+    if record::places::held_of(run, c) {
+        let next = record::places::advanced(run, c);
+        return Answered {
+            answer: Answer::Done,
+            run: next,
         };
     }
     let k = constants_of(run, c);
@@ -164,6 +187,12 @@ pub fn project_value(
             answer: Answer::Refused(r),
             run,
         };
+    }
+    if record::places::held_of(run, c) {
+        let kept = parts::held_seen(run, c, plane, saved);
+        let next = record::places::projected(run, c, kept);
+        let answer = project_reply(kept);
+        return Answered { answer, run: next };
     }
     let seen = parts::project_seen(run, c, lows, highs, tables, plane, across, down, saved);
     let next = record::places::projected(run, c, seen);

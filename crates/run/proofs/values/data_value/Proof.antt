@@ -7,9 +7,9 @@ use Rattle.start.specs.Coef.{pairs}
 use Rattle.calls.specs.Jobs.{fidelity, on}
 use Rattle.record.specs.Model.{givenOf}
 use Rattle.parts.specs.Parts.{Fed}
-use Rattle.run.specs.Public.{forData}
+use Rattle.run.specs.Public.{stateOf, forData}
 use Rattle.run.proofs.Ready.{call-refused, Accepted, accepted, fed, job-result}
-use Rattle.run.proofs.Jobs.{data-buffers}
+use Rattle.run.proofs.Jobs.{held-buffers, free-buffers, data-buffers}
 use borrow.Author.Needs.{needs}
 use Rattle.run.proofs.values.data_value.Statement.{statement}
 use Rattle.run.proofs.values.data_value.Tie as tie
@@ -31,25 +31,42 @@ returns c =
     call-refused (a .run) (pairs (a .lows .now) (a .highs .now)) (a .tables .now) (on fidelity (a .c)) (forData o (a .gradient .now) (a .saved .now)) (c .before .fed-refusal .result)
     (c .before .fed-refusal .ensures fidelity refl refl) (c .if1 .taken)
 
-data-part-requires : tie.Need-data-part-requires
-data-part-requires c κs = (given (c .before), passed (c .before) .long .0, passed (c .before) .long .1 .0)
+held-of-requires : tie.Need-held-of-requires
+held-of-requires c κs = (passed c .is-legal, passed c .below)
 
+-- held: only its turn is taken
 advanced-requires : tie.Need-advanced-requires
-advanced-requires c κs = (passed (c .before .before .before .before) .is-legal, passed (c .before .before .before .before) .below)
+advanced-requires c κs = (passed (c .before .before) .is-legal, passed (c .before .before) .below)
 
 returns-2 : tie.Need-returns-2
 returns-2 c =
-    let a = c .before .before .before .before .before .before .before .before .before .before .before .args in
+    let a = c .before .before .before .before .before .before .before .before .before .args in
     let r = a .run in
     λ o.
     job-result r (pairs (a .lows .now) (a .highs .now)) (a .tables .now) fidelity (a .c) (forData o (a .gradient .now) (a .saved .now))
-    (sym (c .before .before .before .before .before .before .fed-refusal .ensures fidelity refl refl) ∙ c .before .before .before .before .before .if1 .left)
+    (sym (c .before .before .before .before .fed-refusal .ensures fidelity refl refl) ∙ c .before .before .before .if1 .left)
     (c .advanced .ensures)
-    (data-buffers (givenOf r (pairs (a .lows .now) (a .highs .now)) (a .tables .now)) (a .c) o (a .gradient .now) (a .saved .now)
+    (held-buffers (givenOf r (pairs (a .lows .now) (a .highs .now)) (a .tables .now)) fidelity (a .c) (stateOf r (forData o (a .gradient .now) (a .saved .now))) (sym (c .before .before .held-of .ensures) ∙ c .before .if2 .taken))
+
+data-part-requires : tie.Need-data-part-requires
+data-part-requires c κs = (given (c .before .before .before), passed (c .before .before .before) .long .0, passed (c .before .before .before) .long .1 .0)
+
+advanced-requires-2 : tie.Need-advanced-requires-2
+advanced-requires-2 c κs = (passed (c .before .before .before .before .before .before) .is-legal, passed (c .before .before .before .before .before .before) .below)
+
+returns-3 : tie.Need-returns-3
+returns-3 c =
+    let a = c .before .before .before .before .before .before .before .before .before .before .before .before .before .args in
+    let r = a .run in
+    λ o.
+    job-result r (pairs (a .lows .now) (a .highs .now)) (a .tables .now) fidelity (a .c) (forData o (a .gradient .now) (a .saved .now))
+    (sym (c .before .before .before .before .before .before .before .before .fed-refusal .ensures fidelity refl refl) ∙ c .before .before .before .before .before .before .before .if1 .left)
+    (c .advanced2 .ensures)
+    (free-buffers (givenOf r (pairs (a .lows .now) (a .highs .now)) (a .tables .now)) fidelity (a .c) (stateOf r (forData o (a .gradient .now) (a .saved .now))) (sym (c .before .before .before .before .before .before .held-of .ensures) ∙ c .before .before .before .before .before .if2 .left) ∙ data-buffers (givenOf r (pairs (a .lows .now) (a .highs .now)) (a .tables .now)) (a .c) o (a .gradient .now) (a .saved .now)
     ∙ sym (ap (λ (g : List Float). forData o g (a .saved .now)) (c .before .before .before .data-part .ensures)))
 
 pub data-value-spec : {M : Type 1} → statement M
 data-value-spec =
     tie.close
-    (tie.spec (λ c. search needs) (λ c κs. search needs) returns data-part-requires advanced-requires
-    (λ c. search needs) returns-2)
+    (tie.spec (λ c. search needs) (λ c κs. search needs) returns held-of-requires advanced-requires returns-2 data-part-requires advanced-requires-2
+    (λ c. search needs) returns-3)
