@@ -4,7 +4,7 @@ use start::coef::Own;
 use start::coef::Reorder;
 use steps::solve::step_constants;
 ghost use mathlib.Core.Path.{_≡_};
-ghost use mathlib.Core.Bool.{cond};
+ghost use mathlib.Core.Bool.{cond, false};
 ghost use Prim.Native.Nat.{_*_, _≤_};
 ghost use lib.ListN.{length};
 ghost use Rattle.steps.specs.Solve.{constants, pushed};
@@ -153,16 +153,18 @@ pub extern "C" fn probe_blend(
     requires { ⌜ (w ≤ 512) × (h ≤ 512) × (n ≤ 3) × (length (now plane) ≡ n * (w * h)) × (length (now gradient) ≡ n * (w * h))
         × (length (now across) ≡ n * (w * h)) × (length (now down) ≡ n * (w * h)) × (length (now both) ≡ 2) ⌝ }
     ensures { λ _. ⌜ (record { gradient = now (gradient .exit); across = now (across .exit); down = now (down .exit) }
-        ≡ blended w h n (constants w h iterations weight step .second) (now (plane .entry))
+        ≡ blended w h n (λ c. false) (constants w h iterations weight step .second) (now (plane .entry))
         (record { gradient = now (gradient .entry); across = now (across .entry); down = now (down .entry) }))
-        × (now (both .exit) ≡ bitsOf (totals w h n (constants w h iterations weight step .second) (now (plane .entry))
+        × (now (both .exit) ≡ bitsOf (totals w h n (λ c. false) (constants w h iterations weight step .second) (now (plane .entry))
         (record { gradient = now (gradient .entry); across = now (across .entry); down = now (down .entry) }))) ⌝ }
 {
     let k = step_constants(w, h, iterations, weight, step);
+    let none = [false; 3];
     let g = Grid {
         n: n,
         w: w as usize,
         h: h as usize,
+        held: none,
     };
     let t = gradients::blend(plane, gradient, across, down, g, k);
     both[0] = float::double::to_bits(t.tv);
