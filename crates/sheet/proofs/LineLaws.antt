@@ -31,11 +31,14 @@ use Rattle.text.specs.Fields.{letter, lowField, fieldOf}
 use Rattle.contents.specs.declared.Limits.{Limits}
 use Rattle.contents.specs.declared.Choice.{Choice}
 use Rattle.contents.specs.declared.Choice.the-variants as choice
+use Rattle.contents.specs.declared.Hold.{Hold}
+use Rattle.contents.specs.declared.Hold.the-variants as hold
 use Rattle.contents.specs.declared.Header.{Header}
 use Rattle.contents.specs.declared.Channel.{Channel}
 use Rattle.sheet.specs.declared.line.Setting.the-variants as setting
 use Rattle.sheet.specs.declared.line.Record.the-variants as line
-use Rattle.sheet.specs.Lines.{count, mode, factor, ownSide, headerRules, choiceRules, roundingRules, startRules, choiceOf, channelRules, blockRules, pairRules, rangeRules, rulesOf, fieldCount, headerOf, channelOf, recordOf}
+use Rattle.sheet.specs.Lines.{count, mode, factor, ownSide, headerRules, choiceRules, roundingRules, startRules, choiceOf, holdRules, holdOf, channelRules, blockRules, pairRules, rangeRules, rulesOf, fieldCount, headerOf, channelOf, recordOf}
+use Rattle.contents.specs.Hold.{measured}
 use Rattle.sheet.specs.Walk.{saidBefore, lowSaid, rangeRule}
 
 -- What a header line holds
@@ -92,9 +95,13 @@ module _ (t : ℕ) where
   unfolding fieldCount
   count-G e = rw e
 
-  pub count-E : (t ≡ 83 → ⊥) → (t ≡ 67 → ⊥) → (t ≡ 66 → ⊥) → (t ≡ 71 → ⊥) → (t ≡ 70 → ⊥) → (t ≡ 65 → ⊥) → 1 ≡ fieldCount t
+  pub count-H : t ≡ 72 → 4 ≡ fieldCount t
   unfolding fieldCount
-  count-E s c b g f a = rw (ne-eqb t 66 b, ne-eqb t 71 g, ne-eqb t 67 c, ne-eqb t 83 s, ne-eqb t 70 f, ne-eqb t 65 a)
+  count-H e = rw e
+
+  pub count-E : (t ≡ 83 → ⊥) → (t ≡ 67 → ⊥) → (t ≡ 66 → ⊥) → (t ≡ 71 → ⊥) → (t ≡ 70 → ⊥) → (t ≡ 65 → ⊥) → (t ≡ 72 → ⊥) → 1 ≡ fieldCount t
+  unfolding fieldCount
+  count-E s c b g f a h = rw (ne-eqb t 66 b, ne-eqb t 71 g, ne-eqb t 67 c, ne-eqb t 83 s, ne-eqb t 70 f, ne-eqb t 65 a, ne-eqb t 72 h)
 
   pub record-S : (fs : List (List ℕ)) (h : Header) → t ≡ 83 → h ≡ headerOf fs → line.Header h ≡ recordOf t fs
   unfolding recordOf
@@ -112,9 +119,18 @@ module _ (t : ℕ) where
   unfolding recordOf
   record-A fs a s c f e q = rw (ne-eqb t 83 s, ne-eqb t 67 c, ne-eqb t 70 f, eq-eqb t 65 e, q)
 
-  pub record-B : (fs : List (List ℕ)) → (t ≡ 83 → ⊥) → (t ≡ 67 → ⊥) → (t ≡ 70 → ⊥) → (t ≡ 65 → ⊥) → line.Block ≡ recordOf t fs
+  pub record-H : (fs : List (List ℕ)) (x : Hold) → (t ≡ 83 → ⊥) → (t ≡ 67 → ⊥) → (t ≡ 70 → ⊥) → (t ≡ 65 → ⊥) → t ≡ 72 → x ≡ holdOf fs → line.Setting (setting.Hold x) ≡ recordOf t fs
   unfolding recordOf
-  record-B fs s c f a = rw (ne-eqb t 83 s, ne-eqb t 67 c, ne-eqb t 70 f, ne-eqb t 65 a)
+  record-H fs x s c f a e q = rw (ne-eqb t 83 s, ne-eqb t 67 c, ne-eqb t 70 f, ne-eqb t 65 a, eq-eqb t 72 e, q)
+
+  pub record-B : (fs : List (List ℕ)) → (t ≡ 83 → ⊥) → (t ≡ 67 → ⊥) → (t ≡ 70 → ⊥) → (t ≡ 65 → ⊥) → (t ≡ 72 → ⊥) → line.Block ≡ recordOf t fs
+  unfolding recordOf
+  record-B fs s c f a h = rw (ne-eqb t 83 s, ne-eqb t 67 c, ne-eqb t 70 f, ne-eqb t 65 a, ne-eqb t 72 h)
+
+-- the three counts
+pub hold-is : (fs : List (List ℕ)) (k l m : ℕ) → k ≡ numberAt fs 1 → l ≡ numberAt fs 2 → m ≡ numberAt fs 3 → hold.Counts k l m ≡ holdOf fs
+unfolding holdOf
+hold-is fs k l m e q r = rw (e, q, r)
 
 -- a setting's letter
 module _ (a : ℕ) (f : List ℕ) (b : Bool) (e : b ≡ letter a f) where
@@ -124,7 +140,7 @@ module _ (a : ℕ) (f : List ℕ) (b : Bool) (e : b ≡ letter a f) where
   pub choice-second : b ≡ false → choice.Second ≡ choiceOf a f
   choice-second p = rw (sym e ∙ p)
 
-pub ruleset tags = (count-S, count-C, count-B, count-G, count-F, count-A, count-E, record-S, record-C, record-F, record-A, record-B, choice-first, choice-second)
+pub ruleset tags = (count-S, count-C, count-B, count-G, count-F, count-A, count-H, count-E, record-S, record-C, record-F, record-A, record-H, record-B, hold-is, choice-first, choice-second)
 
 -- Rules by place
 
@@ -294,7 +310,20 @@ module _ (i t a b : ℕ) where
   pub choice-letter : (i ≡ 0 → ⊥) → i < 2 → rule.Letters a b ≡ getD (choiceRules t a b) i (rule.Tag 0)
   choice-letter h k = let e : i ≡ 1 = omega arith in rw e
 
-pub ruleset rules = (choice-tag, choice-letter, range-tag, range-low, range-high, range-none, header-tag, header-side, header-wide, header-high, header-channels, header-mode, header-count, header-weight, channel-tag, channel-side, channel-factor, channel-quantiser, block-tag, block-level)
+module _ (h : Header) (i : ℕ) where
+  pub hold-tag : i ≡ 0 → rule.Tag 72 ≡ getD (holdRules h) i (rule.Tag 0)
+  hold-tag e = rw e
+
+  pub hold-first : (n : ℕ) → i ≡ 1 → n ≡ measured h 0 → rule.Range 17 0 n ≡ getD (holdRules h) i (rule.Tag 0)
+  hold-first n e q = rw (e, q)
+
+  pub hold-second : (n : ℕ) → i ≡ 2 → n ≡ measured h 1 → rule.Range 17 0 n ≡ getD (holdRules h) i (rule.Tag 0)
+  hold-second n e q = rw (e, q)
+
+  pub hold-third : (n : ℕ) → (i ≡ 0 → ⊥) → (i ≡ 1 → ⊥) → (i ≡ 2 → ⊥) → i < 4 → n ≡ measured h 2 → rule.Range 17 0 n ≡ getD (holdRules h) i (rule.Tag 0)
+  hold-third n o k l b q = let e : i ≡ 3 = omega arith in rw (e, q)
+
+pub ruleset rules = (hold-tag, hold-first, hold-second, hold-third, choice-tag, choice-letter, range-tag, range-low, range-high, range-none, header-tag, header-side, header-wide, header-high, header-channels, header-mode, header-count, header-weight, channel-tag, channel-side, channel-factor, channel-quantiser, block-tag, block-level)
 
 -- The rule of a tag's field
 
@@ -323,11 +352,15 @@ module _ (t : ℕ) (limits : Limits) (top : Header) (i : ℕ) (fs : List (List �
   unfolding rulesOf
   rule-A b c s f e q = rw e q
 
-pub rule-E : (t : ℕ) (limits : Limits) (top : Header) (i : ℕ) (fs : List (List ℕ)) → (t ≡ 66 → ⊥) → (t ≡ 71 → ⊥) → (t ≡ 67 → ⊥) → (t ≡ 83 → ⊥) → (t ≡ 70 → ⊥) → (t ≡ 65 → ⊥) → i < fieldCount t → rule.Tag 69 ≡ getD (rulesOf t limits top fs) i (rule.Tag 0)
+  pub rule-H : (t ≡ 66 → ⊥) → (t ≡ 67 → ⊥) → (t ≡ 83 → ⊥) → (t ≡ 70 → ⊥) → (t ≡ 65 → ⊥) → t ≡ 72 → r ≡ getD (holdRules top) i (rule.Tag 0) → r ≡ getD (rulesOf t limits top fs) i (rule.Tag 0)
+  unfolding rulesOf
+  rule-H b c s f a e q = rw e q
+
+pub rule-E : (t : ℕ) (limits : Limits) (top : Header) (i : ℕ) (fs : List (List ℕ)) → (t ≡ 66 → ⊥) → (t ≡ 71 → ⊥) → (t ≡ 67 → ⊥) → (t ≡ 83 → ⊥) → (t ≡ 70 → ⊥) → (t ≡ 65 → ⊥) → (t ≡ 72 → ⊥) → i < fieldCount t → rule.Tag 69 ≡ getD (rulesOf t limits top fs) i (rule.Tag 0)
 unfolding rulesOf fieldCount
-rule-E t limits top i fs b g c s f a h =
-    let z : i ≡ 0 = omega (arith, simp (ne-eqb t 83 s, ne-eqb t 67 c, ne-eqb t 66 b, ne-eqb t 71 g, ne-eqb t 70 f, ne-eqb t 65 a) at h) in
-    rw (ne-eqb t 66 b, ne-eqb t 71 g, ne-eqb t 67 c, ne-eqb t 83 s, ne-eqb t 70 f, ne-eqb t 65 a, z)
+rule-E t limits top i fs b g c s f a o h =
+    let z : i ≡ 0 = omega (arith, simp (ne-eqb t 83 s, ne-eqb t 67 c, ne-eqb t 66 b, ne-eqb t 71 g, ne-eqb t 70 f, ne-eqb t 65 a, ne-eqb t 72 o) at h) in
+    rw (ne-eqb t 66 b, ne-eqb t 71 g, ne-eqb t 67 c, ne-eqb t 83 s, ne-eqb t 70 f, ne-eqb t 65 a, ne-eqb t 72 o, z)
 
 module _ (t i : ℕ) (h : i < fieldCount t) where
   pub below-S : t ≡ 83 → i < 16
@@ -345,4 +378,7 @@ module _ (t i : ℕ) (h : i < fieldCount t) where
   pub below-A : t ≡ 65 → i < 2
   below-A e = omega (arith, count-A t e)
 
-pub ruleset places = (rule-S, rule-C, rule-B, rule-G, rule-F, rule-A, rule-E, below-S, below-C, below-B, below-F, below-A)
+  pub below-H : t ≡ 72 → i < 4
+  below-H e = omega (arith, count-H t e)
+
+pub ruleset places = (rule-S, rule-C, rule-B, rule-G, rule-F, rule-A, rule-H, rule-E, below-S, below-C, below-B, below-F, below-A, below-H)

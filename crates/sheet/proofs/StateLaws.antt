@@ -14,6 +14,8 @@ use Rattle.text.specs.Fields.{letter}
 use Rattle.digits.proofs.Both.{both-left, both-right}
 use Rattle.contents.specs.declared.Choice.{Choice}
 use Rattle.contents.specs.declared.Choice.the-variants as choice
+use Rattle.contents.specs.declared.Hold.{Hold}
+use Rattle.contents.specs.declared.Hold.the-variants as hold
 use Rattle.contents.specs.declared.Header.{Header}
 use Rattle.contents.specs.declared.Channel.{Channel}
 use Rattle.contents.specs.declared.Settings.{Settings}
@@ -25,10 +27,10 @@ use Rattle.sheet.specs.declared.line.Record.the-variants as line
 use Rattle.sheet.specs.declared.state.State.{State}
 use Rattle.sheet.specs.declared.state.Taken.{Taken}
 use Rattle.sheet.specs.declared.state.Taken.the-variants as taken
-use Rattle.sheet.specs.Lines.{choiceOf, headerOf, channelOf, recordOf}
+use Rattle.sheet.specs.Lines.{choiceOf, holdOf, headerOf, channelOf, recordOf}
 use Rattle.contents.specs.Sheets.{noHeader, noSettings, noChannel}
 use Rattle.sheet.specs.Walk.{Due}
-use Rattle.sheet.specs.Reading.{headed, blank, dueTag, unsaid, lastSaid, mayStand, isSetting, isRange, lineTag, withSetting, settled, placed, takenOf}
+use Rattle.sheet.specs.Reading.{headed, blank, dueTag, unsaid, noHold, lastSaid, mayStand, isSetting, isRange, lineTag, withSetting, settled, placed, takenOf}
 
 -- Nothing, and a header
 
@@ -83,14 +85,19 @@ module _ (s : State) where
       unfolding lineTag
       tag-A o = rw (sym e ∙ p, sym q ∙ o)
 
-      module _ (o : a ≡ false) (g : Bool) (r : g ≡ isRange s fs) where
-        pub tag-G : g ≡ true → 71 ≡ lineTag s fs
+      module _ (o : a ≡ false) (h : Bool) (u : h ≡ isSetting s fs 3 72) where
+        pub tag-H : h ≡ true → 72 ≡ lineTag s fs
         unfolding lineTag
-        tag-G w = rw (sym e ∙ p, sym q ∙ o, sym r ∙ w)
+        tag-H w = rw (sym e ∙ p, sym q ∙ o, sym u ∙ w)
 
-        pub tag-due : g ≡ false → (t : ℕ) → t ≡ dueTag s → t ≡ lineTag s fs
-        unfolding lineTag
-        tag-due w t d = rw (sym e ∙ p, sym q ∙ o, sym r ∙ w) d
+        module _ (v : h ≡ false) (g : Bool) (r : g ≡ isRange s fs) where
+          pub tag-G : g ≡ true → 71 ≡ lineTag s fs
+          unfolding lineTag
+          tag-G w = rw (sym e ∙ p, sym q ∙ o, sym u ∙ v, sym r ∙ w)
+
+          pub tag-due : g ≡ false → (t : ℕ) → t ≡ dueTag s → t ≡ lineTag s fs
+          unfolding lineTag
+          tag-due w t d = rw (sym e ∙ p, sym q ∙ o, sym u ∙ v, sym r ∙ w) d
 
   module _ (fs : List (List ℕ)) (l : Bool) (e : l ≡ letter 71 (getD fs 0 [])) where
     pub range-other : l ≡ false → false ≡ isRange s fs
@@ -104,23 +111,27 @@ module _ (s : State) where
 
 pub first-tag : (fs : List (List ℕ)) → lineTag blank fs ≡ 83
 unfolding blank lineTag
-first-tag fs = rw (never (letter 70 (getD fs 0 [])), never (letter 65 (getD fs 0 [])), never (letter 71 (getD fs 0 [])))
+first-tag fs = rw (never (letter 70 (getD fs 0 [])), never (letter 65 (getD fs 0 [])), never (letter 72 (getD fs 0 [])), never (letter 71 (getD fs 0 [])))
   where
     never : (x : Bool) → (x && false) ≡ false
     never true = refl
     never false = refl
 
 -- the last setting that was said
-module _ (x : Settings) (a : Bool) (e : a ≡ unsaid (x .start)) where
-  pub last-start : a ≡ false → 2 ≡ lastSaid x
-  last-start p = rw (sym e ∙ p)
+module _ (x : Settings) (h : Bool) (u : h ≡ noHold (x .hold)) where
+  pub last-hold : h ≡ false → 3 ≡ lastSaid x
+  last-hold v = rw (sym u ∙ v)
 
-  module _ (p : a ≡ true) (r : Bool) (q : r ≡ unsaid (x .rounding)) where
-    pub last-rounding : r ≡ false → 1 ≡ lastSaid x
-    last-rounding o = rw (sym e ∙ p, sym q ∙ o)
+  module _ (v : h ≡ true) (a : Bool) (e : a ≡ unsaid (x .start)) where
+    pub last-start : a ≡ false → 2 ≡ lastSaid x
+    last-start p = rw (sym u ∙ v, sym e ∙ p)
 
-    pub last-none : r ≡ true → 0 ≡ lastSaid x
-    last-none o = rw (sym e ∙ p, sym q ∙ o)
+    module _ (p : a ≡ true) (r : Bool) (q : r ≡ unsaid (x .rounding)) where
+      pub last-rounding : r ≡ false → 1 ≡ lastSaid x
+      last-rounding o = rw (sym u ∙ v, sym e ∙ p, sym q ∙ o)
+
+      pub last-none : r ≡ true → 0 ≡ lastSaid x
+      last-none o = rw (sym u ∙ v, sym e ∙ p, sym q ∙ o)
 
 pub unsaid-none : (c : Choice) → c ≡ choice.Unsaid → true ≡ unsaid c
 unsaid-none c e = rw e
@@ -131,12 +142,19 @@ unsaid-first c e = rw e
 pub unsaid-second : (c : Choice) → c ≡ choice.Second → false ≡ unsaid c
 unsaid-second c e = rw e
 
-pub ruleset nexts = (headed-is, blank-is, due-S, due-B, due-C, due-E, stand-unbegun, stand-late, stand-if, setting-other, setting-if, tag-F, tag-A, tag-G, tag-due, range-other, range-unbegun, range-if, last-start, last-rounding, last-none, unsaid-none, unsaid-first, unsaid-second)
+pub hold-none : (h : Hold) → h ≡ hold.Unsaid → true ≡ noHold h
+hold-none h e = rw e
+
+pub hold-some : (h : Hold) (k l m : ℕ) → h ≡ hold.Counts k l m → false ≡ noHold h
+hold-some h k l m e = rw e
+
+pub ruleset nexts = (headed-is, blank-is, due-S, due-B, due-C, due-E, stand-unbegun, stand-late, stand-if, setting-other, setting-if, tag-F, tag-A, tag-H, tag-G, tag-due, range-other, range-unbegun, range-if, last-hold, last-start, last-rounding, last-none, unsaid-none, unsaid-first, unsaid-second, hold-none, hold-some)
 
 -- Setting i, by its tag
 pub data SettingTag (i tag : ℕ) : Type 0 where
   F-tag : i ≡ 1 → tag ≡ 70 → SettingTag i tag
   A-tag : i ≡ 2 → tag ≡ 65 → SettingTag i tag
+  H-tag : i ≡ 3 → tag ≡ 72 → SettingTag i tag
 
 -- A block's line, ranged or not, by its tag
 pub data BlockTag (r : Bool) (tag : ℕ) : Type 0 where
@@ -156,7 +174,7 @@ unbegun s p q = let z : _≡_ {A = ℕ} 0 1 = cc in let y : ⊥ = omega arith in
 
 pub stands : (s : State) (fs : List (List ℕ)) (tag : ℕ) → tag ≡ lineTag s fs → Stands s tag
 unfolding lineTag
-stands s fs tag e = own (isSetting s fs 1 70) (isSetting s fs 2 65) (isRange s fs) refl refl refl e
+stands s fs tag e = own (isSetting s fs 1 70) (isSetting s fs 2 65) (isSetting s fs 3 72) (isRange s fs) refl refl refl refl e
   where
     three : (a b c : Bool) → s .begun ≡ a → ltb 0 (s .left) ≡ b → ltb (s .read) (s .sheet .header .channels) ≡ c → tag ≡ cond a (cond b 66 (cond c 67 69)) 83 → Stands s tag
     three false b c p q r o = Header-line p o
@@ -164,13 +182,14 @@ stands s fs tag e = own (isSetting s fs 1 70) (isSetting s fs 2 65) (isRange s f
     three true false true p q r o = Channel-line p (ltb-false 0 (s .left) q) (ltb-true (s .read) (s .sheet .header .channels) r) o
     three true false false p q r o = End-line p (ltb-false 0 (s .left) q) (ltb-false (s .read) (s .sheet .header .channels) r) o
 
-    own : (x y z : Bool) → isSetting s fs 1 70 ≡ x → isSetting s fs 2 65 ≡ y → isRange s fs ≡ z → tag ≡ cond x 70 (cond y 65 (cond z 71 (dueTag s))) → Stands s tag
-    own true y z p q r o = Setting-line 1 (both-right (letter 70 (getD fs 0 [])) (mayStand 1 s) p) (F-tag refl o)
-    own false true z p q r o = Setting-line 2 (both-right (letter 65 (getD fs 0 [])) (mayStand 2 s) q) (A-tag refl o)
-    own false false true p q r o =
+    own : (x y w z : Bool) → isSetting s fs 1 70 ≡ x → isSetting s fs 2 65 ≡ y → isSetting s fs 3 72 ≡ w → isRange s fs ≡ z → tag ≡ cond x 70 (cond y 65 (cond w 72 (cond z 71 (dueTag s)))) → Stands s tag
+    own true y w z p q u r o = Setting-line 1 (both-right (letter 70 (getD fs 0 [])) (mayStand 1 s) p) (F-tag refl o)
+    own false true w z p q u r o = Setting-line 2 (both-right (letter 65 (getD fs 0 [])) (mayStand 2 s) q) (A-tag refl o)
+    own false false true z p q u r o = Setting-line 3 (both-right (letter 72 (getD fs 0 [])) (mayStand 3 s) u) (H-tag refl o)
+    own false false false true p q u r o =
         let b = both-right (letter 71 (getD fs 0 [])) (s .begun && ltb 0 (s .left)) r in
         Block-line true (both-left (s .begun) (ltb 0 (s .left)) b) (ltb-true 0 (s .left) (both-right (s .begun) (ltb 0 (s .left)) b)) (G-tag refl o)
-    own false false false p q r o = three (s .begun) (ltb 0 (s .left)) (ltb (s .read) (s .sheet .header .channels)) refl refl refl o
+    own false false false false p q u r o = three (s .begun) (ltb 0 (s .left)) (ltb (s .read) (s .sheet .header .channels)) refl refl refl o
 
 -- What a line adds
 
@@ -179,11 +198,14 @@ pub placed-is : (s : Sheet) (j : ℕ) (c f g h : Channel)
     → record { header = s .header; settings = s .settings; first = f; second = g; third = h } ≡ placed s j c
 placed-is s j c f g h e i k = rw (e, i, k)
 
-pub with-rounding : (x : Settings) (y : Setting) (r : Choice) → y ≡ setting.Rounding r → record { rounding = r; start = x .start } ≡ withSetting x y
+pub with-rounding : (x : Settings) (y : Setting) (r : Choice) → y ≡ setting.Rounding r → record { rounding = r; start = x .start; hold = x .hold } ≡ withSetting x y
 with-rounding x y r e = rw e
 
-pub with-start : (x : Settings) (y : Setting) (a : Choice) → y ≡ setting.Start a → record { rounding = x .rounding; start = a } ≡ withSetting x y
+pub with-start : (x : Settings) (y : Setting) (a : Choice) → y ≡ setting.Start a → record { rounding = x .rounding; start = a; hold = x .hold } ≡ withSetting x y
 with-start x y a e = rw e
+
+pub with-hold : (x : Settings) (y : Setting) (h : Hold) → y ≡ setting.Hold h → record { rounding = x .rounding; start = x .start; hold = h } ≡ withSetting x y
+with-hold x y h e = rw e
 
 pub product-fits : (a b : ℕ) → Fits w32 a → Fits w32 b → Fits w64 (a * b)
 product-fits a b h k = record { fits = lt-of-le-of-lt (mul-le-mul-left a (le-of-lt (k .fits))) (mul-lt-mul-of-pos-right (h .fits) (lit< tt)) }
@@ -237,13 +259,15 @@ due s fs tag e h rec q = subst⁻¹ (Due s) q (by (stands s fs tag e))
         (cond (eqb tag 83) (line.Header (headerOf fs))
         (cond (eqb tag 67) (line.Channel (channelOf fs))
         (cond (eqb tag 70) (line.Setting (setting.Rounding (choiceOf 116 (getD fs 1 []))))
-        (cond (eqb tag 65) (line.Setting (setting.Start (choiceOf 109 (getD fs 1 [])))) line.Block))))
+        (cond (eqb tag 65) (line.Setting (setting.Start (choiceOf 109 (getD fs 1 []))))
+        (cond (eqb tag 72) (line.Setting (setting.Hold (holdOf fs))) line.Block)))))
     by (Header-line p o) = rw o tt
     by (Setting-line i p (F-tag n o)) = rw o tt
     by (Setting-line i p (A-tag n o)) = rw o tt
+    by (Setting-line i p (H-tag n o)) = rw o tt
     by (Block-line r p l (B-tag n o)) = rw o l
     by (Block-line r p l (G-tag n o)) = rw o l
     by (Channel-line p l r o) = rw o r
     by (End-line p l r o) = absurd (h o)
 
-pub ruleset takes = (placed-is, channel-wide, channel-high, channel-opened, product-fits, record-header, record-channel, record-setting, record-block, with-rounding, with-start, due-channel, due-block)
+pub ruleset takes = (placed-is, channel-wide, channel-high, channel-opened, product-fits, record-header, record-channel, record-setting, record-block, with-rounding, with-start, with-hold, due-channel, due-block)

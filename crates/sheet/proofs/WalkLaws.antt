@@ -32,7 +32,7 @@ use Rattle.sheet.specs.declared.state.State.{State}
 use Rattle.sheet.specs.declared.state.Taken.{Taken}
 use Rattle.sheet.specs.declared.state.Taken.the-variants as taken
 use Rattle.sheet.specs.declared.walk.Walked.the-variants as walked
-use Rattle.sheet.specs.Lines.{headerRules, roundingRules, startRules, channelRules, blockRules, rangeRules, endRules, rulesOf, fieldCount, firstFault, fieldsFault, lineAdds, holding, recordOf}
+use Rattle.sheet.specs.Lines.{headerRules, roundingRules, startRules, holdRules, channelRules, blockRules, rangeRules, endRules, rulesOf, fieldCount, firstFault, fieldsFault, lineAdds, holding, recordOf}
 use Rattle.contents.specs.Sheets.{Lent, lent, Held, nothing}
 use Rattle.sheet.specs.Reading.{Outcome, Contents, contents, blank, lineTag, takenOf, isLast, nothingLeft, onTaken, lineFault, readFrom, allowed, readText}
 use Rattle.sheet.specs.Reading.Outcome.{Refused}
@@ -80,18 +80,19 @@ stored-end d e = record { next = omega (arith, d .next, e .next); last = e .last
 
 pub rules-length : (t : ℕ) (limits : Limits) (top : Header) (fs : List (List ℕ)) → length (rulesOf t limits top fs) ≡ fieldCount t
 unfolding rulesOf fieldCount
-rules-length t limits top fs = six (eqb t 66) (eqb t 71) (eqb t 67) (eqb t 83) (eqb t 70) (eqb t 65)
+rules-length t limits top fs = seven (eqb t 66) (eqb t 71) (eqb t 67) (eqb t 83) (eqb t 70) (eqb t 65) (eqb t 72)
   where
-    six : (a b c d e f : Bool)
-        → length (cond a blockRules (cond b (rangeRules fs) (cond c channelRules (cond d (headerRules limits fs) (cond e roundingRules (cond f startRules endRules))))))
-        ≡ cond a 65 (cond b 129 (cond c 69 (cond d 16 (cond e 2 (cond f 2 1)))))
-    six true b c d e f = refl
-    six false true c d e f = refl
-    six false false true d e f = refl
-    six false false false true e f = refl
-    six false false false false true f = refl
-    six false false false false false true = refl
-    six false false false false false false = refl
+    seven : (a b c d e f g : Bool)
+        → length (cond a blockRules (cond b (rangeRules fs) (cond c channelRules (cond d (headerRules limits fs) (cond e roundingRules (cond f startRules (cond g (holdRules top) endRules)))))))
+        ≡ cond a 65 (cond b 129 (cond c 69 (cond d 16 (cond e 2 (cond f 2 (cond g 4 1))))))
+    seven true b c d e f g = refl
+    seven false true c d e f g = refl
+    seven false false true d e f g = refl
+    seven false false false true e f g = refl
+    seven false false false false true f g = refl
+    seven false false false false false true g = refl
+    seven false false false false false false true = refl
+    seven false false false false false false false = refl
 
 -- E adds nothing
 module _ (t : ℕ) (limits : Limits) (top : Header) (fs : List (List ℕ)) (e : t ≡ 69) where

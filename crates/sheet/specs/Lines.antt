@@ -1,5 +1,5 @@
 -- The lines of a sheet: the rule of each field, left to right, and what a good line says.
--- Tags are S (83), F (70), A (65), C (67), B (66), G (71) and E (69).
+-- Tags are S (83), F (70), A (65), H (72), C (67), B (66), G (71) and E (69).
 use Prim.Native.Nat.{ℕ, zero, suc}
 use mathlib.Core.List.{List, [], _∷_, _++_}
 use mathlib.Core.Bool.{Bool, true, false, cond}
@@ -16,12 +16,15 @@ use Rattle.text.specs.Fields.{letter, fieldOf, faultIn, lowsIn, highsIn, tables
 use Rattle.contents.specs.declared.Limits.{Limits}
 use Rattle.contents.specs.declared.Choice.{Choice}
 use Rattle.contents.specs.declared.Choice.the-variants as choice
+use Rattle.contents.specs.declared.Hold.{Hold}
+use Rattle.contents.specs.declared.Hold.the-variants as hold
 use Rattle.contents.specs.declared.Header.{Header}
 use Rattle.contents.specs.declared.Channel.{Channel}
 use Rattle.sheet.specs.declared.line.Setting.the-variants as setting
 use Rattle.sheet.specs.declared.line.Record.{Record}
 use Rattle.sheet.specs.declared.line.Record.the-variants as line
 use Rattle.contents.specs.Sheets.{lent, Held, held}
+use Rattle.contents.specs.Hold.{measured}
 
 -- "three iteration counts (0 to 1,000)", by the caller's limit
 abbrev pub count : Limits → Rule
@@ -64,6 +67,14 @@ roundingRules = choiceRules 70 116 110
 abbrev pub startRules : List Rule
 startRules = choiceRules 65 109 111
 
+-- "A line `H` with three step counts"; "17 "hold", a count above the iterations, at its field", by the iterations that it is measured
+-- against (M-108). A number is at least 0.
+abbrev pub held-most : Header → ℕ → Rule
+held-most h c = rule.Range 17 0 (measured h c)
+
+abbrev pub holdRules : Header → List Rule
+holdRules h = rule.Tag 72 ∷ held-most h 0 ∷ held-most h 1 ∷ held-most h 2 ∷ []
+
 -- "`C`, own width w and height h, across and down factors, 64 quantisers"
 abbrev pub channelRules : List Rule
 channelRules = rule.Tag 67 ∷ ownSide ∷ ownSide ∷ factor ∷ factor ∷ replicate 64 rule.Quantiser
@@ -93,11 +104,12 @@ rulesOf tag limits h fs =
     (cond (eqb tag 67) channelRules
     (cond (eqb tag 83) (headerRules limits fs)
     (cond (eqb tag 70) roundingRules
-    (cond (eqb tag 65) startRules endRules)))))
+    (cond (eqb tag 65) startRules
+    (cond (eqb tag 72) (holdRules h) endRules))))))
 
 -- how many fields that line must have
 unfoldable pub fieldCount : ℕ → ℕ
-fieldCount tag = cond (eqb tag 66) 65 (cond (eqb tag 71) 129 (cond (eqb tag 67) 69 (cond (eqb tag 83) 16 (cond (eqb tag 70) 2 (cond (eqb tag 65) 2 1)))))
+fieldCount tag = cond (eqb tag 66) 65 (cond (eqb tag 71) 129 (cond (eqb tag 67) 69 (cond (eqb tag 83) 16 (cond (eqb tag 70) 2 (cond (eqb tag 65) 2 (cond (eqb tag 72) 4 1))))))
 
 -- "fields left to right": the fault of the first bad field, if there is one
 abbrev pub orElse : Option ℕ → Option ℕ → Option ℕ
@@ -158,9 +170,13 @@ channelOf fs = record { width = numberAt fs 1; height = numberAt fs 2; across = 
 abbrev pub choiceOf : ℕ → List ℕ → Choice
 choiceOf a f = cond (letter a f) choice.First choice.Second
 
+unfoldable pub holdOf : List (List ℕ) → Hold
+holdOf fs = hold.Counts (numberAt fs 1) (numberAt fs 2) (numberAt fs 3)
+
 unfoldable pub recordOf : ℕ → List (List ℕ) → Record
 recordOf tag fs =
     cond (eqb tag 83) (line.Header (headerOf fs))
     (cond (eqb tag 67) (line.Channel (channelOf fs))
     (cond (eqb tag 70) (line.Setting (setting.Rounding (choiceOf 116 (getD fs 1 []))))
-    (cond (eqb tag 65) (line.Setting (setting.Start (choiceOf 109 (getD fs 1 [])))) line.Block)))
+    (cond (eqb tag 65) (line.Setting (setting.Start (choiceOf 109 (getD fs 1 []))))
+    (cond (eqb tag 72) (line.Setting (setting.Hold (holdOf fs))) line.Block))))

@@ -11,6 +11,8 @@ use Rattle.text.specs.Fields.{letter, isSide}
 use Rattle.contents.specs.declared.Limits.{Limits}
 use Rattle.contents.specs.declared.Choice.{Choice}
 use Rattle.contents.specs.declared.Choice.the-variants as choice
+use Rattle.contents.specs.declared.Hold.{Hold}
+use Rattle.contents.specs.declared.Hold.the-variants as hold
 use Rattle.contents.specs.declared.Header.{Header}
 use Rattle.contents.specs.declared.Channel.{Channel}
 use Rattle.contents.specs.declared.Settings.{Settings}
@@ -57,11 +59,15 @@ unsaid choice.Unsaid = true
 unsaid choice.First = false
 unsaid choice.Second = false
 
--- The settings have an order: F is 1, A is 2. The last that was said, 0 where none was
-abbrev pub lastSaid : Settings → ℕ
-lastSaid x = cond (unsaid (x .start)) (cond (unsaid (x .rounding)) 0 1) 2
+abbrev pub noHold : Hold → Bool
+noHold hold.Unsaid = true
+noHold (hold.Counts k l m) = false
 
--- "`F` .. may follow the `S` line", "`A` .. may follow `S` or `F`": setting i where no channel was read, and no setting but earlier ones
+-- The settings have an order: F is 1, A is 2, H is 3. The last that was said, 0 where none was
+abbrev pub lastSaid : Settings → ℕ
+lastSaid x = cond (noHold (x .hold)) (cond (unsaid (x .start)) (cond (unsaid (x .rounding)) 0 1) 2) 3
+
+-- "`F` .. may follow the `S` line", "`A` .. may follow `S` or `F`", "`H` .. follows the other settings": setting i where no channel was read, and no setting but earlier ones
 abbrev pub mayStand : ℕ → State → Bool
 mayStand i s = s .begun && (eqb (s .read) 0 && ltb (lastSaid (s .sheet .settings)) i)
 
@@ -75,12 +81,13 @@ isRange s fs = letter 71 (getD fs 0 []) && (s .begun && ltb 0 (s .left))
 
 -- The tag that a line with the fields fs is read by: its own where it may stand here, else the due one, whose rule then gives 1
 unfoldable pub lineTag : State → List (List ℕ) → ℕ
-lineTag s fs = cond (isSetting s fs 1 70) 70 (cond (isSetting s fs 2 65) 65 (cond (isRange s fs) 71 (dueTag s)))
+lineTag s fs = cond (isSetting s fs 1 70) 70 (cond (isSetting s fs 2 65) 65 (cond (isSetting s fs 3 72) 72 (cond (isRange s fs) 71 (dueTag s))))
 
 -- one more setting
 abbrev pub withSetting : Settings → Setting → Settings
-withSetting x (setting.Rounding r) = record { rounding = r; start = x .start }
-withSetting x (setting.Start a) = record { rounding = x .rounding; start = a }
+withSetting x (setting.Rounding r) = record { rounding = r; start = x .start; hold = x .hold }
+withSetting x (setting.Start a) = record { rounding = x .rounding; start = a; hold = x .hold }
+withSetting x (setting.Hold h) = record { rounding = x .rounding; start = x .start; hold = h }
 
 -- a sheet with these settings
 abbrev pub settled : Sheet → Settings → Sheet

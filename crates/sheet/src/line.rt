@@ -2,7 +2,9 @@
 use contents::Channel;
 use contents::Choice;
 use contents::Header;
+use contents::Hold;
 use contents::Limits;
+use contents::measured_by;
 use text::field;
 use text::field::Field;
 use text::field::Rule;
@@ -13,13 +15,14 @@ ghost use mathlib.Core.List.{[]};
 ghost use Prim.Native.Nat.{_<_};
 ghost use lib.ListN.{getD};
 ghost use Rattle.text.specs.Pieces.{split};
-ghost use Rattle.sheet.specs.Lines.{headerRules, choiceRules, choiceOf, channelRules, blockRules, rulesOf, fieldCount, headerOf, channelOf, recordOf};
+ghost use Rattle.sheet.specs.Lines.{headerRules, choiceRules, choiceOf, holdRules, holdOf, channelRules, blockRules, rulesOf, fieldCount, headerOf, channelOf, recordOf};
 ghost use Rattle.sheet.specs.Walk.{saidBefore, rangeRule};
 
-// A setting's line: F or A.
+// A setting's line: F, A or H.
 pub enum Setting {
     Rounding(Choice),
     Start(Choice),
+    Hold(Hold),
 }
 
 // A line as read. Quantisers and levels go to the buffers.
@@ -51,6 +54,9 @@ pub fn field_count(tag: u8) -> usize
     }
     if tag == b'A' {
         return 2;
+    }
+    if tag == b'H' {
+        return 4;
     }
     1
 }
@@ -145,6 +151,35 @@ fn choice_rule(i: usize, tag: u8, a: u8, b: u8) -> Rule
     Rule::Letters(a, b)
 }
 
+// Three held counts, each against its iteration count.
+fn hold_rule(i: usize, header: Header) -> Rule
+    requires { ⌜ i < 4 ⌝ }
+    ensures { λ r. ⌜ r ≡ getD (holdRules header) i (Rule.Tag 0) ⌝ }
+{
+    if i == 0 {
+        return Rule::Tag(b'H');
+    }
+    if i == 1 {
+        return Rule::Range {
+            fault: 17,
+            low: 0,
+            high: measured_by(header, 0),
+        };
+    }
+    if i == 2 {
+        return Rule::Range {
+            fault: 17,
+            low: 0,
+            high: measured_by(header, 1),
+        };
+    }
+    Rule::Range {
+        fault: 17,
+        low: 0,
+        high: measured_by(header, 2),
+    }
+}
+
 // The rule of field i of a line after this header. The field before it said `last`, so that a rule can depend on it and nothing is read twice.
 pub fn rule_at(tag: u8, i: usize, limits: Limits, header: Header, last: Field, row: &[u8]) -> Rule
     requires { ⌜ (i < fieldCount tag) × (last ≡ saidBefore (rulesOf tag limits header (split 9 (now row))) (split 9 (now row)) i) ⌝ }
@@ -167,6 +202,9 @@ pub fn rule_at(tag: u8, i: usize, limits: Limits, header: Header, last: Field, r
     }
     if tag == b'A' {
         return choice_rule(i, b'A', b'm', b'o');
+    }
+    if tag == b'H' {
+        return hold_rule(i, header);
     }
     Rule::Tag(b'E')
 }
@@ -220,6 +258,16 @@ fn choice_at(row: &[u8], i: usize, a: u8) -> Choice
     Choice::Second
 }
 
+fn hold_of(row: &[u8]) -> Hold
+    ensures { λ r. ⌜ r ≡ holdOf (split 9 (now (row .entry))) ⌝ }
+{
+    Hold::Counts(
+        number::number_at(row, 1),
+        number::number_at(row, 2),
+        number::number_at(row, 3),
+    )
+}
+
 // What a good line holds.
 pub fn record_of(tag: u8, row: &[u8]) -> Record
     ensures { λ r. ⌜ r ≡ recordOf tag (split 9 (now (row .entry))) ⌝ }
@@ -235,6 +283,9 @@ pub fn record_of(tag: u8, row: &[u8]) -> Record
     }
     if tag == b'A' {
         return Record::Setting(Setting::Start(choice_at(row, 1, b'm')));
+    }
+    if tag == b'H' {
+        return Record::Setting(Setting::Hold(hold_of(row)));
     }
     Record::Block
 }

@@ -4,6 +4,7 @@ use crate::line::Setting;
 use contents::Channel;
 use contents::Choice;
 use contents::Header;
+use contents::Hold;
 use contents::Settings;
 use contents::Sheet;
 use contents::Weight;
@@ -14,7 +15,7 @@ ghost use Rattle.contents.specs.Sheets.{noHeader, noChannel};
 ghost use Prim.Native.Nat.{_<_};
 ghost use Rattle.sheet.specs.Walk.{Due};
 ghost use Rattle.text.specs.Pieces.{split};
-ghost use Rattle.sheet.specs.Reading.{blank, headed, placed, dueTag, unsaid, lastSaid, mayStand, isSetting, isRange, lineTag, withSetting, settled, takenOf};
+ghost use Rattle.sheet.specs.Reading.{blank, headed, placed, dueTag, unsaid, noHold, lastSaid, mayStand, isSetting, isRange, lineTag, withSetting, settled, takenOf};
 
 // The sheet so far: whether the header was read, how many channels were, and how many blocks of the last are still to come.
 pub struct State {
@@ -72,6 +73,7 @@ fn no_channels(header: Header) -> Sheet
     let settings = Settings {
         rounding: Choice::Unsaid,
         start: Choice::Unsaid,
+        hold: Hold::Unsaid,
     };
     Sheet {
         header,
@@ -123,19 +125,32 @@ fn is_unsaid(c: Choice) -> bool
     }
 }
 
-// The last setting that was said: 1 for F, 2 for A, 0 for none.
+fn is_no_hold(h: Hold) -> bool
+    ensures { λ r. ⌜ r ≡ noHold h ⌝ }
+{
+    match h {
+        Hold::Unsaid => true,
+        Hold::Counts(_, _, _) => false,
+    }
+}
+
+// The last setting that was said: 1 for F, 2 for A, 3 for H, 0 for none.
 fn last_said(settings: Settings) -> u32
     ensures { λ r. ⌜ r ≡ lastSaid settings ⌝ }
 {
     let rounding = settings.rounding;
     let start = settings.start;
-    if is_unsaid(start) {
-        if is_unsaid(rounding) {
-            return 0;
+    let hold = settings.hold;
+    if is_no_hold(hold) {
+        if is_unsaid(start) {
+            if is_unsaid(rounding) {
+                return 0;
+            }
+            return 1;
         }
-        return 1;
+        return 2;
     }
-    2
+    3
 }
 
 // May setting i stand here?
@@ -186,6 +201,9 @@ pub fn expected(s: State, row: &[u8]) -> u8
     if is_setting(s, row, 2, b'A') {
         return b'A';
     }
+    if is_setting(s, row, 3, b'H') {
+        return b'H';
+    }
     if is_range(s, row) {
         return b'G';
     }
@@ -198,9 +216,23 @@ fn set_one(settings: Settings, x: Setting) -> Settings
 {
     let rounding = settings.rounding;
     let start = settings.start;
+    let hold = settings.hold;
     match x {
-        Setting::Rounding(r) => Settings { rounding: r, start },
-        Setting::Start(a) => Settings { rounding, start: a },
+        Setting::Rounding(r) => Settings {
+            rounding: r,
+            start,
+            hold,
+        },
+        Setting::Start(a) => Settings {
+            rounding,
+            start: a,
+            hold,
+        },
+        Setting::Hold(h) => Settings {
+            rounding,
+            start,
+            hold: h,
+        },
     }
 }
 

@@ -7,4 +7,4 @@ use Rattle.sheet.proofs.state.last_said.Tie as tie
 pub last-said-spec : {M : Type 1} → statement M
 last-said-spec =
     tie.close
-    (tie.spec (λ c κs. search needs) (λ c κs. search needs) (λ c. search nexts) (λ c. search nexts) (λ c. search nexts))
+    (tie.spec (λ c κs. search needs) (λ c κs. search needs) (λ c κs. search needs) (λ c. search nexts) (λ c. search nexts) (λ c. search nexts) (λ c. search nexts))

@@ -7,4 +7,4 @@ use Rattle.sheet.proofs.state.set_one.Tie as tie
 pub set-one-spec : {M : Type 1} → statement M
 set-one-spec =
     tie.close
-    (tie.spec (λ c. search needs) (λ c. search needs) (λ c. search takes) (λ c. search takes))
+    (tie.spec (λ c. search needs) (λ c. search needs) (λ c. search needs) (λ c. search takes) (λ c. search takes) (λ c. search takes))

@@ -1,0 +1,10 @@
+-- `sheet::line::hold_rule` meets its contract.
+use borrow.Author.Needs.{needs}
+use Rattle.sheet.proofs.LineLaws.{rules}
+use Rattle.sheet.proofs.line.hold_rule.Statement.{statement}
+use Rattle.sheet.proofs.line.hold_rule.Tie as tie
+
+pub hold-rule-spec : {M : Type 1} → statement M
+hold-rule-spec =
+    tie.close
+    (tie.spec (λ c. search rules) (λ c κs. search needs) (λ c. search rules) (λ c κs. search needs) (λ c. search rules) (λ c κs. search needs) (λ c. search rules))
