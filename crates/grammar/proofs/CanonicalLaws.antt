@@ -260,7 +260,7 @@ module _ (limits : Limits) (p : List ℕ) (rest : List (List ℕ)) (C : Contents
         y = t .settings;
         later = p ∷ rest;
         lines = ap (λ (q : List (List ℕ)). q ++ p ∷ rest) (sym (none-after (t .settings)));
-        agree = record { rounding = λ q. refl; start = λ q. refl };
+        agree = record { rounding = λ q. refl; start = λ q. refl; hold = λ q. refl };
         rest = r;
       }
 

@@ -17,7 +17,8 @@ use Rattle.text.specs.Fields.{fieldOf}
 use Rattle.digits.specs.Written.{joined, ended}
 use Rattle.contents.specs.declared.Limits.{Limits}
 use Rattle.contents.specs.declared.Sheet.{Sheet}
-use Rattle.sheet.specs.Lines.{rulesOf, fieldsFault, headerOf, channelOf, recordOf}
+use Rattle.contents.specs.Hold.{measured}
+use Rattle.sheet.specs.Lines.{rulesOf, fieldsFault, headerOf, channelOf, holdOf, recordOf}
 use Rattle.contents.specs.Sheets.{lent, held, noSettings, noChannel}
 use Rattle.sheet.specs.Reading.{Outcome, Contents, contents, blank, lineTag, takenOf, lineFault, readText}
 use Rattle.sheet.specs.Calls.{Lengths, measuring, reading}
@@ -72,7 +73,7 @@ abbrev at : ℕ → Limits
 at side = record { side = side; iterations = 1000 }
 
 unfoldable answer : ℕ → List ℕ → ℕ × ℕ
-unfolding readText blank lineTag takenOf recordOf headerOf channelOf lineFault fieldsFault rulesOf numberAt weightAt numberOf bitForm weightOf levelOf fieldOf
+unfolding readText blank lineTag takenOf recordOf headerOf channelOf holdOf measured lineFault fieldsFault rulesOf numberAt weightAt numberOf bitForm weightOf levelOf fieldOf
 answer side t = answerOf (readText (at side) t)
 
 abbrev answers : ℕ → List (List ℕ) → List (ℕ × ℕ)
@@ -215,10 +216,67 @@ starting : answers 32 (
 unfolding answer
 starting = refl
 
+-- the line `H` with these counts, and the example with these iteration counts and lines after `S`
+abbrev held-row : String → String → String → List (List ℕ)
+held-row k l m = b "H" ∷ b k ∷ b l ∷ b m ∷ []
+
+abbrev counted : String → String → String → List (List (List ℕ)) → List ℕ
+counted k l m rows = text (take 1 (edit 0 7 k (edit 0 8 l (edit 0 9 m whole))) ++ rows ++ drop 1 whole)
+
+-- M-108: `H` after `S`, `F` or `A`, once, with three counts, and no setting after it
+holding-places : answers 32 (
+    after-S (held-row "0" "0" "0" ∷ [])
+    ∷ after-S ((b "F" ∷ b "t" ∷ []) ∷ (b "A" ∷ b "o" ∷ []) ∷ held-row "0" "0" "0" ∷ [])
+    ∷ after-S (held-row "0" "0" "0" ∷ (b "A" ∷ b "m" ∷ []) ∷ [])
+    ∷ after-S (held-row "0" "0" "0" ∷ (b "F" ∷ b "t" ∷ []) ∷ [])
+    ∷ after-S (held-row "0" "0" "0" ∷ held-row "0" "0" "0" ∷ [])
+    ∷ text (held-row "0" "0" "0" ∷ whole)
+    ∷ text (take 2 whole ++ held-row "0" "0" "0" ∷ drop 2 whole)
+    ∷ after-S ((b "H" ∷ b "0" ∷ b "0" ∷ []) ∷ [])
+    ∷ text (take 1 whole ++ held-row "0" "0" "0" ∷ [])
+    ∷ []
+    )
+    ≡ (0, 0) ∷ (0, 0) ∷ (1, 3) ∷ (1, 3) ∷ (1, 3) ∷ (1, 1) ∷ (1, 3) ∷ (1, 2) ∷ (7, 3) ∷ []
+unfolding answer
+holding-places = refl
+
+-- at its field: spelling 1, above its iterations 17, then the next field; a count above 1,000 is 17 too. One channel is measured by
+-- place in either mode, spare counts too
+holding-counts : answers 32 (
+    counted "0" "0" "0" (held-row "1" "x" "0" ∷ [])
+    ∷ counted "0" "0" "0" (held-row "x" "1" "0" ∷ [])
+    ∷ counted "0" "0" "0" (held-row "1001" "0" "0" ∷ [])
+    ∷ counted "0" "0" "0" (held-row "1000000" "0" "0" ∷ [])
+    ∷ counted "2" "1" "0" (held-row "2" "1" "0" ∷ [])
+    ∷ counted "2" "0" "0" (held-row "2" "1" "0" ∷ [])
+    ∷ counted "2" "0" "0" (held-row "2" "0" "1" ∷ [])
+    ∷ text (take 1 (edit 0 6 "j" (edit 0 7 "2" whole)) ++ held-row "2" "2" "0" ∷ drop 1 whole)
+    ∷ []
+    )
+    ≡ (17, 2) ∷ (1, 2) ∷ (17, 2) ∷ (1, 2) ∷ (0, 0) ∷ (17, 2) ∷ (17, 2) ∷ (17, 2) ∷ []
+unfolding answer
+holding-counts = refl
+
+-- with three channels in joint mode all three are measured against the first, in separate mode each by its place
+abbrev three-channels : String → String → List (List (List ℕ)) → List ℕ
+three-channels mode k rows =
+    text (take 1 (edit 0 5 "3" (edit 0 6 mode (edit 0 7 k whole))) ++ rows ++ take 2 (drop 1 whole) ++ take 2 (drop 1 whole) ++ drop 1 whole)
+
+holding-joint : answers 32 (
+    three-channels "j" "1" (held-row "0" "1" "1" ∷ [])
+    ∷ three-channels "s" "1" (held-row "0" "1" "0" ∷ [])
+    ∷ three-channels "s" "1" (held-row "1" "0" "0" ∷ [])
+    ∷ three-channels "j" "1" (held-row "1" "1" "2" ∷ [])
+    ∷ []
+    )
+    ≡ (0, 0) ∷ (17, 2) ∷ (0, 0) ∷ (17, 2) ∷ []
+unfolding answer
+holding-joint = refl
+
 -- M-106: on a page of 50 iterations; spelling 1, above 1,000 2, above the limit 15, then the next field; spare counts too;
 -- a limit above 1,000 is 2 at line 0, before the text is read
 unfoldable paged : ℕ → List ℕ → ℕ × ℕ
-unfolding readText blank lineTag takenOf recordOf headerOf channelOf lineFault fieldsFault rulesOf numberAt weightAt numberOf bitForm weightOf levelOf fieldOf
+unfolding readText blank lineTag takenOf recordOf headerOf channelOf holdOf measured lineFault fieldsFault rulesOf numberAt weightAt numberOf bitForm weightOf levelOf fieldOf
 paged most t = answerOf (readText (record { side = 32; iterations = most }) t)
 
 page : (paged 50 (one 0 7 "50") ≡ (0, 0)) × (paged 50 (one 0 7 "51") ≡ (15, 1)) × (paged 50 (one 0 7 "1001") ≡ (2, 1)) × (paged 50 (two 0 7 "51" 0 8 "x") ≡ (15, 1)) × (paged 50 (one 0 9 "51") ≡ (15, 1)) × (paged 1001 (b "x") ≡ (2, 0))
@@ -271,12 +329,12 @@ unfolding answer
 range-places = refl
 
 -- measuring gives both lengths; reading refuses other lengths, last
-unfoldable measured : ℕ → List ℕ → Outcome Lengths
+unfoldable lengthsIn : ℕ → List ℕ → Outcome Lengths
 unfolding readText blank lineTag takenOf recordOf headerOf channelOf lineFault fieldsFault rulesOf numberAt weightAt numberOf bitForm weightOf levelOf fieldOf
-measured side t = measuring (at side) t
+lengthsIn side t = measuring (at side) t
 
-lengths : measured 32 (text whole) ≡ Gives (record { levels = 64; tables = 64 })
-unfolding measured
+lengths : lengthsIn 32 (text whole) ≡ Gives (record { levels = 64; tables = 64 })
+unfolding lengthsIn
 lengths = refl
 
 unfoldable reads : ℕ → List ℕ → ℕ → ℕ → ℕ → ℕ × ℕ

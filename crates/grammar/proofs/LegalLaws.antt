@@ -22,6 +22,7 @@ use Rattle.contents.specs.Legal.{Between, LegalSide, LegalLimits, LegalHeader, 
 use Rattle.digits.specs.Written.{joined}
 use Rattle.text.proofs.GoodLaws.{side-is, range-good, count-good, side-good, channels-good, weight-good}
 use Rattle.digits.proofs.Both.{both-left, both-right}
+use Rattle.contents.specs.Hold.{LegalHold}
 use Rattle.contents.specs.declared.Limits.{Limits}
 use Rattle.contents.specs.declared.Header.{Header}
 use Rattle.contents.specs.declared.Channel.{Channel}
@@ -37,7 +38,7 @@ use Rattle.grammar.specs.Written.{settingLine, blockFields}
 use Rattle.sheet.proofs.StateLaws.{SettingTag, BlockTag, Stands, stands, unbegun, first-tag}
 use Rattle.sheet.proofs.StateLaws.Stands.{Header-line, Setting-line, Block-line, Channel-line, End-line}
 use Rattle.sheet.proofs.GoodLines.{fault-at, fault-drop, holds-none, withTable, holds-table, all-quantisers}
-use Rattle.grammar.proofs.SettingLaws.{placeOf, Said, said-line, no-end}
+use Rattle.grammar.proofs.SettingLaws.{placeOf, LegalSetting, with-legal, Said, said-line, no-end}
 use Rattle.grammar.proofs.BlockLaws.{Block, withBlock, BlockSaid, said-block, block-no-end, block-record, more-levels, more-ranges, more-kinds}
 
 -- Good lines
@@ -108,6 +109,7 @@ more-quantisers (q ∷ xs) ys a b = (a .0, more-quantisers xs ys (a .1) b)
 record Begun (limits : Limits) (s : State) (H : Held) : Type 0 where
   begun : s .begun ≡ true
   header : LegalHeader limits (s .sheet .header)
+  hold : LegalHold (s .sheet .header) (s .sheet .settings .hold)
   upto : s .read ≤ s .sheet .header .channels
   channel : (j : ℕ) → j < s .read → LegalChannel (s .sheet .header) (channelAt (s .sheet) j)
   spare : (j : ℕ) → s .read ≤ j → j < 3 → channelAt (s .sheet) j ≡ noChannel
@@ -188,6 +190,7 @@ withSet s x = record { begun = s .begun; sheet = settled (s .sheet) (withSetting
 pub record SettingRead (limits : Limits) (s : State) (H : Held) (k i : ℕ) (p : List ℕ) (rest : List (List ℕ)) (C : Contents) : Type 0 where
   pub x : Setting
   pub place : placeOf x ≡ i
+  pub legal : LegalSetting (s .sheet .header) x
   pub row : settingLine x ≡ p ∷ []
   pub more : readFrom limits (withSet s x) H (k + 1) rest ≡ Gives C
 
@@ -201,7 +204,7 @@ setting-read limits s H k i p rest C g e =
     rs : List Rule
     rs = rulesOf (lineTag s (split 9 p)) limits (s .sheet .header) (split 9 p)
 
-    by : Said i (lineTag s (split 9 p)) rs p (recordOf (lineTag s (split 9 p)) (split 9 p))
+    by : Said (s .sheet .header) i (lineTag s (split 9 p)) rs p (recordOf (lineTag s (split 9 p)) (split 9 p))
         → cond (eqb (lineTag s (split 9 p)) 69) (cond (nothingLeft rest) (contents (s .sheet) H) (Refused 7 (k + 1)))
         (onTaken (takenOf s (recordOf (lineTag s (split 9 p)) (split 9 p))) k (λ t. readFrom limits t (holding H (lineTag s (split 9 p)) rs (split 9 p)) (k + 1) rest)) ≡ Gives C
         → SettingRead limits s H k i p rest C
@@ -209,6 +212,7 @@ setting-read limits s H k i p rest C g e =
         record {
           x = w .x;
           place = w .place;
+          legal = w .legal;
           row = w .row;
           more = rw (no-end i (lineTag s (split 9 p)) g, w .says, w .holds H) at o;
         }
@@ -264,6 +268,7 @@ module _ (limits : Limits) (most : LegalLimits limits) (p : List ℕ) (rest : Li
       (record {
         begun = refl;
         header = header-is-legal limits fs (l .count) (l .fault);
+        hold = tt;
         upto = omega arith;
         channel = λ j h. let y : ⊥ = omega arith in absurd y;
         spare = λ j h. none-yet j (headerOf fs);
@@ -298,6 +303,7 @@ module _ (limits : Limits) (most : LegalLimits limits) (p : List ℕ) (rest : Li
         (record {
           begun = b .begun;
           header = b .header;
+          hold = b .hold;
           upto = b .upto;
           channel = b .channel;
           spare = b .spare;
@@ -324,6 +330,7 @@ module _ (limits : Limits) (most : LegalLimits limits) (p : List ℕ) (rest : Li
         (record {
           begun = b .begun;
           header = b .header;
+          hold = with-legal (s .sheet .header) (s .sheet .settings) (r .x) (b .hold) (r .legal);
           upto = b .upto;
           channel = b .channel;
           spare = b .spare;
@@ -376,6 +383,7 @@ module _ (limits : Limits) (most : LegalLimits limits) (p : List ℕ) (rest : Li
             (record {
               begun = refl;
               header = b .header;
+              hold = b .hold;
               upto = omega (arith, v);
               channel = λ q h. which q r good (eqb q (s .read)) refl (omega arith);
               spare = λ q h w. placed-other (s .sheet) (s .read) c q (λ x. omega arith) w ∙ b .spare q (omega arith) w;
@@ -413,6 +421,7 @@ module _ (limits : Limits) (most : LegalLimits limits) (p : List ℕ) (rest : Li
             record {
               limits-legal = most;
               header = b .header;
+              hold = b .hold;
               channel = λ j h. b .channel j (omega arith);
               spare = λ j h w. b .spare j (omega arith) w;
               lows-count = all ∙ ap (λ (n : ℕ). levelsTo (s .sheet) n) x;

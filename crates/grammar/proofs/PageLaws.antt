@@ -32,7 +32,7 @@ use Rattle.sheet.specs.Reading.Outcome.{Gives, Refused}
 use Rattle.grammar.specs.Page.{BothCallers, raisedTo, Raised}
 use Rattle.sheet.proofs.StateLaws.{Stands, stands, unbegun, first-tag}
 use Rattle.sheet.proofs.StateLaws.Stands.{Header-line, Setting-line, Block-line, Channel-line, End-line}
-use Rattle.sheet.proofs.StateLaws.SettingTag.{F-tag, A-tag}
+use Rattle.sheet.proofs.StateLaws.SettingTag.{F-tag, A-tag, H-tag}
 use Rattle.sheet.proofs.StateLaws.BlockTag.{B-tag, G-tag}
 use Rattle.sheet.proofs.GoodLines.{holds-none}
 use Rattle.grammar.proofs.LegalLaws.{line-is, refusal}
@@ -45,6 +45,7 @@ unfolding rulesOf
 rules-later one other s fs b tag (Header-line p o) = unbegun s b p
 rules-later one other s fs b tag (Setting-line i p (F-tag n o)) = rw o
 rules-later one other s fs b tag (Setting-line i p (A-tag n o)) = rw o
+rules-later one other s fs b tag (Setting-line i p (H-tag n o)) = rw o
 rules-later one other s fs b tag (Block-line r p l (B-tag n o)) = rw o
 rules-later one other s fs b tag (Block-line r p l (G-tag n o)) = rw o
 rules-later one other s fs b tag (Channel-line p l r o) = rw o

@@ -24,6 +24,9 @@ use Rattle.text.proofs.JoinLaws.{joined-split, joined-length, Within}
 use Rattle.text.proofs.SizeLaws.{tag-short, range-short, count-short, side-short, channels-short, letters-short, weight-short, quantiser-short}
 use Rattle.contents.specs.declared.Limits.{Limits}
 use Rattle.contents.specs.declared.Header.{Header}
+use Rattle.contents.specs.Legal.{LegalLimits}
+use Rattle.contents.specs.Hold.{measured}
+use Rattle.contents.proofs.HoldLaws.{measured-most}
 use Rattle.contents.specs.declared.Settings.{Settings}
 use Rattle.sheet.specs.declared.state.State.{State}
 use Rattle.sheet.specs.declared.state.Taken.{Taken}
@@ -65,7 +68,7 @@ within-at fs i m ms h k w = rw (drop-cons fs i [] h) (k, w)
 within-end : (fs : List (List ℕ)) (i : ℕ) → length fs ≤ i → Within (drop i fs) []
 within-end fs i h = rw (drop-of-length-le fs {i = i} h) tt
 
-module _ (limits : Limits) (most : limits .side ≤ 512) where
+module _ (limits : Limits) (most : LegalLimits limits) where
   d : ℕ
   d = length (decimal (limits .side))
 
@@ -123,6 +126,7 @@ record On (limits : Limits) (s : State) : Type 0 where
   wide : s .sheet .header .width ≤ limits .side
   high : s .sheet .header .height ≤ limits .side
   few : s .sheet .header .channels ≤ 3
+  counts : (c : ℕ) → measured (s .sheet .header) c ≤ 1000
 
 abbrev Stage : Limits → State → Type 0
 Stage limits s = (s ≡ blank) ⊎ On limits s
@@ -141,7 +145,7 @@ good-inj s t e = cc
 bad-good : {k : ℕ} {t : State} {A : Type 0} → taken.Bad k ≡ taken.Good t → A
 bad-good e = let z : _≡_ {A = ℕ} 0 1 = cc in let y : ⊥ = omega arith in absurd y
 
-module _ (limits : Limits) (most : limits .side ≤ 512) (p : List ℕ) where
+module _ (limits : Limits) (most : LegalLimits limits) (p : List ℕ) where
   spent-header : (t : State) → length (split 9 p) ≡ 16 → firstFault (headerRules limits (split 9 p)) (split 9 p) ≡ none
       → taken.Good (record { begun = true; sheet = headed (headerOf (split 9 p)); read = 0; left = 0 }) ≡ taken.Good t → Spent limits blank p t
   unfolding blank longest d
@@ -152,7 +156,7 @@ module _ (limits : Limits) (most : limits .side ≤ 512) (p : List ℕ) where
       let c : ℕ = headerOf fs .channels in
       subst (Spent limits blank p) (good-inj _ t o)
       (record {
-        stage = record { begun = refl; wide = l .width .top; high = l .height .top; few = f };
+        stage = record { begun = refl; wide = l .width .top; high = l .height .top; few = f; counts = λ c. le-trans (measured-most (headerOf fs) limits l c) (most .iterations) };
         bytes =
             let z : c - 0 ≤ 3 = omega arith in
             omega (arith, row-bytes p (headerSizes (length (decimal (limits .side)))) (header-within limits most fs n e), mul-le-mul-right (lineBytes limits) z);
@@ -167,7 +171,7 @@ module _ (limits : Limits) (most : limits .side ≤ 512) (p : List ℕ) where
         let z : taken.Good (lessBlock s) ≡ taken.Good t = rw (block-record r g (split 9 p) q) at o in
         subst (Spent limits s p) (good-inj _ t z)
         (record {
-          stage = record { begun = b .begun; wide = b .wide; high = b .high; few = b .few };
+          stage = record { begun = b .begun; wide = b .wide; high = b .high; few = b .few; counts = b .counts };
           bytes = rw (b .begun) (omega (arith, block-bytes r (w .ls) (w .hs) (w .block), ap length (w .row)));
         })
 
@@ -182,10 +186,10 @@ module _ (limits : Limits) (most : limits .side ≤ 512) (p : List ℕ) where
         let z : taken.Good (withSet s (w .x)) ≡ taken.Good t = rw (w .says) at o in
         subst (Spent limits s p) (good-inj _ t z)
         (record {
-          stage = record { begun = b .begun; wide = b .wide; high = b .high; few = b .few };
+          stage = record { begun = b .begun; wide = b .wide; high = b .high; few = b .few; counts = b .counts };
           bytes =
               rw (b .begun, both-left (eqb (s .read) 0) (ltb (lastSaid x) i) r, now-said x (w .x) p h (w .row))
-              (omega (arith, setting-spent (w .x) p (lastSaid x) h (w .row)));
+              (omega (arith, setting-spent (s .sheet .header) (b .counts) (w .x) (w .legal) p (lastSaid x) h (w .row)));
         })
 
     spent-channel : (t : State) → length (split 9 p) ≡ 69 → firstFault channelRules (split 9 p) ≡ none → s .left ≤ 0 → s .read < s .sheet .header .channels
@@ -199,7 +203,7 @@ module _ (limits : Limits) (most : limits .side ≤ 512) (p : List ℕ) where
         let u : c .height ≤ limits .side = le-trans (l .height .top) (b .high) in
         subst (Spent limits s p) (good-inj _ t o)
         (record {
-          stage = record { begun = refl; wide = b .wide; high = b .high; few = b .few };
+          stage = record { begun = refl; wide = b .wide; high = b .high; few = b .few; counts = b .counts };
           bytes =
               rw (b .begun, ne-eqb (s .read + 1) 0 (λ q. omega arith))
               (omega (
@@ -302,7 +306,7 @@ long-line limits s H k r h =
     ap (λ (ps : List (List ℕ)). readFrom limits s H k ps) (split-head 10 r)
     ∙ line-long limits s H k (before 10 r) (drop 1 (split 10 r)) (readFrom limits s H k (before 10 r ∷ drop 1 (split 10 r))) refl h
 
-module _ (limits : Limits) (most : limits .side ≤ 512) (s : State) (H : Held) (k : ℕ) (r : List ℕ) (m : ℕ) (g : Stage limits s) (q : room limits s + 1026 ≤ m) (i : m < length r) where
+module _ (limits : Limits) (most : LegalLimits limits) (s : State) (H : Held) (k : ℕ) (r : List ℕ) (m : ℕ) (g : Stage limits s) (q : room limits s + 1026 ≤ m) (i : m < length r) where
   decides-long : 1024 < length (before 10 r) → readFrom limits s H k (split 10 (take m r)) ≡ readFrom limits s H k (split 10 r)
   decides-long h =
       long-line limits s H k (take m r) (rw (before-part 10 m r, length-take m (before 10 r)) (omega arith)) ∙ sym (long-line limits s H k r h)
@@ -339,7 +343,7 @@ module _ (limits : Limits) (most : limits .side ≤ 512) (s : State) (H : Held) 
         ih t K n (u .stage) (omega (arith, u .bytes)))
         ∙ ap (λ (ps : List (List ℕ)). readFrom limits s H k ps) (sym rest-is)
 
-decides-from : (limits : Limits) → limits .side ≤ 512 → (fuel : ℕ) (s : State) (H : Held) (k : ℕ) (r : List ℕ) (m : ℕ) → length r ≤ fuel → Stage limits s → room limits s + 1026 ≤ m
+decides-from : (limits : Limits) → LegalLimits limits → (fuel : ℕ) (s : State) (H : Held) (k : ℕ) (r : List ℕ) (m : ℕ) → length r ≤ fuel → Stage limits s → room limits s + 1026 ≤ m
     → readFrom limits s H k (split 10 (take m r)) ≡ readFrom limits s H k (split 10 r)
 decides-from limits most zero s H k r m h g q = rw (take-all m r (omega arith))
 decides-from limits most (suc fuel) s H k r m h g q =
@@ -365,7 +369,7 @@ decides limits text n h = two (allowed limits) refl
   where
     two : (b : Bool) → allowed limits ≡ b
         → cond b (readFrom limits blank nothing 1 (split 10 (take n text))) (Refused 2 0) ≡ cond b (readFrom limits blank nothing 1 (split 10 text)) (Refused 2 0)
-    two true e = decides-from limits (allowed-is limits e .side .top) (length text) blank nothing 1 text n (omega arith) (inl refl) (omega (arith, room-first limits))
+    two true e = decides-from limits (allowed-is limits e) (length text) blank nothing 1 text n (omega arith) (inl refl) (omega (arith, room-first limits))
     two false e = refl
 
 -- No legal text is longer than `longest`
@@ -390,7 +394,7 @@ room-some limits s (inl q) = rw (q, room-first limits) (longest-some limits)
 room-some limits s (inr b) = rw (b .begun) (omega arith)
 
 -- one line, with the text after it
-module _ (limits : Limits) (most : limits .side ≤ 512) (s : State) (H : Held) (k : ℕ) (p later : List ℕ) (C : Contents) (g : Stage limits s)
+module _ (limits : Limits) (most : LegalLimits limits) (s : State) (H : Held) (k : ℕ) (p later : List ℕ) (C : Contents) (g : Stage limits s)
     (ih : (t : State) (K : Held) → On limits t → readFrom limits t K (k + 1) (split 10 later) ≡ Gives C → length later ≤ room limits t) where
   none-left : (c : Bool) → ltb 0 (length later) ≡ c → nothingLeft (split 10 later) ≡ true → length later ≤ 0
   none-left false w q = ltb-false 0 (length later) w
@@ -431,7 +435,7 @@ not-unended limits s H k r C e = two (ltb 1024 (length r)) _ e
     two true X o = refusal 1 k C o
     two false X o = refusal 7 k C o
 
-short-from : (limits : Limits) → limits .side ≤ 512 → (fuel : ℕ) (s : State) (H : Held) (k : ℕ) (r : List ℕ) (C : Contents) → length r ≤ fuel → Stage limits s
+short-from : (limits : Limits) → LegalLimits limits → (fuel : ℕ) (s : State) (H : Held) (k : ℕ) (r : List ℕ) (C : Contents) → length r ≤ fuel → Stage limits s
     → readFrom limits s H k (split 10 r) ≡ Gives C → length r ≤ room limits s
 short-from limits most zero s H k r C h g e = omega (arith, room-some limits s g)
 short-from limits most (suc fuel) s H k r C h g e =
@@ -457,5 +461,5 @@ unfolding readText
 at-most limits text C e = two (allowed limits) refl e
   where
     two : (b : Bool) → allowed limits ≡ b → cond b (readFrom limits blank nothing 1 (split 10 text)) (Refused 2 0) ≡ Gives C → length text ≤ longest (limits .side)
-    two true q o = omega (arith, short-from limits (allowed-is limits q .side .top) (length text) blank nothing 1 text C (omega arith) (inl refl) o, room-first limits)
+    two true q o = omega (arith, short-from limits (allowed-is limits q) (length text) blank nothing 1 text C (omega arith) (inl refl) o, room-first limits)
     two false q o = refusal 2 0 C o

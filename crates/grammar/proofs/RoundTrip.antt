@@ -5,6 +5,7 @@ use mathlib.Core.List.{List, [], _∷_, _++_, append-assoc, append-nil}
 use mathlib.Core.Bool.{Bool, true, false, cond, _&&_}
 use mathlib.Core.Logic.{_⊎_, inl, inr}
 use mathlib.Core.Option.{none}
+use native.Mathlib.Nat.{le-trans}
 use native.Mathlib.Omega.{arith}
 use lib.ListN.{length, take, drop, length-drop, length-map, take-append-drop}
 use lib.Seq.{length-take-le, take-add}
@@ -18,6 +19,10 @@ use Rattle.text.proofs.JoinLaws.{free, allFree, split-joined, joined-free, spli
 use Rattle.contents.specs.declared.Limits.{Limits}
 use Rattle.contents.specs.declared.Choice.{Choice}
 use Rattle.contents.specs.declared.Choice.the-variants as choice
+use Rattle.contents.specs.declared.Hold.{Hold}
+use Rattle.contents.specs.declared.Hold.the-variants as hold
+use Rattle.contents.specs.Hold.{measured, LegalHold}
+use Rattle.contents.proofs.HoldLaws.{measured-most}
 use Rattle.contents.specs.declared.Header.{Header}
 use Rattle.contents.specs.declared.Channel.{Channel}
 use Rattle.contents.specs.declared.Settings.{Settings}
@@ -26,17 +31,17 @@ use Rattle.sheet.specs.declared.line.Setting.{Setting}
 use Rattle.sheet.specs.declared.line.Setting.the-variants as setting
 use Rattle.sheet.specs.declared.state.State.{State}
 use Rattle.sheet.specs.declared.state.Taken.the-variants as taken
-use Rattle.sheet.specs.Lines.{headerRules, roundingRules, startRules, rulesOf, fieldCount, firstFault, holding, channelOf, recordOf}
+use Rattle.sheet.specs.Lines.{headerRules, roundingRules, startRules, holdRules, rulesOf, fieldCount, firstFault, holding, channelOf, recordOf}
 use Rattle.contents.specs.Sheets.{Lent, lent, Held, held, nothing, levelsTo, channelsOf}
 use Rattle.sheet.specs.Reading.{contents, headed, blank, lastSaid, lineTag, withSetting, settled, placed, covers, takenOf, isLast, readFrom, allowed, readText}
 use Rattle.sheet.specs.Reading.Outcome.{Refused}
-use Rattle.grammar.specs.Written.{headerFields, channelFields, blockFields, endFields, settingLine, settingLines, blockLines, dropHeld, channelLines, written}
+use Rattle.grammar.specs.Written.{headerFields, holdFields, channelFields, blockFields, endFields, settingLine, settingLines, blockLines, dropHeld, channelLines, written}
 use Rattle.sheet.proofs.WalkLaws.{line-next, line-end}
 use Rattle.sheet.proofs.GoodLines.{holds-none, withTable, holds-table}
-use Rattle.grammar.proofs.SettingLaws.{placeOf, unset}
+use Rattle.grammar.proofs.SettingLaws.{placeOf, LegalSetting, hold-within, unset}
 use Rattle.grammar.proofs.BlockLaws.{Block, withBlock, block-first, drop-levels, drop-ranges, kinds-take, kinds-drop}
 use Rattle.grammar.proofs.LegalLaws.{blocks}
-use Rattle.grammar.proofs.RowLaws.{SixDigits, header-good, header-back, header-free, header-short, channel-good, channel-said, channel-back, channel-free, channel-short, block-good, block-holds, block-count, block-free, block-short, end-good}
+use Rattle.grammar.proofs.RowLaws.{SixDigits, header-good, header-back, header-free, header-short, hold-good, hold-back, hold-free, channel-good, channel-said, channel-back, channel-free, channel-short, block-good, block-holds, block-count, block-free, block-short, end-good}
 
 -- One good row
 
@@ -261,53 +266,79 @@ read-header limits most h l rest e =
     ∙ ap (λ (K : Held). readFrom limits (during (headed h) 0 0) K 2 rest) (holds-none nothing 83 (headerRules limits fs) fs refl refl refl)
 
 -- a setting's line, if it has one, where it may stand
-read-setting : (limits : Limits) (rest : List (List ℕ)) → isLast rest ≡ false → (t : Sheet) (k : ℕ) (z : Setting) → lastSaid (t .settings) < placeOf z
+read-setting : (limits : Limits) (rest : List (List ℕ)) → isLast rest ≡ false → (t : Sheet) → ((c : ℕ) → measured (t .header) c ≤ 1000) → (k : ℕ) (z : Setting) → LegalSetting (t .header) z → lastSaid (t .settings) < placeOf z
     → (m : ℕ) × (readFrom limits (during t 0 0) nothing k (settingLine z ++ rest) ≡ readFrom limits (during (settled t (withSetting (t .settings) z)) 0 0) nothing m rest)
 unfolding lineTag rulesOf fieldCount recordOf takenOf fieldOf
-read-setting limits rest e t k (setting.Rounding choice.Unsaid) h =
+read-setting limits rest e t most k (setting.Rounding choice.Unsaid) g h =
     (k, ap (λ (x : Settings). readFrom limits (during (settled t x) 0 0) nothing k rest) (sym (unset (t .settings) (setting.Rounding choice.Unsaid) h refl)))
-read-setting limits rest e t k (setting.Rounding choice.First) h =
+read-setting limits rest e t most k (setting.Rounding choice.First) g h =
     let fs : List (List ℕ) = (70 ∷ []) ∷ (116 ∷ []) ∷ [] in (
       k + 1,
       read-row limits (during t 0 0) nothing k fs rest 70 (rw (lt-ltb (lastSaid (t .settings)) 1 h)) (λ q. omega arith) (omega arith) refl (omega arith) e refl refl _ refl
           ∙ ap (λ (K : Held). readFrom limits (during (settled t (withSetting (t .settings) (setting.Rounding choice.First))) 0 0) K (k + 1) rest) (holds-none nothing 70 roundingRules fs refl refl refl),
     )
-read-setting limits rest e t k (setting.Rounding choice.Second) h =
+read-setting limits rest e t most k (setting.Rounding choice.Second) g h =
     let fs : List (List ℕ) = (70 ∷ []) ∷ (110 ∷ []) ∷ [] in (
       k + 1,
       read-row limits (during t 0 0) nothing k fs rest 70 (rw (lt-ltb (lastSaid (t .settings)) 1 h)) (λ q. omega arith) (omega arith) refl (omega arith) e refl refl _ refl
           ∙ ap (λ (K : Held). readFrom limits (during (settled t (withSetting (t .settings) (setting.Rounding choice.Second))) 0 0) K (k + 1) rest) (holds-none nothing 70 roundingRules fs refl refl refl),
     )
-read-setting limits rest e t k (setting.Start choice.Unsaid) h =
+read-setting limits rest e t most k (setting.Start choice.Unsaid) g h =
     (k, ap (λ (x : Settings). readFrom limits (during (settled t x) 0 0) nothing k rest) (sym (unset (t .settings) (setting.Start choice.Unsaid) h refl)))
-read-setting limits rest e t k (setting.Start choice.First) h =
+read-setting limits rest e t most k (setting.Start choice.First) g h =
     let fs : List (List ℕ) = (65 ∷ []) ∷ (109 ∷ []) ∷ [] in (
       k + 1,
       read-row limits (during t 0 0) nothing k fs rest 65 (rw (lt-ltb (lastSaid (t .settings)) 2 h)) (λ q. omega arith) (omega arith) refl (omega arith) e refl refl _ refl
           ∙ ap (λ (K : Held). readFrom limits (during (settled t (withSetting (t .settings) (setting.Start choice.First))) 0 0) K (k + 1) rest) (holds-none nothing 65 startRules fs refl refl refl),
     )
-read-setting limits rest e t k (setting.Start choice.Second) h =
+read-setting limits rest e t most k (setting.Start choice.Second) g h =
     let fs : List (List ℕ) = (65 ∷ []) ∷ (111 ∷ []) ∷ [] in (
       k + 1,
       read-row limits (during t 0 0) nothing k fs rest 65 (rw (lt-ltb (lastSaid (t .settings)) 2 h)) (λ q. omega arith) (omega arith) refl (omega arith) e refl refl _ refl
           ∙ ap (λ (K : Held). readFrom limits (during (settled t (withSetting (t .settings) (setting.Start choice.Second))) 0 0) K (k + 1) rest) (holds-none nothing 65 startRules fs refl refl refl),
     )
+read-setting limits rest e t most k (setting.Hold hold.Unsaid) g h =
+    (k, ap (λ (x : Settings). readFrom limits (during (settled t x) 0 0) nothing k rest) (sym (unset (t .settings) (setting.Hold hold.Unsaid) h refl)))
+read-setting limits rest e t most k (setting.Hold (hold.Counts a b d)) g h =
+    let fs = holdFields a b d in
+    let six : (c : ℕ) → measured (t .header) c ≤ 999999 = λ c. omega (arith, most c) in
+    let u = during (settled t (withSetting (t .settings) (setting.Hold (hold.Counts a b d)))) 0 0 in (
+      k + 1,
+      read-row limits (during t 0 0) nothing k fs rest 72 (rw (lt-ltb (lastSaid (t .settings)) 3 h)) (λ q. omega arith) (omega arith) (hold-free 9 (omega arith) a b d)
+          (omega (arith, hold-within (t .header) most a b d g)) e refl (hold-good (t .header) six a b d g) u (rw (hold-back (t .header) six a b d g))
+          ∙ ap (λ (K : Held). readFrom limits u K (k + 1) rest) (holds-none nothing 72 (holdRules (t .header)) fs refl refl refl),
+    )
 
 -- the settings' lines
-read-settings : (limits : Limits) (h : Header) (x : Settings) (rest : List (List ℕ)) → isLast rest ≡ false
+read-settings : (limits : Limits) (h : Header) → ((c : ℕ) → measured h c ≤ 1000) → (x : Settings) → LegalHold h (x .hold) → (rest : List (List ℕ)) → isLast rest ≡ false
     → (m : ℕ) × (readFrom limits (during (headed h) 0 0) nothing 2 (settingLines x ++ rest) ≡ readFrom limits (during (settled (headed h) x) 0 0) nothing m rest)
-read-settings limits h x rest e =
+read-settings limits h most x g rest e =
     let F = setting.Rounding (x .rounding) in
     let A = setting.Start (x .start) in
+    let O = setting.Hold (x .hold) in
     let t : Sheet = settled (headed h) (withSetting (headed h .settings) F) in
-    let f = read-setting limits (settingLine A ++ rest) (more-left (settingLine A) rest e) (headed h) 2 F (omega arith) in
-    let a = read-setting limits rest e t (f .0) A (below (x .rounding)) in
-    (a .0, ap (λ (q : List (List ℕ)). readFrom limits (during (headed h) 0 0) nothing 2 q) (append-assoc (settingLine F) (settingLine A) rest) ∙ f .1 ∙ a .1)
+    let u : Sheet = settled t (withSetting (t .settings) A) in
+    let more = more-left (settingLine O) rest e in
+    let f = read-setting limits (settingLine A ++ (settingLine O ++ rest)) (more-left (settingLine A) (settingLine O ++ rest) more) (headed h) most 2 F tt (omega arith) in
+    let a = read-setting limits (settingLine O ++ rest) more t most (f .0) A tt (below (x .rounding)) in
+    let o = read-setting limits rest e u most (a .0) O g (under (x .rounding) (x .start)) in (
+      o .0,
+      ap (λ (q : List (List ℕ)). readFrom limits (during (headed h) 0 0) nothing 2 q)
+          (append-assoc (settingLine F) (settingLine A ++ settingLine O) rest ∙ ap (λ (q : List (List ℕ)). settingLine F ++ q) (append-assoc (settingLine A) (settingLine O) rest))
+          ∙ f .1
+          ∙ a .1
+          ∙ o .1,
+    )
   where
-    below : (r : Choice) → lastSaid (record { rounding = r; start = choice.Unsaid }) < 2
+    below : (r : Choice) → lastSaid (record { rounding = r; start = choice.Unsaid; hold = hold.Unsaid }) < 2
     below choice.Unsaid = omega arith
     below choice.First = omega arith
     below choice.Second = omega arith
+
+    under : (r a : Choice) → lastSaid (record { rounding = r; start = a; hold = hold.Unsaid }) < 3
+    under r choice.Unsaid = omega (arith, below r)
+    under r choice.First = omega arith
+    under r choice.Second = omega arith
 
 -- the lines have no line end in them
 free-setting : (z : Setting) → allFree 10 (settingLine z) ≡ true
@@ -317,6 +348,8 @@ free-setting (setting.Rounding choice.Second) = refl
 free-setting (setting.Start choice.Unsaid) = refl
 free-setting (setting.Start choice.First) = refl
 free-setting (setting.Start choice.Second) = refl
+free-setting (setting.Hold hold.Unsaid) = refl
+free-setting (setting.Hold (hold.Counts k l m)) = rw (joined-free (holdFields k l m) (hold-free 10 (omega arith) k l m))
 
 free-blocks : (rs : List Bool) (ls hs : List ℤ) → allFree 10 (blockLines rs ls hs) ≡ true
 free-blocks [] ls hs = refl
@@ -332,7 +365,10 @@ free-both (p ∷ ps) qs a b = two (free 10 p) a (free-both ps qs)
     two false o ih = o
 
 free-settings : (x : Settings) → allFree 10 (settingLines x) ≡ true
-free-settings x = free-both (settingLine (setting.Rounding (x .rounding))) (settingLine (setting.Start (x .start))) (free-setting (setting.Rounding (x .rounding))) (free-setting (setting.Start (x .start)))
+free-settings x =
+    let A = setting.Start (x .start) in
+    let O = setting.Hold (x .hold) in
+    free-both (settingLine (setting.Rounding (x .rounding))) (settingLine A ++ settingLine O) (free-setting (setting.Rounding (x .rounding))) (free-both (settingLine A) (settingLine O) (free-setting A) (free-setting O))
 
 free-channels : (cs : List Channel) (H : Held) → allFree 10 (channelLines cs H) ≡ true
 free-channels [] H = refl
@@ -400,7 +436,7 @@ round-trip limits s H l b =
     let u = used limits s (H .lent) l in
     let cs = channelsOf s in
     let end : List (List ℕ) = joined endFields ∷ [] ∷ [] in
-    let f = read-settings limits (s .header) (s .settings) (channelLines cs H ++ end) (more-left (channelLines cs H) end refl) in
+    let f = read-settings limits (s .header) (λ c. le-trans (measured-most (s .header) limits (l .header) c) (l .limits-legal .iterations)) (s .settings) (l .hold) (channelLines cs H ++ end) (more-left (channelLines cs H) end refl) in
     let a : Left cs H =
     record {
       low-count = l .lows-count ∙ u .levels;

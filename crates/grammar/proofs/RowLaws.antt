@@ -27,12 +27,14 @@ use Rattle.text.proofs.DecimalLaws.{number-written}
 use Rattle.digits.proofs.Lengths.{decimal-length}
 use Rattle.text.proofs.SpellingLaws.{weight-written, level-written, weight-length}
 use Rattle.text.proofs.JoinLaws.{above, above-free, above-less, above-decimal, above-weight, above-level, allFree, Within, joined-length}
+use Rattle.contents.specs.declared.Hold.the-variants as hold
+use Rattle.contents.specs.Hold.{measured, LegalHold}
 use Rattle.contents.specs.declared.Limits.{Limits}
 use Rattle.contents.specs.declared.Header.{Header}
 use Rattle.contents.specs.declared.Channel.{Channel}
 use Rattle.contents.specs.Sheets.{Held}
-use Rattle.sheet.specs.Lines.{count, mode, headerRules, channelRules, blockRules, pairRules, rangeRules, fieldCount, firstFault, lineAdds, holding, headerOf, channelOf}
-use Rattle.grammar.specs.Written.{headerFields, channelFields, pairTexts, blockFields, endFields}
+use Rattle.sheet.specs.Lines.{count, mode, headerRules, holdRules, holdOf, channelRules, blockRules, pairRules, rangeRules, fieldCount, firstFault, lineAdds, holding, headerOf, channelOf}
+use Rattle.grammar.specs.Written.{headerFields, holdFields, channelFields, pairTexts, blockFields, endFields}
 use Rattle.sheet.proofs.GoodLines.{lows-skip, highs-skip, tables-skip}
 use Rattle.grammar.proofs.BlockLaws.{Block, withBlock, block-bytes}
 
@@ -179,6 +181,31 @@ module _ (limits : Limits) (allowed : LegalLimits limits) (h : Header) (l : Lega
         weight-back (h .data1) (l .data1),
         weight-back (h .data2) (l .data2),
       )
+
+-- The held counts
+
+module _ (h : Header) (six : (c : ℕ) → measured h c ≤ 999999) (k l m : ℕ) (g : LegalHold h (hold.Counts k l m)) where
+  first-six : k ≤ 999999
+  first-six = le-trans (g .0) (six 0)
+
+  second-six : l ≤ 999999
+  second-six = le-trans (g .1 .0) (six 1)
+
+  third-six : m ≤ 999999
+  third-six = le-trans (g .1 .1) (six 2)
+
+  pub hold-good : firstFault (holdRules h) (holdFields k l m) ≡ none
+  hold-good =
+      rw (
+        tag-written 72,
+        range-written 17 0 (measured h 0) k (record { low = omega arith; top = g .0 }) first-six,
+        range-written 17 0 (measured h 1) l (record { low = omega arith; top = g .1 .0 }) second-six,
+        range-written 17 0 (measured h 2) m (record { low = omega arith; top = g .1 .1 }) third-six,
+      )
+
+  pub hold-back : holdOf (holdFields k l m) ≡ hold.Counts k l m
+  unfolding holdOf numberAt
+  hold-back = rw (number-back k first-six, number-back l second-six, number-back m third-six)
 
 -- Channels
 
@@ -368,6 +395,9 @@ header-free b k h =
         ),
       ),
     )
+
+pub hold-free : (b : ℕ) → b < 45 → (k l m : ℕ) → allFree b (holdFields k l m) ≡ true
+hold-free b h k l m = cleans-free b h (holdFields k l m) (refl, (clean-decimal k, (clean-decimal l, (clean-decimal m, tt))))
 
 pub channel-free : (b : ℕ) → b < 45 → (c : Channel) (qs : List ℕ) → allFree b (channelFields c qs) ≡ true
 channel-free b k c qs =

@@ -11,6 +11,10 @@ headerSizes d = 1 ∷ d ∷ d ∷ d ∷ d ∷ 1 ∷ 1 ∷ 4 ∷ 4 ∷ 4 ∷ repl
 abbrev pub choiceSizes : List ℕ
 choiceSizes = 1 ∷ 1 ∷ []
 
+-- a held count is within 1,000
+abbrev pub holdSizes : List ℕ
+holdSizes = 1 ∷ 4 ∷ 4 ∷ 4 ∷ []
+
 abbrev pub channelSizes : ℕ → List ℕ
 channelSizes d = 1 ∷ d ∷ d ∷ 1 ∷ 1 ∷ replicate 64 3
 
@@ -22,9 +26,9 @@ blockSizes = 1 ∷ replicate 128 5
 abbrev pub channelBytes : ℕ → ℕ → ℕ
 channelBytes limit d = rowBytes (channelSizes d) + limit * limit / 64 * rowBytes blockSizes
 
--- the lines of all settings, F and A
+-- the lines of all settings, F, A and H
 abbrev pub settingsBytes : ℕ
-settingsBytes = rowBytes choiceSizes + rowBytes choiceSizes
+settingsBytes = rowBytes choiceSizes + rowBytes choiceSizes + rowBytes holdSizes
 
 -- No legal text has more bytes: a header, the settings, three channels and E
 unfoldable pub longest : ℕ → ℕ

@@ -8,6 +8,8 @@ use Rattle.text.specs.Written.{weightText, levelText}
 use Rattle.digits.specs.Written.{decimal, joined, ended}
 use Rattle.contents.specs.declared.Choice.{Choice}
 use Rattle.contents.specs.declared.Choice.the-variants as choice
+use Rattle.contents.specs.declared.Hold.{Hold}
+use Rattle.contents.specs.declared.Hold.the-variants as hold
 use Rattle.contents.specs.declared.Header.{Header}
 use Rattle.contents.specs.declared.Settings.{Settings}
 use Rattle.contents.specs.declared.Channel.{Channel}
@@ -51,13 +53,22 @@ choiceLines tag a b choice.Unsaid = []
 choiceLines tag a b choice.First = joined ((tag ∷ []) ∷ (a ∷ []) ∷ []) ∷ []
 choiceLines tag a b choice.Second = joined ((tag ∷ []) ∷ (b ∷ []) ∷ []) ∷ []
 
+-- the line of the held counts, if there is one
+abbrev pub holdFields : ℕ → ℕ → ℕ → List (List ℕ)
+holdFields k l m = (72 ∷ []) ∷ decimal k ∷ decimal l ∷ decimal m ∷ []
+
+abbrev pub holdLines : Hold → List (List ℕ)
+holdLines hold.Unsaid = []
+holdLines (hold.Counts k l m) = joined (holdFields k l m) ∷ []
+
 -- the line of a setting, and all settings in their order
 abbrev pub settingLine : Setting → List (List ℕ)
 settingLine (setting.Rounding r) = choiceLines 70 116 110 r
 settingLine (setting.Start a) = choiceLines 65 109 111 a
+settingLine (setting.Hold x) = holdLines x
 
 abbrev pub settingLines : Settings → List (List ℕ)
-settingLines x = settingLine (setting.Rounding (x .rounding)) ++ settingLine (setting.Start (x .start))
+settingLines x = settingLine (setting.Rounding (x .rounding)) ++ (settingLine (setting.Start (x .start)) ++ settingLine (setting.Hold (x .hold)))
 
 -- blocks of these kinds, one after the other
 abbrev pub blockLines : List Bool → List ℤ → List ℤ → List (List ℕ)
