@@ -17,9 +17,9 @@ use Rattle.fold.specs.Join.{joinUpto}
 use Rattle.fold.specs.Part.{splice}
 use Rattle.fold.proofs.Joins.{join-length, fill-none, fill-more, fill-all}
 use Rattle.start.specs.Buffers.{Buffers}
-use Rattle.calls.specs.Run.{Given, Sheet, Place, fresh, place, count, area, coefs, among, blendsIn, sheetOk, placesOk}
+use Rattle.calls.specs.Run.{Given, Sheet, Place, fresh, place, count, area, coefs, held, among, blendsIn, sheetOk, placesOk}
 use Rattle.calls.specs.Buffers.{Plane, Prior, Gradient, Across, Down, Saved, Sized}
-use Rattle.calls.specs.Jobs.{project, turn, fixed, kept, totalsAt}
+use Rattle.calls.specs.Jobs.{project, turn, fixed, clips, kept, totalsAt}
 use Rattle.calls.specs.Calls as Calls
 use Rattle.calls.specs.Calls.{State, done, all, allSix, lengths, startRefusal, settle, begin, start, final}
 use Rattle.calls.specs.Between.{GivenOk, Inv}
@@ -27,6 +27,7 @@ use Rattle.calls.proofs.Legal.{places-are}
 use Rattle.calls.proofs.Facts.{sheet-is}
 use Rattle.calls.proofs.Parts.{joined-channels}
 use Rattle.calls.proofs.Tests.{never, among-true, sized-of, Lent, lent-of}
+use Rattle.calls.proofs.Step.{either-most}
 use Rattle.calls.proofs.Runs.{between, given-ok}
 use Rattle.demand.specs.Solver.{jobs}
 use Rattle.demand.proofs.Laws.{laws}
@@ -70,11 +71,11 @@ clipped-are G r B h = λ c l. h .inv .as-kept c l ∙ ap (λ (k : ℕ). kept job
 pub kept-most : (G : Given) (p c : ℕ) → kept jobs G p c ≤ coefs (G .sheet) c
 unfolding kept
 kept-most G zero c = omega arith
-kept-most G (suc p) c = go (eqb (p % 5) (turn project)) (kept-most G p c)
-  where
-    go : (b : Bool) → kept jobs G p c ≤ coefs (G .sheet) c → cond b (jobs .clip G c (fixed jobs G p c)) (kept jobs G p c) ≤ coefs (G .sheet) c
-    go true before = laws .clip-most G c (fixed jobs G p c)
-    go false before = before
+kept-most G (suc p) c =
+    let most = coefs (G .sheet) c in
+    let before = kept-most G p c in
+    either-most (eqb (p % 5) (turn project)) (clips jobs G c (p / 5) (kept jobs G p c) (fixed jobs G p c)) (kept jobs G p c) most
+    (either-most (held (G .sheet) c (p / 5)) (kept jobs G p c) (jobs .clip G c (fixed jobs G p c)) most before (laws .clip-most G c (fixed jobs G p c))) before
 
 -- the numbers may come from elsewhere
 pub renumber : (n : ℕ) (w : Whole) (L : Loan) (a : Calls.Answer) (k k′ : ℕ → ℕ) (L′ : Loan) → ((c : ℕ) → c < w .channels → k′ c ≡ k c)
