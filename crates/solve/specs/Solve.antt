@@ -1,6 +1,6 @@
 -- The whole run (document 01, "Whole run and picture"): which runs a sheet has in each mode, the planes that they leave, the totals of their blends, and when they blow.
 use Prim.Native.Nat.{ℕ, zero, suc, _+_, _*_}
-use mathlib.Core.Bool.{Bool, false, _&&_, cond}
+use mathlib.Core.Bool.{Bool, false, _&&_, not, cond}
 use mathlib.Core.List.{List, [], _∷_}
 use lib.ListN.{length, getD}
 use lib.Dec.{eqb}
@@ -15,6 +15,8 @@ use Rattle.contents.specs.declared.Choice.the-variants as choice
 use Rattle.contents.specs.declared.Sheet.{Sheet}
 use Rattle.contents.specs.declared.Channel as Line
 use Rattle.contents.specs.Sheets.{channelAt}
+use Rattle.contents.specs.Hold as Hold
+use Rattle.contents.specs.Hold.{holdAt}
 use Rattle.start.specs.declared.coef.Reorder.{Reorder}
 use Rattle.start.specs.declared.coef.Reorder.the-variants.{Each, Once}
 use Rattle.start.specs.Buffers.{Buffers}
@@ -31,16 +33,38 @@ use Rattle.rounds.specs.Whole.{jobCount, runBlows, runTotals, Whole, last, runO
 
 -- ---- the runs of a sheet
 
--- a channel line as a channel of a run with this data weight, at position 0 and not marked
-abbrev pub runChannel : Line.Channel → Weight → Channel
-runChannel x w =
-    record { width = x .width; height = x .height; across = x .across; down = x .down; weight = valueOf w; position = 0; mark = false; clipped = 0 }
+-- a channel line as a channel of a run with this data weight and this held count, at position 0 and not marked
+abbrev pub runChannel : Line.Channel → Weight → ℕ → Channel
+runChannel x w held =
+    record {
+      width = x .width;
+      height = x .height;
+      across = x .across;
+      down = x .down;
+      weight = valueOf w;
+      held = held;
+      position = 0;
+      mark = false;
+      clipped = 0;
+    }
+
+-- "A run's record carries the counts of its own channels only" (M-108): after how many steps channel c is held in a run of n steps. In a run that the
+-- sheet's mode makes, as the sheet says. A run of the other mode is never made; its other numbers must be legal, and nothing is held in it.
+abbrev pub heldIn : Bool → Sheet → ℕ → ℕ → ℕ
+heldIn made S c n = cond made (holdAt S c) n
 
 -- M-102's letter: "`m`, also the meaning when it is absent, is the start of document 01. `o` dequantises and transforms all blocks, then reorders once"
 abbrev pub reorderOf : Choice → Reorder
 reorderOf choice.Unsaid = Each
 reorderOf choice.First = Each
 reorderOf choice.Second = Once
+
+-- the channels of the joint run, each with its own data weight and held count
+abbrev pub jointChannels : Sheet → List Channel
+jointChannels S =
+    let h = S .header in
+    let held : ℕ → ℕ = λ c. heldIn (h .joint) S c (h .iterations0) in
+    runChannel (S .first) (h .data0) (held 0) ∷ runChannel (S .second) (h .data1) (held 1) ∷ runChannel (S .third) (h .data2) (held 2) ∷ []
 
 -- "Joint mode uses the first smoothing weight, the first iteration count and each channel's data weight."
 unfoldable pub joint : Sheet → Run
@@ -53,12 +77,12 @@ joint S =
       smoothing = valueOf (h .smoothing0);
       reorder = reorderOf (S .settings .start);
       count = h .channels;
-      channels = runChannel (S .first) (h .data0) ∷ runChannel (S .second) (h .data1) ∷ runChannel (S .third) (h .data2) ∷ [];
+      channels = jointChannels S;
     }
 
 -- Channel c's own iteration count and smoothing weight.
 abbrev pub iterationsAt : Sheet → ℕ → ℕ
-iterationsAt S c = cond (eqb c 0) (S .header .iterations0) (cond (eqb c 1) (S .header .iterations1) (S .header .iterations2))
+iterationsAt S c = Hold.iterationsAt (S .header) c
 
 abbrev pub smoothingAt : Sheet → ℕ → Weight
 smoothingAt S c = cond (eqb c 0) (S .header .smoothing0) (cond (eqb c 1) (S .header .smoothing1) (S .header .smoothing2))
@@ -76,7 +100,7 @@ blendCount S = cond (S .header .joint) (S .header .iterations0) (stepsBefore S (
 -- weights." A run of one channel, the first of three places; no call reads the other two. The letter is the sheet's in both modes.
 unfoldable pub alone : Sheet → ℕ → Run
 alone S c =
-    let x = runChannel (channelAt S c) (S .header .data0) in
+    let x = runChannel (channelAt S c) (S .header .data0) (heldIn (not (S .header .joint)) S c (iterationsAt S c)) in
     record {
       w = S .header .width;
       h = S .header .height;

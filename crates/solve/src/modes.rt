@@ -5,6 +5,7 @@ use contents::Choice;
 use contents::Header;
 use contents::Sheet;
 use contents::Weight;
+use contents::held_after;
 use contents::weight_value;
 use fold::flags::both;
 use record::Run;
@@ -13,11 +14,11 @@ use start::coef::Reorder;
 ghost use mathlib.Core.Path.{_≡_};
 ghost use Rattle.start.specs.Coef.{pairs};
 ghost use Rattle.contents.specs.Sheets.{channelAt};
-ghost use Rattle.solve.specs.Solve.{runChannel, reorderOf, joint, alone, smoothingAt, allLegal, solveRefusal};
+ghost use Rattle.solve.specs.Solve.{runChannel, reorderOf, heldIn, jointChannels, joint, alone, smoothingAt, allLegal, solveRefusal};
 
-// A channel line as a channel of a fresh run, with this data weight.
-fn run_channel(x: contents::Channel, weight: Weight) -> record::Channel
-    ensures { λ r. ⌜ r ≡ runChannel x weight ⌝ }
+// A channel line as a channel of a fresh run, with this data weight, held after this many steps.
+fn run_channel(x: contents::Channel, weight: Weight, held: u32) -> record::Channel
+    ensures { λ r. ⌜ r ≡ runChannel x weight held ⌝ }
 {
     record::Channel {
         width: x.width,
@@ -25,6 +26,7 @@ fn run_channel(x: contents::Channel, weight: Weight) -> record::Channel
         across: x.across,
         down: x.down,
         weight: weight_value(weight),
+        held,
         position: 0,
         mark: false,
         clipped: 0,
@@ -42,24 +44,45 @@ fn reorder_of(letter: Choice) -> Reorder
     }
 }
 
-// The run of all channels: the first smoothing weight, the first iteration count and each channel's data weight.
-pub fn joint_of(s: Sheet) -> Run
-    ensures { λ r. ⌜ r ≡ joint s ⌝ }
+// After how many steps channel c is held in a run of n steps, which the sheet's mode makes or does not make.
+fn held_in(made: bool, s: Sheet, c: u32, n: u32) -> u32
+    ensures { λ r. ⌜ r ≡ heldIn made s c n ⌝ }
+{
+    if made {
+        return held_after(s, c);
+    }
+    n
+}
+
+// The channels of the joint run.
+fn joint_channels(s: Sheet) -> [record::Channel; 3]
+    ensures { λ r. ⌜ r ≡ jointChannels s ⌝ }
 {
     let h = s.header;
-    let smoothing = h.smoothing0;
+    let made = h.joint;
+    let n = h.iterations0;
     let d0 = h.data0;
     let d1 = h.data1;
     let d2 = h.data2;
     let first = s.first;
     let second = s.second;
     let third = s.third;
+    let a = run_channel(first, d0, held_in(made, s, 0, n));
+    let b = run_channel(second, d1, held_in(made, s, 1, n));
+    let c = run_channel(third, d2, held_in(made, s, 2, n));
+    [a, b, c]
+}
+
+// The run of all channels: the first smoothing weight, the first iteration count, and each channel's data weight and held count.
+pub fn joint_of(s: Sheet) -> Run
+    ensures { λ r. ⌜ r ≡ joint s ⌝ }
+{
+    let h = s.header;
+    let smoothing = h.smoothing0;
     let settings = s.settings;
     let start = settings.start;
     let letter = reorder_of(start);
-    let a = run_channel(first, d0);
-    let b = run_channel(second, d1);
-    let c = run_channel(third, d2);
+    let channels = joint_channels(s);
     Run {
         w: h.width,
         h: h.height,
@@ -67,7 +90,7 @@ pub fn joint_of(s: Sheet) -> Run
         smoothing: weight_value(smoothing),
         reorder: letter,
         count: h.channels,
-        channels: [a, b, c],
+        channels,
     }
 }
 
@@ -98,20 +121,23 @@ fn smoothing_at(s: Sheet, c: u32) -> Weight
     h.smoothing2
 }
 
-// The run of channel c alone: its own smoothing weight and iteration count, but the first data weight.
+// The run of channel c alone: its own smoothing weight, iteration count and held count, but the first data weight.
 pub fn alone_of(s: Sheet, c: u32) -> Run
     ensures { λ r. ⌜ r ≡ alone s c ⌝ }
 {
     let h = s.header;
+    let apart = !h.joint;
     let d0 = h.data0;
     let settings = s.settings;
     let start = settings.start;
     let reorder = reorder_of(start);
-    let x = run_channel(line_at(s, c), d0);
+    let n = iterations_at(s, c);
+    let held = held_in(apart, s, c, n);
+    let x = run_channel(line_at(s, c), d0, held);
     Run {
         w: h.width,
         h: h.height,
-        n: iterations_at(s, c),
+        n,
         smoothing: weight_value(smoothing_at(s, c)),
         reorder,
         count: 1,
