@@ -1,10 +1,10 @@
 -- A sheet that is read is not refused by solve: its runs are legal, and buffers of the lengths that its header gives are long enough.
 use mathlib.Core.Path.{_≡_, refl, sym, ap, _∙_, subst}
 use mathlib.Core.Logic.{_⊎_, inl, inr}
-use mathlib.Core.Bool.{Bool, true, false, _&&_, _||_, cond}
+use mathlib.Core.Bool.{Bool, true, false, not, _&&_, _||_, cond}
 use mathlib.Core.List.{List, [], _∷_}
 use Prim.Native.Nat.{ℕ, zero, suc, _+_, _*_, _%_, _≤_, _<_}
-use native.Mathlib.Nat.{mul-comm, le-trans}
+use native.Mathlib.Nat.{mul-comm, le-refl, le-trans}
 use native.Mathlib.Omega.{arith}
 use lib.Dec.{T, eqb, leb, le→leb}
 use lib.IntN.{ℤ, pos, negsuc}
@@ -15,6 +15,8 @@ use Rattle.contents.specs.Legal.{Between, LegalSide, LegalWeight, LegalLevel, L
 use Rattle.contents.specs.Weights.{valueOf, plain}
 use Rattle.contents.specs.declared.Weight.{Weight}
 use Rattle.contents.proofs.ValueLaws as ValueLaws
+use Rattle.contents.specs.Hold.{measured}
+use Rattle.contents.proofs.HoldLaws.{three-0, measured-first, measured-apart, measured-one, hold-most}
 use Rattle.contents.specs.declared.Limits.{Limits}
 use Rattle.contents.specs.declared.Sheet.{Sheet}
 use Rattle.contents.specs.declared.Header.{Header}
@@ -32,7 +34,7 @@ use Rattle.record.specs.declared.Channel.{Channel}
 use Rattle.record.specs.Model.{sheetOf, placesOf, ownOf, placeOf, noChannel}
 use Rattle.record.proofs.Channels.{at-own, at-place, at-position, at-mark, first-long}
 use Rattle.solve.proofs.Alone.{then-start}
-use Rattle.solve.specs.Solve.{joint, alone, runChannel, jointGiven, blendCount, isLegal, allLegal, solveRefusal}
+use Rattle.solve.specs.Solve.{heldIn, joint, alone, iterationsAt, runChannel, jointGiven, blendCount, isLegal, allLegal, solveRefusal}
 use Rattle.program.specs.Printed.{levelsOf}
 
 -- ---- tests from facts
@@ -126,22 +128,24 @@ module _ (r : Run) (f : Fine r) where
 -- ---- the runs of a legal sheet
 
 own-test : (r : Run) (m n : ℕ) (x : Channel) → LegalSide m (x .width) → LegalSide n (x .height) → Between 1 4 (x .across) → Between 1 4 (x .down)
-    → x .width * x .across ≤ r .w → x .height * x .down ≤ r .h → T (weight (x .weight)) → T (ownOk (sheetOf r) (ownOf x))
+    → x .width * x .across ≤ r .w → x .height * x .down ≤ r .h → T (weight (x .weight)) → x .held ≤ r .n → T (ownOk (sheetOf r) (ownOf x))
 unfolding ownOk
-own-test r m n x wide high across down cover-across cover-down w =
-    and-i
-    (side (x .width) && side (x .height) && factor (x .across) && factor (x .down) && leb (x .width * x .across) (r .w) && leb (x .height * x .down) (r .h))
-    (weight (x .weight))
+own-test r m n x wide high across down cover-across cover-down w held =
+    let sized = side (x .width) && side (x .height) && factor (x .across) && factor (x .down) && leb (x .width * x .across) (r .w) && leb (x .height * x .down) (r .h) in
+    and-i (sized && weight (x .weight)) (leb (x .held) (r .n))
+    (and-i sized (weight (x .weight))
     (six (side (x .width)) (side (x .height)) (factor (x .across)) (factor (x .down)) (leb (x .width * x .across) (r .w)) (leb (x .height * x .down) (r .h))
     (side-test m (x .width) wide) (side-test n (x .height) high) (factor-test (x .across) across) (factor-test (x .down) down)
     (le→leb (x .width * x .across) (r .w) cover-across) (le→leb (x .height * x .down) (r .h) cover-down))
-    w
+    w)
+    (le→leb (x .held) (r .n) held)
 
--- a channel line and a weight of a legal sheet, as a channel of a run with the sheet's sides
-channel-test : (r : Run) (h : Header) (x : Line.Channel) (w : Weight) → r .w ≡ h .width → r .h ≡ h .height → LegalChannel h x → LegalWeight w
-    → T (ownOk (sheetOf r) (ownOf (runChannel x w)))
-channel-test r h x w e f l lw =
-    own-test r (h .width) (h .height) (runChannel x w) (l .width) (l .height) (l .across) (l .down) (omega (arith, l .wide)) (omega (arith, l .high)) (weight-test w lw)
+-- a channel line and a weight of a legal sheet, as a channel of a run with the sheet's sides, held within the run's steps
+channel-test : (r : Run) (h : Header) (x : Line.Channel) (w : Weight) (held : ℕ) → r .w ≡ h .width → r .h ≡ h .height → LegalChannel h x → LegalWeight w → held ≤ r .n
+    → T (ownOk (sheetOf r) (ownOf (runChannel x w held)))
+channel-test r h x w held e f l lw most =
+    own-test r (h .width) (h .height) (runChannel x w held) (l .width) (l .height) (l .across) (l .down) (omega (arith, l .wide)) (omega (arith, l .high))
+    (weight-test w lw) most
 
 -- a run's channel c below its count, of three
 below-3 : (A : ℕ → Type 0) → A 0 → A 1 → A 2 → (c : ℕ) → c < 3 → A c
@@ -182,6 +186,37 @@ module _ (limits : Limits) (S : Sheet) (b : Lent) (l : LegalSheet limits S b) wh
   thousand : (n : ℕ) → n ≤ limits .iterations → n ≤ 1000
   thousand n k = le-trans k (l .limits-legal .iterations)
 
+  -- M-108: in the sheet's own mode a count is within what it is measured against, which is the run's steps; in the other mode it is the run's steps
+  measured-joint : S .header .joint ≡ true → (c : ℕ) → c < S .header .channels → measured (S .header) c ≡ S .header .iterations0
+  measured-joint j c below = go (l .header .channels)
+    where
+      go : (S .header .channels ≡ 1) ⊎ (S .header .channels ≡ 3) → measured (S .header) c ≡ S .header .iterations0
+      go (inl e) =
+          let first : c ≡ 0 = omega arith in
+          sym (measured-one (S .header) c (S .header .iterations0) (three-0 c (S .header .iterations0) (S .header .iterations1) (S .header .iterations2) first) (λ t. omega arith))
+      go (inr e) = sym (measured-first (S .header) c 0 e j)
+
+  measured-alone : S .header .joint ≡ false → (c : ℕ) → measured (S .header) c ≡ iterationsAt S c
+  measured-alone j c = go (l .header .channels)
+    where
+      go : (S .header .channels ≡ 1) ⊎ (S .header .channels ≡ 3) → measured (S .header) c ≡ iterationsAt S c
+      go (inl e) = sym (measured-one (S .header) c (iterationsAt S c) refl (λ t. omega arith))
+      go (inr e) = sym (measured-apart (S .header) c (iterationsAt S c) refl j e)
+
+  joint-held : (c : ℕ) → c < S .header .channels → heldIn (S .header .joint) S c (S .header .iterations0) ≤ S .header .iterations0
+  joint-held c below = go (S .header .joint) refl
+    where
+      go : (b : Bool) → S .header .joint ≡ b → heldIn b S c (S .header .iterations0) ≤ S .header .iterations0
+      go true j = omega (arith, hold-most S (l .hold) c, measured-joint j c below)
+      go false j = omega arith
+
+  alone-held : (c : ℕ) → heldIn (not (S .header .joint)) S c (iterationsAt S c) ≤ iterationsAt S c
+  alone-held c = go (S .header .joint) refl
+    where
+      go : (b : Bool) → S .header .joint ≡ b → heldIn (not b) S c (iterationsAt S c) ≤ iterationsAt S c
+      go true j = le-refl (iterationsAt S c)
+      go false j = omega (arith, hold-most S (l .hold) c, measured-alone j c)
+
   joint-fine : Fine (joint S)
   unfolding joint
   joint-fine =
@@ -196,9 +231,9 @@ module _ (limits : Limits) (S : Sheet) (b : Lent) (l : LegalSheet limits S b) wh
         each =
             λ c below.
             below-3 (λ c. c < h .channels → T (ownOk (sheetOf (joint S)) (ownOf (getD (joint S .channels) c noChannel))))
-            (λ b. channel-test (joint S) h (S .first) (h .data0) refl refl (l .channel 0 b) (l .header .data0))
-            (λ b. channel-test (joint S) h (S .second) (h .data1) refl refl (l .channel 1 b) (l .header .data1))
-            (λ b. channel-test (joint S) h (S .third) (h .data2) refl refl (l .channel 2 b) (l .header .data2))
+            (λ b. channel-test (joint S) h (S .first) (h .data0) _ refl refl (l .channel 0 b) (l .header .data0) (joint-held 0 b))
+            (λ b. channel-test (joint S) h (S .second) (h .data1) _ refl refl (l .channel 1 b) (l .header .data1) (joint-held 1 b))
+            (λ b. channel-test (joint S) h (S .third) (h .data2) _ refl refl (l .channel 2 b) (l .header .data2) (joint-held 2 b))
             c (omega (arith, at-most (h .channels) (l .header .channels))) below;
         at-start = λ c below. below-3 (λ c. getD (joint S .channels) c noChannel .position ≡ 0) refl refl refl c (omega (arith, at-most (h .channels) (l .header .channels)));
         unmarked = λ c below. below-3 (λ c. getD (joint S .channels) c noChannel .mark ≡ false) refl refl refl c (omega (arith, at-most (h .channels) (l .header .channels)));
@@ -222,7 +257,7 @@ module _ (limits : Limits) (S : Sheet) (b : Lent) (l : LegalSheet limits S b) wh
         each =
             λ d b.
             subst (λ (d : ℕ). T (ownOk (sheetOf (alone S c)) (ownOf (getD (alone S c .channels) d noChannel)))) (sym (zero-of d b))
-            (channel-test (alone S c) h (channelAt S c) (h .data0) refl refl (l .channel c below) (l .header .data0));
+            (channel-test (alone S c) h (channelAt S c) (h .data0) _ refl refl (l .channel c below) (l .header .data0) (alone-held c));
         at-start = λ d b. subst (λ (d : ℕ). getD (alone S c .channels) d noChannel .position ≡ 0) (sym (zero-of d b)) refl;
         unmarked = λ d b. subst (λ (d : ℕ). getD (alone S c .channels) d noChannel .mark ≡ false) (sym (zero-of d b)) refl;
         unclipped = λ d b. subst (λ (d : ℕ). getD (alone S c .channels) d noChannel .clipped ≡ 0) (sym (zero-of d b)) refl;

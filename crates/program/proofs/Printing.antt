@@ -222,7 +222,7 @@ same-room o n m n′ m′ e p q = e ∙ (λ i. Gives (record { levels = sym p i;
 
 -- the code's constant
 abbrev decided : ℕ
-decided = 38893
+decided = 38910
 
 pub decisive-32 : decisive 32 ≡ decided
 unfolding decisive longest decimal

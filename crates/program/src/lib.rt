@@ -26,7 +26,7 @@ ghost use Rattle.output.specs.Output.{Wrote};
 ghost use Rattle.program.specs.Printed.{limits, roundingOf, painted, runLines, totalsLines, clippedLines, sheetText, printed, mostPicture, mostTotals, mostPrinted, printedInto, SixLong};
 
 // So many bytes of a text decide what is printed for it: `decisive 32`.
-const DECISIVE: usize = 38893;
+const DECISIVE: usize = 38910;
 // No text that is printed takes more bytes: `mostPrinted`.
 const MOST_PRINTED: usize = 136269;
 
