@@ -1,5 +1,5 @@
 // A line's words, in hexadecimal: `serve`, the digest, what all values of the six buffers are before, the lengths of the six, of lows, highs, tables, jobs,
-// channels and answers, the record's 30 numbers, the lows and the highs modulo 2^16, the quantisers, the jobs' numbers and the channels.
+// channels and answers, the record's 33 numbers, the lows and the highs modulo 2^16, the quantisers, the jobs' numbers and the channels.
 use crate::served;
 use float::bits::from_bits;
 use record::Channel;
@@ -112,7 +112,7 @@ fn reorder_of(n: u32) -> Reorder {
     Reorder::Each
 }
 
-// The channel whose eight numbers start at word k.
+// The channel whose nine numbers start at word k.
 fn read_channel(s: &[u8], at: usize, k: usize) -> Channel
     requires { ⌜ (at ≤ length (now s)) × (k ≤ 100) ⌝ }
 {
@@ -122,9 +122,10 @@ fn read_channel(s: &[u8], at: usize, k: usize) -> Channel
         across: word(s, at, k + 2),
         down: word(s, at, k + 3),
         weight: from_bits(word(s, at, k + 4)),
-        position: word(s, at, k + 5),
-        mark: word(s, at, k + 6) == 1,
-        clipped: word(s, at, k + 7),
+        held: word(s, at, k + 5),
+        position: word(s, at, k + 6),
+        mark: word(s, at, k + 7) == 1,
+        clipped: word(s, at, k + 8),
     }
 }
 
@@ -132,8 +133,8 @@ fn read_run(s: &[u8], at: usize) -> Run
     requires { ⌜ at ≤ length (now s) ⌝ }
 {
     let a = read_channel(s, at, 21);
-    let b = read_channel(s, at, 29);
-    let c = read_channel(s, at, 37);
+    let b = read_channel(s, at, 30);
+    let c = read_channel(s, at, 39);
     Run {
         w: word(s, at, 15),
         h: word(s, at, 16),
@@ -224,7 +225,7 @@ pub fn same_line(s: &[u8], at: usize) -> bool
     let n = length_of(s, at, 9, 3072);
     let o = length_of(s, at, 10, 3072);
     let m = length_of(s, at, 11, 256);
-    let i = read_levels(s, word_at(s, at, 45), &mut lows, n);
+    let i = read_levels(s, word_at(s, at, 48), &mut lows, n);
     let j = read_levels(s, i, &mut highs, o);
     let k = read_tables(s, j, &mut tables, m);
     same_calls(s, at, k, &lows[0..n], &highs[0..o], &tables[0..m])

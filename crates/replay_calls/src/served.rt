@@ -66,9 +66,10 @@ fn with_channel(digest: u64, c: Channel) -> u64
     let f = with(e, c.across);
     let g = with(f, c.down);
     let h = with(g, to_bits(c.weight));
-    let i = with(h, c.position);
-    let j = with(i, mark_number(c.mark));
-    with(j, c.clipped)
+    let i = with(h, c.held);
+    let j = with(i, c.position);
+    let k = with(j, mark_number(c.mark));
+    with(k, c.clipped)
 }
 
 fn with_run(digest: u64, run: Run) -> u64
