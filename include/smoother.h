@@ -42,9 +42,10 @@ enum smoother_answer {
     SMOOTHER_BLOWN = 10,   /* the channel, or for blend any channel, is marked */
     SMOOTHER_DONE = 11,    /* the channel, or for blend any channel, has had all its steps */
     SMOOTHER_CHANNEL = 12, /* there is no such channel */
-    SMOOTHER_RECORD = 13,  /* sizes, factors, weights, iterations, letter, positions, marks or clipped numbers of no legal record */
+    SMOOTHER_RECORD = 13,  /* sizes, factors, weights, iterations, held steps, letter, positions, marks or clipped numbers of no legal record */
     SMOOTHER_RANGE = 14,   /* a lowest level above the highest of its place */
     SMOOTHER_PAGE = 15,    /* an iteration count within 1,000 but above the caller's limit */
+    SMOOTHER_HOLD = 17,    /* a count of line H above the iterations that it is measured against */
     SMOOTHER_SEGMENT = 19,   /* a DQT segment with a wrong marker or stated length, or with fewer than 64 bytes left for a table */
     SMOOTHER_PRECISION = 20, /* a table of a DQT segment with a precision other than 0 or a destination above 3 */
     SMOOTHER_NOW_BLOWN = 255 /* project: done, and the channel is now marked blown; smoother_solve: a channel blew */
@@ -59,7 +60,7 @@ enum smoother_answer {
 /* Measures a text of `text_len` bytes. `side` is the largest full side that is accepted, a multiple of 8, 8 to 512; `iterations` the largest
  * iteration count, 0 to 1,000, of spare ones too. Another limit is 2 at line 0, before the text is looked at.
  * 0: *levels (of lows, and of highs) and *tables are the lengths that smoother_read needs, *line is 0. Whatever the limits, a text that is accepted reads as the same sheet.
- * 1 to 7, 14, 15: *line is the line at fault, counted from 1; *levels and *tables are unchanged. 15 is a count above `iterations`, at its field;
+ * 1 to 7, 14, 15, 17: *line is the line at fault, counted from 1; *levels and *tables are unchanged. 15 is a count above `iterations`, at its field;
  * one above 1,000 is 2. */
 uint32_t smoother_measure(const uint8_t *text, size_t text_len, uint32_t side, uint32_t iterations, size_t *levels, size_t *tables, size_t *line);
 
@@ -78,13 +79,14 @@ enum smoother_header {
     SMOOTHER_AT_OWN = 15,       /* per channel own width, own height, across factor, down factor; 0 where there is no such channel */
     SMOOTHER_AT_ROUNDING = 27,  /* 0 truncated, 1 nearest (line F) */
     SMOOTHER_AT_REORDER = 28,   /* 0 after each block, 1 once (line A) */
-    SMOOTHER_NUMBERS = 29
+    SMOOTHER_AT_HELD = 29,      /* three: after how many steps each channel is held (line H); the iterations that it is measured against where no line says it */
+    SMOOTHER_NUMBERS = 32
 };
 
 /* Reads a text. `lows` and `highs` have the measured length of levels, `tables` that of tables, `header` has SMOOTHER_NUMBERS places.
  * 0: all four are filled, *line is 0. Lows and highs are w x h values a channel: the pairs of the G lines, and each level of a B line in both;
  * tables are 64 quantisers a channel.
- * 1 to 7, 14, 15: as measure answers for this text. 8, with *line 0: the text is legal, a length is wrong. A refusal leaves the four as they were. */
+ * 1 to 7, 14, 15, 17: as measure answers for this text. 8, with *line 0: the text is legal, a length is wrong. A refusal leaves the four as they were. */
 uint32_t smoother_read(const uint8_t *text, size_t text_len, uint32_t side, uint32_t iterations, int16_t *lows, size_t lows_len,
                        int16_t *highs, size_t highs_len, uint16_t *tables, size_t tables_len, uint32_t *header, size_t header_len, size_t *line);
 
@@ -97,14 +99,18 @@ struct smoother_channel {
     uint32_t across; /* factors, 1 to 4 */
     uint32_t down;
     float weight;      /* data weight: finite, sign bit clear */
+    uint32_t held;     /* held after this many steps, 0 to N; N holds it in none */
     uint32_t position; /* accepted jobs, 0 to 5N; its remainder modulo 5 is the next job's number */
     bool mark;         /* blown */
     uint32_t clipped;  /* coefficients that its last project clipped, at most w x h; 0 before position 5, the end of the first */
 };
 
+/* A held channel takes its turns, but from position 5 x held on its jobs leave its buffers as they are, blend neither reads nor writes them, and its
+ * project keeps its clipped number. */
+
 /* The run's record. Joint mode is one run of all channels, with the sheet's first iteration count and first smoothing weight, and
- * each channel's data weight. In separate mode each channel is a run of its own, with its own iteration count and smoothing weight,
- * but always the first data weight. The letter of line A is the sheet's in both. The places past `count` are not looked at. */
+ * each channel's data weight and held steps. In separate mode each channel is a run of its own, with its own iteration count, smoothing weight and held
+ * steps, but always the first data weight. The letter of line A is the sheet's in both. The places past `count` are not looked at. */
 struct smoother_run {
     uint32_t w; /* W and H: multiples of 8, 8 to 512 */
     uint32_t h;
@@ -174,7 +180,7 @@ uint32_t smoother_serve(struct smoother_run *run, const uint8_t *jobs, size_t jo
  * 0: the six hold each channel's after its last job, channel after channel; plane the planes, totals both totals of each blend, run after run and step
  * after step, and clipped the number of coefficients that each channel's last project clipped, 0 without steps.
  * 255: a channel is blown; the contents of the six and of totals are not promised, and clipped is unchanged.
- * 8 for another count of numbers, 13 for a mode or a reordering that is not 0 or 1 and for numbers of no legal sheet, 8, 4, 5, 14: all six,
+ * 8 for another count of numbers, 13 for a mode or a reordering that is not 0 or 1 and for numbers of no legal sheet, held steps above the iterations too, 8, 4, 5, 14: all six,
  * totals and clipped are unchanged. */
 uint32_t smoother_solve(const uint32_t *header, size_t header_len, const int16_t *lows, size_t lows_len, const int16_t *highs,
                         size_t highs_len, const uint16_t *tables, size_t tables_len, float *plane, size_t plane_len, float *prior,

@@ -78,7 +78,8 @@ static struct smoother_run run_of(const uint32_t *s)
                                                     .height = own[1],
                                                     .across = own[2],
                                                     .down = own[3],
-                                                    .weight = value(s[SMOOTHER_AT_DATA + c])};
+                                                    .weight = value(s[SMOOTHER_AT_DATA + c]),
+                                                    .held = s[SMOOTHER_AT_HELD + c]};
     }
     return run;
 }

@@ -29,6 +29,8 @@ use Rattle.record.specs.declared.Run.{Run}
 use Rattle.record.specs.Model.{sheetOf, placesOf, givenOf}
 use Rattle.rounds.specs.Whole.{jobCount, runBlows, runTotals, Whole, last, runOf, Loan, Ends}
 use Rattle.solve.specs.Solve.{reorderOf, joint, alone, iterationsAt, stepsBefore, blendCount, tablesFor, separately, wholeOf, isLegal, allLegal, solveRefusal, numberIn}
+use Rattle.contents.specs.Hold.{holdAt}
+use Rattle.solve.proofs.Held.{three-held}
 use Rattle.smoother.specs.Sheets.{choiceNumber, numbersOf, weightBits}
 use Rattle.smoother.specs.Whole.{choiceFrom, sheetOfNumbers, sheetRefusal, numbersRefusal, SolveNumbers}
 
@@ -110,14 +112,19 @@ module _ (S : Sheet) where
   unfolding sheetOfNumbers numbersOf
   same-blends = λ i. cond (mode-kept i) (S .header .iterations0) (same-steps (S .header .channels) i)
 
+  -- each channel is held after as many steps
+  same-held : (c : ℕ) → holdAt S′ c ≡ holdAt S c
+  unfolding sheetOfNumbers numbersOf holdAt
+  same-held c = three-held S c
+
   same-joint : joint S′ ≡ joint S
   unfolding sheetOfNumbers numbersOf joint
-  same-joint = rw (same-letter (S .settings .start), same-value (S .header .smoothing0), same-value (S .header .data0), same-value (S .header .data1), same-value (S .header .data2))
+  same-joint = rw (same-held 0, same-held 1, same-held 2, same-mode (S .header .joint), same-letter (S .settings .start), same-value (S .header .smoothing0), same-value (S .header .data0), same-value (S .header .data1), same-value (S .header .data2))
 
   same-alone : (c : ℕ) → alone S′ c ≡ alone S c
   unfolding sheetOfNumbers numbersOf alone
   same-alone c =
-      rw (same-letter (S .settings .start), same-value (S .header .data0), same-choice (eqb c 0) (eqb c 1) (S .header .smoothing0) (S .header .smoothing1) (S .header .smoothing2))
+      rw (same-held c, same-mode (S .header .joint), same-letter (S .settings .start), same-value (S .header .data0), same-choice (eqb c 0) (eqb c 1) (S .header .smoothing0) (S .header .smoothing1) (S .header .smoothing2))
 
   module _ (levels : Levels) (tables : List ℕ) where
     pub same-refusal : (ls : List ℕ) (t : ℕ) → solveRefusal S′ levels tables ls t ≡ solveRefusal S levels tables ls t

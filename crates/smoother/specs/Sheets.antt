@@ -14,6 +14,7 @@ use Rattle.contents.specs.declared.Choice.the-variants as choice
 use Rattle.contents.specs.declared.Settings.{Settings}
 use Rattle.contents.specs.declared.Header.{Header}
 use Rattle.contents.specs.declared.Channel.{Channel}
+use Rattle.contents.specs.Hold.{holdAt}
 use Rattle.contents.specs.Sheets.{Lent}
 use Rattle.sheet.specs.Reading.{Outcome, Contents}
 use Rattle.sheet.specs.Reading.Outcome.{Gives, Refused}
@@ -45,7 +46,8 @@ pub record Measures (o : Outcome Lengths) (n₀ n m₀ m l r : ℕ) : Type 0 whe
 
 -- A sheet's record as numbers: the header's fields in the order of the S line, 1 for joint mode and 0 for separate, weights as
 -- the bits of their f32; then own sides and factors of three channels, zeros where there is none;
--- then the settings by their meaning: the rounding, 0 for `t` and 1 for `n`, and when the image is reordered, 0 for `m` and 1 for `o`.
+-- then the settings by their meaning: the rounding, 0 for `t` and 1 for `n`, when the image is reordered, 0 for `m` and 1 for `o`, and after how many steps each
+-- of three channels is held (M-108), also where no line says it.
 abbrev pub weightBits : Weight → ℕ
 weightBits w = toBits binary32 (valueOf w)
 
@@ -68,13 +70,16 @@ choiceNumber choice.Second = 1
 abbrev pub settingNumbers : Settings → List ℕ
 settingNumbers x = choiceNumber (x .rounding) ∷ choiceNumber (x .start) ∷ []
 
+abbrev pub heldNumbers : Sheet → List ℕ
+heldNumbers s = holdAt s 0 ∷ holdAt s 1 ∷ holdAt s 2 ∷ []
+
 unfoldable pub numbersOf : Sheet → List ℕ
 numbersOf s =
-    headerNumbers (s .header) ++ (channelNumbers (s .first) ++ (channelNumbers (s .second) ++ (channelNumbers (s .third) ++ settingNumbers (s .settings))))
+    headerNumbers (s .header) ++ (channelNumbers (s .first) ++ (channelNumbers (s .second) ++ (channelNumbers (s .third) ++ (settingNumbers (s .settings) ++ heldNumbers s))))
 
 -- how many these are, of every sheet
 abbrev pub recordCount : ℕ
-recordCount = 29
+recordCount = 32
 
 -- "a lent buffer's length differs" (8), last: the record's numbers have a buffer too
 abbrev pub withRecord : ℕ → Outcome Contents → Outcome Contents

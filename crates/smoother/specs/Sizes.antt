@@ -13,7 +13,7 @@ abbrev pub structBytes : List ℕ → List Float → List Bool → ℕ
 structBytes numbers floats bools = (length numbers * 4 + length floats * 4 + length bools + 3) / 4 * 4
 
 abbrev pub channelBytes : Channel → ℕ
-channelBytes x = structBytes (x .width ∷ x .height ∷ x .across ∷ x .down ∷ x .position ∷ x .clipped ∷ []) (x .weight ∷ []) (x .mark ∷ [])
+channelBytes x = structBytes (x .width ∷ x .height ∷ x .across ∷ x .down ∷ x .held ∷ x .position ∷ x .clipped ∷ []) (x .weight ∷ []) (x .mark ∷ [])
 
 -- the record's own fields, and three channels
 abbrev pub runBytes : LentRun → ℕ

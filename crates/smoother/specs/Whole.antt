@@ -13,6 +13,7 @@ use Rattle.contents.specs.declared.Weight.the-variants as weight
 use Rattle.contents.specs.declared.Sheet.{Sheet}
 use Rattle.contents.specs.declared.Choice.{Choice}
 use Rattle.contents.specs.declared.Choice.the-variants as choice
+use Rattle.contents.specs.declared.Hold.the-variants as hold
 use Rattle.contents.specs.declared.Settings.{Settings}
 use Rattle.contents.specs.declared.Header.{Header}
 use Rattle.contents.specs.declared.Channel.{Channel}
@@ -27,7 +28,8 @@ use Rattle.picture.specs.Finish.{Verdict, done, refused, Finished, finishing}
 
 -- ---- the record
 
--- The sheet of a record's numbers, in the order of `numbersOf`: 1 is joint mode, a weight is its f32's bits, 1 is the rounding `n` and the start `o`.
+-- The sheet of a record's numbers, in the order of `numbersOf`: 1 is joint mode, a weight is its f32's bits, 1 is the rounding `n` and the start `o`, and
+-- the held counts are said.
 abbrev pub headerFrom : List ℕ → Header
 headerFrom ns =
     record {
@@ -57,7 +59,8 @@ abbrev pub choiceFrom : ℕ → Choice
 choiceFrom n = cond (eqb n 1) choice.Second choice.First
 
 abbrev pub settingsFrom : List ℕ → Settings
-settingsFrom ns = record { rounding = choiceFrom (getD ns 27 0); start = choiceFrom (getD ns 28 0) }
+settingsFrom ns =
+    record { rounding = choiceFrom (getD ns 27 0); start = choiceFrom (getD ns 28 0); hold = hold.Counts (getD ns 29 0) (getD ns 30 0) (getD ns 31 0) }
 
 unfoldable pub sheetOfNumbers : List ℕ → Sheet
 sheetOfNumbers ns =

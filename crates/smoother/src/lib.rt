@@ -9,6 +9,7 @@ use contents::Choice;
 use contents::Limits;
 use contents::Sheet;
 use contents::Weight;
+use contents::held_after;
 use record::Channel;
 use sheet::Answer;
 use sheet::Measured;
@@ -20,7 +21,7 @@ ghost use Rattle.sheet.specs.Calls.{measuring, reading};
 ghost use Rattle.smoother.specs.Sheets.{Measures, ReadsNumbers, choiceNumber, numbersOf, recordCount, weightBits, withRecord};
 
 // How many numbers a sheet's record has.
-pub const NUMBERS: usize = 29;
+pub const NUMBERS: usize = 32;
 
 // The run's record as C has it: that of `record`, but for the letter of line A, which is a number here: 0 for m, 1 for o.
 #[repr(C)]
@@ -145,6 +146,9 @@ pub fn numbers(s: Sheet) -> [u32; NUMBERS]
         c.down,
         choice_number(rounding),
         choice_number(start),
+        held_after(s, 0),
+        held_after(s, 1),
+        held_after(s, 2),
     ]
 }
 

@@ -4,6 +4,7 @@ use crate::runs;
 use contents::Channel;
 use contents::Choice;
 use contents::Header;
+use contents::Hold;
 use contents::Settings;
 use contents::Sheet;
 use contents::Weight;
@@ -68,7 +69,12 @@ fn settings_from(numbers: &[u32]) -> Settings
 {
     let rounding = choice_from(numbers[27]);
     let start = choice_from(numbers[28]);
-    Settings { rounding, start }
+    let hold = Hold::Counts(numbers[29], numbers[30], numbers[31]);
+    Settings {
+        rounding,
+        start,
+        hold,
+    }
 }
 
 // The sheet that a record's numbers say.

@@ -7,12 +7,12 @@ ghost use Rattle.smoother.specs.declared.LentRun.{LentRun};
 ghost use Rattle.smoother.specs.Sheets.{numbersOf};
 ghost use Rattle.smoother.specs.Sizes.{runBytes};
 
-// The bytes of the run's record, which each call on a run is lent. Ruled out: 111, of marks of one byte without the three that follow; 56, of one channel for three.
+// The bytes of the run's record, which each call on a run is lent. Ruled out: 123, of marks of one byte without the three that follow; 60, of one channel for three.
 #[no_mangle]
 pub extern "C" fn smoother_run_bytes() -> u32
     ensures { λ r. ⌜ ((x : LentRun) → r ≡ runBytes x) ⌝ }
 {
-    120
+    132
 }
 
 // The count of the sheet's numbers, which `smoother_read` lends out and `smoother_solve` takes. Ruled out: 15, the header's alone; 19, with one channel's.

@@ -20,6 +20,7 @@ pub enum Refusal {
     Record,
     Range,
     Page,
+    Hold = 17,
     Segment = 19,
     Precision,
 }
@@ -27,8 +28,8 @@ pub enum Refusal {
 use Refusal::*;
 
 impl Refusal {
-    pub const ALL: [Self; 17] = [
-        Form, Size, Factor, Table, Level, Weight, Cut, Length, Turn, Blown, Done, Channel, Record, Range, Page,
+    pub const ALL: [Self; 18] = [
+        Form, Size, Factor, Table, Level, Weight, Cut, Length, Turn, Blown, Done, Channel, Record, Range, Page, Hold,
         Segment, Precision,
     ];
 
@@ -64,6 +65,7 @@ impl Refusal {
             Record => "record",
             Range => "range",
             Page => "page",
+            Hold => "hold",
             Segment => "segment",
             Precision => "precision",
         }
@@ -85,9 +87,12 @@ impl Refusal {
             Blown => "the channel's values overflowed in an earlier step",
             Done => "the channel has had all its steps",
             Channel => "there is no such channel",
-            Record => "sizes, factors, weights, iterations, positions, marks or clipped numbers of no legal record",
+            Record => {
+                "sizes, factors, weights, iterations, held steps, positions, marks or clipped numbers of no legal record"
+            }
             Range => "a lowest level above the highest of its place",
             Page => "an iteration count within 1,000 but above the caller's limit",
+            Hold => "a count of line `H` above the iterations that it is measured against",
             Segment => {
                 "a DQT segment with a wrong marker or stated length, or with fewer than 64 bytes left for a table"
             }

@@ -15,6 +15,8 @@ pub struct Channel {
     pub down: u32,
     /// Data weight.
     pub weight: f32,
+    /// Held after this many steps, 0 to N: its later jobs leave its buffers as they are, and blend leaves it out.
+    pub held: u32,
     /// Accepted jobs, 0 to 5N.
     pub position: u32,
     /// Whether it is blown.

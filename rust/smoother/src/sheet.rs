@@ -53,6 +53,8 @@ pub struct Sheet {
     pub rounding: Rounding,
     /// Line `A`: after each block where there is none.
     pub reorder: Reorder,
+    /// Line `H`: after how many steps each channel is held; where there is none, the iterations that it is measured against.
+    pub held: [u32; 3],
     /// Zeros past `count`.
     pub own: [Own; 3],
     /// The lowest level of each place; a level of a line `B` is both.
@@ -88,7 +90,7 @@ impl Default for Limits {
 }
 
 /// Numbers of a sheet's record.
-pub const NUMBERS: usize = 29;
+pub const NUMBERS: usize = 32;
 
 fn at(line: usize) -> impl FnOnce(Error) -> Fault {
     move |error| Fault { error, line }
@@ -105,7 +107,8 @@ pub fn measure(text: &[u8], limits: Limits) -> Result<Lengths, Fault> {
 }
 
 /// Reads a text into lent buffers: `lows`, `highs` and `tables` of the measured lengths, and `header` of `NUMBERS` places, for the fields of line `S` (mode 1
-/// joint, 0 separate; weights as f32 bits), own sides and factors of three channels, then the rounding (0 truncated, 1 nearest) and the reordering (0 after each block, 1 once).
+/// joint, 0 separate; weights as f32 bits), own sides and factors of three channels, then the rounding (0 truncated, 1 nearest), the reordering (0 after each
+/// block, 1 once) and the three held steps.
 pub fn read_into(
     text: &[u8],
     limits: Limits,
@@ -144,6 +147,7 @@ pub fn read(text: &[u8], limits: Limits) -> Result<Sheet, Fault> {
         data: three(12).map(f32::from_bits),
         rounding: if n[27] == 1 { Rounding::Nearest } else { Rounding::Truncate },
         reorder: if n[28] == 1 { Reorder::Once } else { Reorder::Each },
+        held: three(29),
         own: [own(15), own(19), own(23)],
         lows,
         highs,
@@ -152,10 +156,10 @@ pub fn read(text: &[u8], limits: Limits) -> Result<Sheet, Fault> {
 }
 
 impl Own {
-    /// The channel at position 0, unmarked, with this data weight.
-    pub fn channel(self, weight: f32) -> Channel {
+    /// The channel at position 0, unmarked, with this data weight, held after this many steps.
+    pub fn channel(self, weight: f32, held: u32) -> Channel {
         let Self { width, height, across, down } = self;
-        Channel { width, height, across, down, weight, position: 0, mark: false, clipped: 0 }
+        Channel { width, height, across, down, weight, held, position: 0, mark: false, clipped: 0 }
     }
 
     fn area(self) -> usize {
@@ -175,18 +179,25 @@ pub struct Solved {
 }
 
 impl Sheet {
-    /// The record of the run of all channels: the first iteration count, the first smoothing weight and each channel's data weight.
+    /// After how many steps channel `c` is held in a run of `n` steps of this mode. The held steps are those of the sheet's mode; a run of the other holds none.
+    fn held_in(&self, joint: bool, c: usize, n: u32) -> u32 {
+        if self.joint == joint || self.count == 1 { self.held[c] } else { n }
+    }
+
+    /// The record of the run of all channels: the first iteration count, the first smoothing weight, each channel's data weight and held steps.
     pub fn joint_run(&self) -> Run {
-        let channels = std::array::from_fn(|c| self.own[c].channel(self.data[c]));
+        let n = self.iterations[0];
+        let channels = std::array::from_fn(|c| self.own[c].channel(self.data[c], self.held_in(true, c, n)));
         Run { count: self.count, ..self.run(0, channels) }
     }
 
-    /// The record of channel `c` alone: its iteration count, its smoothing weight, and always the first data weight.
+    /// The record of channel `c` alone: its iteration count, its smoothing weight, its held steps, and always the first data weight.
     ///
     /// # Panics
     /// Where `c` isn't below 3.
     pub fn separate_run(&self, c: usize) -> Run {
-        self.run(c, [self.own[c].channel(self.data[0]), Channel::default(), Channel::default()])
+        let held = self.held_in(false, c, self.iterations[c]);
+        self.run(c, [self.own[c].channel(self.data[0], held), Channel::default(), Channel::default()])
     }
 
     fn run(&self, c: usize, channels: [Channel; 3]) -> Run {
@@ -243,6 +254,7 @@ impl Sheet {
         }
         n[27] = self.rounding as u32;
         n[28] = self.reorder as u32;
+        n[29..].copy_from_slice(&self.held);
         n
     }
 

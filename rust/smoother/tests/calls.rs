@@ -91,6 +91,7 @@ fn whole_example_read_and_started() {
         data: [0.0; 3],
         rounding: Rounding::Truncate,
         reorder: Reorder::Each,
+        held: [0; 3],
         own: [own, Own::default(), Own::default()],
         lows: levels.clone(),
         highs: levels,
@@ -235,7 +236,7 @@ fn iteration_counts_above_the_callers_limit() {
 
 #[test]
 fn reading_into_wrong_lengths() {
-    for (n, o, m, k) in [(63, 64, 64, 29), (64, 63, 64, 29), (64, 64, 65, 29), (64, 64, 64, 28), (0, 0, 0, 0)] {
+    for (n, o, m, k) in [(63, 64, 64, 32), (64, 63, 64, 32), (64, 64, 65, 32), (64, 64, 64, 31), (0, 0, 0, 0)] {
         let (mut lows, mut highs, mut tables, mut header) = (vec![7; n], vec![7; o], vec![7; m], vec![7; k]);
         let due = Err(Fault { error: Refusal::Length.into(), line: 0 });
         let text = whole();
@@ -247,7 +248,7 @@ fn reading_into_wrong_lengths() {
 
 #[test]
 fn table_of_refusals() {
-    let numbers: Vec<u32> = (1..=15).chain([19, 20]).collect();
+    let numbers: Vec<u32> = (1..=15).chain([17, 19, 20]).collect();
     assert_eq!(Refusal::ALL.map(Refusal::number).to_vec(), numbers);
     for refusal in Refusal::ALL {
         assert_eq!(Refusal::of_number(refusal.number()), Some(refusal));
@@ -269,6 +270,7 @@ fn table_of_refusals() {
         "record",
         "range",
         "page",
+        "hold",
         "segment",
         "precision",
     ];
@@ -509,6 +511,46 @@ fn clipped_numbers() {
             assert!(damaged.channels.iter().all(|c| c.clipped == 0));
         }
     }
+}
+
+/// Document 02, M-108: a held channel stays as its last step left it, one that is held from the start as it began; 17 in a text, 13 in a record.
+#[test]
+fn held_channels() {
+    let text = joint(3, "w1 w1 w1");
+    let held = |counts: &str| text.replacen("\nC", &("\n".to_owned() + &tabs(&format!("H {counts}")) + "C"), 1);
+    let plain = sheet_of(&text);
+    assert_eq!(plain.held, [3; 3]);
+    assert_eq!(plain.solve(), sheet_of(&held("3 3 3")).solve());
+
+    let sheet = sheet_of(&held("3 0 1"));
+    assert_eq!((sheet.held, &sheet.numbers()[29..]), ([3, 0, 1], [3, 0, 1].as_slice()));
+    let part = |b: &Buffers, c: usize| bits(b).into_iter().map(|xs| xs[256 * c..][..256].to_vec()).collect::<Vec<_>>();
+    let (mut run, mut b) = started(&sheet);
+    let (mut after, mut clipped) = (vec![b.clone()], vec![]);
+    for _ in 0..3 {
+        for (job, c) in step(run.count) {
+            assert_eq!(call(&mut run, job, c, sheet.levels(), &sheet.tables, &mut b), Ok(Outcome::Done));
+        }
+        after.push(b.clone());
+        clipped.push(run.channels.map(|c| c.clipped));
+    }
+    assert_ne!(part(&after[3], 0), part(&after[2], 0));
+    assert_eq!(part(&after[3], 1), part(&after[0], 1));
+    assert_ne!(part(&after[1], 2), part(&after[0], 2));
+    assert_eq!(part(&after[3], 2), part(&after[1], 2));
+    assert_eq!(clipped.iter().map(|c| [c[1], c[2]]).collect::<Vec<_>>(), [[0, clipped[0][2]]; 3]);
+    let solved = sheet.solve().expect("legal").expect("planes");
+    assert_eq!((&solved.planes, solved.clipped), (&b.plane, clipped[2].to_vec()));
+
+    let due = Err(Fault { error: Refusal::Hold.into(), line: 2 });
+    assert_eq!(measure(held("3 4 1").as_bytes(), Limits::default()), due);
+    let mut run = sheet.joint_run();
+    run.channels[2].held = 4;
+    assert_eq!(start(&mut run, sheet.levels(), &sheet.tables, &mut b), Err(Refusal::Record.into()));
+    let (mut numbers, mut clipped, mut totals) = (sheet.numbers(), [7; 3], [0.0; 6]);
+    numbers[31] = 4;
+    let said = solve_into(&numbers, sheet.levels(), &sheet.tables, &mut b, &mut clipped, &mut totals);
+    assert_eq!((said, clipped), (Err(Refusal::Record.into()), [7; 3]));
 }
 
 #[test]
