@@ -17,6 +17,8 @@ pub struct Channel {
     pub across: u32,
     pub down: u32,
     pub weight: f32,
+    /// After how many steps it is held (M-108).
+    pub held: u32,
     pub position: u32,
     pub mark: bool,
     /// How many coefficients the last project moved.
@@ -38,7 +40,7 @@ pub struct Record {
 }
 
 pub const NO_CHANNEL: Channel =
-    Channel { width: 0, height: 0, across: 0, down: 0, weight: 0.0, position: 0, mark: false, clipped: 0 };
+    Channel { width: 0, height: 0, across: 0, down: 0, weight: 0.0, held: 0, position: 0, mark: false, clipped: 0 };
 
 #[derive(Clone, Copy, Debug, PartialEq)]
 pub enum Job {
@@ -96,18 +98,19 @@ fn weight_ok(weight: f32) -> bool {
 impl Record {
     /// The record of the run that `run::runs` has at place `c`, at position 0.
     pub fn of(sheet: &Sheet, c: usize) -> Self {
-        let own = |c: &sheet::Channel, weight: sheet::Weight| Channel {
-            width: c.w,
-            height: c.h,
-            across: c.across,
-            down: c.down,
+        let own = |(c, weight): (usize, sheet::Weight)| Channel {
+            width: sheet.channels[c].w,
+            height: sheet.channels[c].h,
+            across: sheet.channels[c].across,
+            down: sheet.channels[c].down,
             weight: weight.value(),
+            held: sheet.holds()[c],
             ..NO_CHANNEL
         };
         let owns: Vec<Channel> = if sheet.joint {
-            sheet.channels.iter().zip(sheet.data).map(|(c, weight)| own(c, weight)).collect()
+            sheet.data.into_iter().enumerate().take(sheet.channels.len()).map(own).collect()
         } else {
-            vec![own(&sheet.channels[c], sheet.data[0])]
+            vec![own((c, sheet.data[0]))]
         };
         Self {
             w: sheet.w,
@@ -122,7 +125,7 @@ impl Record {
 
     pub fn numbers(&self) -> Vec<u32> {
         let channel = |c: &Channel| {
-            [c.width, c.height, c.across, c.down, bits(c.weight), c.position, u32::from(c.mark), c.clipped]
+            [c.width, c.height, c.across, c.down, bits(c.weight), c.held, c.position, u32::from(c.mark), c.clipped]
         };
         let first = [self.w, self.h, self.n, bits(self.smoothing), self.reorder, self.count];
         first.into_iter().chain(self.channels.iter().flat_map(channel)).collect()
@@ -138,7 +141,7 @@ impl Record {
     }
 
     /// "Legal records: numbers within the sheet's rules, equal blends in all channels, marks only at positive multiples of 5." "A kept number above w × h, or
-    /// not 0 before the first project, is 13" (M-104).
+    /// not 0 before the first project, is 13" (M-104), and so is a held count above the iterations (M-108).
     pub fn is_legal(&self) -> bool {
         let full = |side: u32| side % 8 == 0 && (8..=512).contains(&side);
         if !full(self.w) || !full(self.h) || self.n > 1000 || !weight_ok(self.smoothing) || self.reorder > 1 {
@@ -158,6 +161,7 @@ impl Record {
             covers(c.width, c.across, self.w)
                 && covers(c.height, c.down, self.h)
                 && weight_ok(c.weight)
+                && c.held <= self.n
                 && c.position <= last
                 && (!c.mark || c.position > 0 && c.position % 5 == 0)
                 && c.clipped <= c.width * c.height
@@ -332,7 +336,11 @@ impl Lent {
         };
         let weights = std::array::from_fn(|c| r.channels[c].weight);
         let parts = (0..r.count as usize).map(|c| std::array::from_fn(|b| part(b, c))).collect();
-        Run::on(r.w, r.h, r.n as usize, fed.coefficients(), r.smoothing, weights, parts)
+        let mut run = Run::on(r.w, r.h, r.n as usize, fed.coefficients(), r.smoothing, weights, parts);
+        run.positions = r.owns().iter().map(|c| c.position as usize).collect();
+        run.holds = r.owns().iter().map(|c| c.held as usize).collect();
+        run.clipped = r.owns().iter().map(|c| c.clipped).collect();
+        run
     }
 
     fn clone_fed(&self) -> Self {
@@ -372,6 +380,7 @@ impl Lent {
             data: std::array::from_fn(|c| sheet::Weight::Bits(r.channels[c].weight.to_bits())),
             rounding: None,
             reorder: Some(if r.reorder == 1 { Reorder::Once } else { Reorder::Each }),
+            hold: None,
             channels: self.coefficients(),
         };
         let run = crate::run::runs(&sheet).remove(0);
@@ -448,7 +457,7 @@ mod tests {
     fn calls_in_order() {
         let mut r = Random::new(1);
         for _ in 0..100 {
-            let sheet = Sheet { joint: true, ..legal(&mut r, 32, 3) };
+            let sheet = Sheet { joint: true, ..legal(&mut r, 32, 3) }.held_within();
             let mut run = runs(&sheet).remove(0);
             let mut x = fresh(&sheet);
             assert_eq!(x.call(Start, 0), 0);
@@ -493,7 +502,7 @@ mod tests {
     fn refusals() {
         let mut r = Random::new(2);
         let sheet = loop {
-            let sheet = Sheet { joint: true, counts: [1; 3], ..legal(&mut r, 16, 1) };
+            let sheet = Sheet { joint: true, counts: [1; 3], hold: None, ..legal(&mut r, 16, 1) };
             if sheet.channels.len() == 3 {
                 break sheet;
             }
@@ -544,7 +553,40 @@ mod tests {
         assert_eq!(x.call(Project, 1), 13, "kept before the first project");
         x.record.channels[1].position = 5;
         assert_eq!(x.call(Project, 1), 11);
+        x.record.channels[2].held = 2;
+        assert_eq!(x.call(Project, 1), 13, "held after more steps than the run has");
+        x.record.channels[2].held = 0;
+        assert_eq!(x.call(Project, 1), 11);
         assert_eq!(x.call(Start, 0), 0);
         assert!(x.record.channels.iter().all(|c| c.position == 0 && c.clipped == 0));
+    }
+
+    /// The calls of a held channel leave its buffers and its kept number; its mark is judged by what is lent.
+    #[test]
+    fn held_calls() {
+        let mut r = Random::new(3);
+        let sheet = loop {
+            let sheet = Sheet { joint: true, counts: [2; 3], hold: Some([2, 1, 2]), ..legal(&mut r, 16, 1) };
+            if sheet.channels.len() == 3 {
+                break sheet;
+            }
+        };
+        let mut x = fresh(&sheet);
+        x.record.channels.iter_mut().for_each(|c| c.position = 5);
+        x.record.channels[1].clipped = 7;
+        x.buffers.iter_mut().for_each(|b| b.fill(0.5));
+        x.buffers.iter_mut().for_each(|b| b[x.record.area()] = f32::NAN);
+        let part = |x: &Lent| -> Vec<u32> {
+            let own = x.record.area()..2 * x.record.area();
+            x.buffers.iter().flat_map(|b| &b[own.clone()]).map(|v| bits(*v)).collect()
+        };
+        let before = part(&x);
+        for job in [Push, Data, Move, Project] {
+            x.record.channels[1].position = 5 + JOBS.iter().position(|j| *j == job).expect("a job") as u32;
+            x.record.channels.iter_mut().for_each(|c| c.position = c.position.max(if job == Move { 8 } else { 0 }));
+            assert_eq!(x.call(job, 1), if job == Project { BLOWN } else { 0 });
+        }
+        assert_eq!((part(&x), x.record.channels[1].clipped), (before, 7));
+        assert_eq!((x.record.channels[1].mark, x.record.channels[1].position), (true, 10));
     }
 }

@@ -3,6 +3,7 @@ pub mod arith;
 pub mod bench;
 pub mod calls;
 pub mod floats;
+pub mod holds;
 pub mod jobs;
 pub mod picture;
 pub mod probe;

@@ -70,7 +70,7 @@ pub fn ended(sheet: &Sheet) -> Option<Ended> {
         planes.extend(run.auxs.into_iter().map(|aux| aux.fdata));
     }
     let planes: Vec<Vec<f32>> = planes.iter().map(|plane| plane.to_vec()).collect();
-    if sheet.channels.iter().all(|c| c.levels.are_equal()) {
+    if sheet.channels.iter().all(|c| c.levels.are_equal()) && !sheet.is_held() {
         let solved = solved(sheet);
         let mut pairs = solved.iter().flatten().zip(planes.iter().flatten());
         assert!(pairs.all(|(x, y)| same(*x, *y)), "the jobs' planes differ from those of `solve_cpu`");
@@ -78,7 +78,7 @@ pub fn ended(sheet: &Sheet) -> Option<Ended> {
     Some(Ended { planes, clipped, totals })
 }
 
-/// The published `solve_cpu`. It knows no ranges.
+/// The published `solve_cpu`. It knows no ranges, and holds no channel.
 pub fn solved(sheet: &Sheet) -> Vec<Vec<f32>> {
     match sheet.reorders() {
         Reorder::Each => each::solve_cpu(sheet),
@@ -167,6 +167,28 @@ mod tests {
         assert_eq!(with("-4\t-1", "n"), "K\t0\t0\nI\t2\t1\nR\t7e7e7e\t7e7e7e\n");
         assert_eq!(with("1\t1", "t"), smooth(&example()));
         assert_eq!(with("4\t1", "t"), "X\t14\t4\n");
+    }
+
+    /// A held count of 0 leaves the start; one equal to the iterations changes nothing; a step that would blow a held channel doesn't.
+    #[test]
+    fn held() {
+        let with = |hold: &str, counts: &str| {
+            let text = String::from_utf8_lossy(&example()).replacen("\t0\t0\t0\t", counts, 1);
+            smooth(text.replacen("\nC", &format!("\nH\t{hold}\nC"), 1).as_bytes())
+        };
+        let zero = "0".repeat(16);
+        let start = format!("T\t0\t1\t{zero}\t{zero}\nK\t0\t0\nI\t2\t1\nR\t818181\t818181\n");
+        assert_eq!(with("0\t0\t0", "\t1\t0\t0\t"), start);
+        assert_eq!(with("0\t0\t0", "\t0\t0\t0\t"), smooth(&example()));
+        assert_eq!(with("1\t0\t0", "\t0\t0\t0\t"), "X\t17\t2\n");
+        for (name, sheet, blown) in fixed_runs() {
+            let none = Sheet { hold: Some(sheet.holds()), ..sheet.clone() };
+            assert_eq!(smooth(&none.text()), smooth(&sheet.text()), "{name}");
+            if blown && name.contains("last") {
+                let hold = sheet.holds().map(|n| n.min(2));
+                assert_ne!(smooth(&Sheet { hold: Some(hold), ..sheet }.text()), "X\t10\t0\n", "{name}");
+            }
+        }
     }
 
     /// One line T for each blend; the bits of an infinite total; the longest output.

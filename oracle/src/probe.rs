@@ -171,8 +171,8 @@ mod probes {
 
 pub use probes::*;
 
-/// How many numbers a sheet's record has: the fields of line S, own sides and factors of three channels, then the settings F and A.
-pub const NUMBERS: usize = 29;
+/// How many numbers a sheet's record has: the fields of line S, own sides and factors of three channels, then the settings F, A and H, each count of H by its meaning.
+pub const NUMBERS: usize = 32;
 
 pub fn measure(text: &[u8], limits: Limits, levels: &mut usize, tables: &mut usize, line: &mut usize) -> u32 {
     unsafe { lend!(smoother_measure(read text, limits.side, limits.iterations, levels, tables, line)) }

@@ -13,7 +13,7 @@ pub struct Calls<'a> {
 }
 
 /// A line, all its numbers in hexadecimal: `serve`; the digest; what all values of the six buffers are before; the lengths of plane, prior, gradient,
-/// across, down, saved, lows, highs, tables, jobs, channels and answers; the record's 30 numbers; lows and highs (modulo 2^16), quantisers, jobs and channels.
+/// across, down, saved, lows, highs, tables, jobs, channels and answers; the record's 33 numbers; lows and highs (modulo 2^16), quantisers, jobs and channels.
 pub fn line(digest: u64, fill: f32, x: &Lent, calls: &Calls) -> String {
     let lengths = x.buffers.iter().map(Vec::len).chain([x.lows.len(), x.highs.len(), x.tables.len()]);
     let lengths = lengths.chain([calls.jobs.len(), calls.channels.len(), calls.answers]);

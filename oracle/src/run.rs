@@ -1,9 +1,11 @@
 //! A sheet's runs, job by job: document 01, "Jobs and positions". The jobs call the published functions. What stands as loops inside the published
 //! `solve` and `solver_step` is copied here statement by statement, and `check` holds the planes against the published `solve`. The start with one reordering
 //! (M-102) is written here too, and held against the published `solve` built with it. Levels within a range (M-105) are the published functions' levels by their half sum; only the
-//! projection onto ranges is own code, held against the published one at every call.
+//! projection onto ranges is own code, held against the published one at every call. A channel that is held (M-108) keeps its buffers; the blend of the others is own code, held against the
+//! published one with a plane of zeros in its place.
 use crate::{
-    floats::same,
+    floats::{bits64, same},
+    holds,
     macros::mul_add,
     published::{each, once},
     ranges::{nearest, outside, project_onto_ranges},
@@ -69,6 +71,8 @@ pub struct Run {
     pub marks: Vec<bool>,
     /// How many coefficients the channel's last projection moved; 0 before the first (M-104).
     pub clipped: Vec<u32>,
+    /// After how many steps each channel is held (M-108).
+    pub holds: Vec<usize>,
     /// What `tv_gradient` and `tgv_gradient` returned in the last blend; zeros before the first (M-103).
     pub totals: [f64; 2],
     pub auxs: Vec<Aux>,
@@ -97,6 +101,27 @@ pub fn push(aux: &mut Aux, count: usize, factor: f32) {
     std::mem::swap(&mut aux.fdata, &mut aux.fista);
 }
 
+/// What both published gradients return of all channels.
+fn published_blend(w: u32, h: u32, auxs: &mut [Aux], second_order_weight: f32) -> [f64; 2] {
+    let nchannel = auxs.len();
+    let first = tv_gradient(w, h, nchannel, auxs);
+    [first, tgv_gradient(w, h, nchannel, auxs, second_order_weight)]
+}
+
+fn copied(aux: &Aux) -> Aux {
+    Aux {
+        cos: aux.cos.clone(),
+        obj_gradient: aux.obj_gradient.clone(),
+        pixel_diff: PixelDifference { x: aux.pixel_diff.x.clone(), y: aux.pixel_diff.y.clone() },
+        fdata: aux.fdata.clone(),
+        fista: aux.fista.clone(),
+    }
+}
+
+fn equal(x: &AlignedF32, y: &AlignedF32) -> bool {
+    x.iter().zip(y.iter()).all(|(x, y)| same(*x, *y))
+}
+
 impl Run {
     /// The start of the run with the smoothing weight and iteration count at place `c`.
     fn start(sheet: &sheet::Sheet, owns: &[sheet::Channel], c: usize) -> Self {
@@ -107,6 +132,8 @@ impl Run {
             w,
             h,
             iterations: sheet.counts[c] as usize,
+            // "A run's record carries the counts of its own channels only"
+            holds: sheet.holds()[c..][..owns.len()].iter().map(|n| *n as usize).collect(),
             positions: vec![0; coefs.len()],
             marks: vec![false; coefs.len()],
             clipped: vec![0; coefs.len()],
@@ -142,6 +169,7 @@ impl Run {
             w,
             h,
             iterations,
+            holds: vec![iterations; owns.len()],
             positions: vec![0; owns.len()],
             marks: vec![false; owns.len()],
             clipped: vec![0; owns.len()],
@@ -185,14 +213,30 @@ impl Run {
         (Constants { term, factor, step_size, second_order_weight }, next_term)
     }
 
+    /// A channel with the count k does steps 1 to k: "After its held step a channel still takes its turns, but push, data, move and project leave its buffers unchanged".
+    pub fn is_held(&self, c: usize) -> bool {
+        self.positions[c] >= 5 * self.holds[c]
+    }
+
+    /// The turn of a channel, which it takes without a change where it is held.
+    fn turn(&mut self, c: usize, job: impl FnOnce(&mut Self)) {
+        if !self.is_held(c) {
+            job(self);
+        }
+        self.positions[c] += 1;
+    }
+
     pub fn push(&mut self, c: usize, factor: f32) {
         let count = self.count();
-        push(&mut self.auxs[c], count, factor);
-        self.positions[c] += 1;
+        self.turn(c, |run| push(&mut run.auxs[c], count, factor));
     }
 
     /// Statements of `solver_step`.
     pub fn data(&mut self, c: usize) {
+        self.turn(c, |run| run.gradient_of_data(c));
+    }
+
+    fn gradient_of_data(&mut self, c: usize) {
         let (w, h, count) = (self.w, self.h, self.count());
         let pweight = &self.pweight;
         let aux = &mut self.auxs[c];
@@ -201,19 +245,46 @@ impl Run {
             let alpha = pweight[c] * 2.0 * 255.0 * 2.0_f32.sqrt();
             dct_gradient(w, h, alpha, &self.coefs[c], &aux.cos, &mut aux.obj_gradient);
         }
-        self.positions[c] += 1;
     }
 
     pub fn blend(&mut self, second_order_weight: f32) {
-        let (w, h, nchannel) = (self.w, self.h, self.channels());
-        let first = tv_gradient(w, h, nchannel, &mut self.auxs);
-        let second = tgv_gradient(w, h, nchannel, &mut self.auxs, second_order_weight);
-        self.totals = [first, second];
+        let held: Vec<bool> = (0..self.channels()).map(|c| self.is_held(c)).collect();
+        self.totals = if held.contains(&true) {
+            self.blend_live(&held, second_order_weight)
+        } else {
+            published_blend(self.w, self.h, &mut self.auxs, second_order_weight)
+        };
         self.positions.iter_mut().for_each(|p| *p += 1);
     }
 
-    /// Statements of `solver_step`.
+    /// The own blend of the channels that are not held. It must do what the published functions do with a plane of zeros in place of each held one.
+    fn blend_live(&mut self, held: &[bool], second_order_weight: f32) -> [f64; 2] {
+        let count = self.count();
+        let mut zeroed: Vec<Aux> = self.auxs.iter().map(copied).collect();
+        let held_of = |auxs: &mut Vec<Aux>, c: usize| auxs[c].fdata = AlignedF32::zeros(count);
+        (0..held.len()).filter(|c| held[*c]).for_each(|c| held_of(&mut zeroed, c));
+        let due = published_blend(self.w, self.h, &mut zeroed, second_order_weight);
+        let mut live: Vec<&mut Aux> =
+            self.auxs.iter_mut().zip(held).filter(|(_, held)| !**held).map(|(aux, _)| aux).collect();
+        let totals = holds::blend(self.w as usize, self.h as usize, held.len(), &mut live, second_order_weight);
+        let like = |(aux, due): (&Aux, &Aux)| {
+            let [x, y] = [&aux.pixel_diff, &due.pixel_diff];
+            equal(&aux.obj_gradient, &due.obj_gradient) && equal(&x.x, &y.x) && equal(&x.y, &y.y)
+        };
+        let pairs = self.auxs.iter().zip(&zeroed).zip(held);
+        assert!(
+            totals.map(bits64) == due.map(bits64) && pairs.filter(|(_, held)| !**held).all(|(pair, _)| like(pair)),
+            "the own blend and the published one with zeros for the held channels"
+        );
+        totals
+    }
+
     pub fn move_plane(&mut self, c: usize, step_size: f32) {
+        self.turn(c, |run| run.descend(c, step_size));
+    }
+
+    /// Statements of `solver_step`.
+    fn descend(&mut self, c: usize, step_size: f32) {
         let count = self.count();
         let aux = &mut self.auxs[c];
         let norm = aux.obj_gradient.iter().fold(0.0, |acc, &x| mul_add!(x, x, acc)).sqrt();
@@ -222,7 +293,6 @@ impl Run {
                 aux.fdata[i] = step_size.mul_add(-(aux.obj_gradient[i] / norm), aux.fdata[i]);
             }
         }
-        self.positions[c] += 1;
     }
 
     /// A channel's coefficients as the projection finds them: those that the published one keeps where each interval has no end, the quantisers being infinite.
@@ -255,7 +325,6 @@ impl Run {
         let due = self.projected(c, &single);
         let (aux, table) = (&mut self.auxs[c], &own.table);
         project_onto_ranges(self.w, self.h, aux, &self.coefs[c], &pairs, table);
-        let equal = |x: &AlignedF32, y: &AlignedF32| x.iter().zip(y.iter()).all(|(x, y)| same(*x, *y));
         let (diff, published) = (&aux.pixel_diff, &due.pixel_diff);
         assert!(
             equal(&aux.fdata, &due.fdata)
@@ -266,16 +335,23 @@ impl Run {
         );
     }
 
+    /// "Its project returns and keeps the last clipped number, and job 5's test for the mark stays" where a channel is held.
+    pub fn project(&mut self, c: usize) {
+        self.turn(c, |run| run.project_onto(c));
+        let own = self.coefs[c].rounded_px_count as usize;
+        let aux = &self.auxs[c];
+        self.marks[c] = !aux.fdata.iter().chain(&aux.cos[..own]).all(|x| x.is_finite());
+    }
+
     /// The published projection, or the own one onto ranges. The own count of the values that lay outside is held against it: it keeps the others as they were, and only
     /// those.
-    pub fn project(&mut self, c: usize) {
+    fn project_onto(&mut self, c: usize) {
         let found = self.transformed(c);
         if self.owns[c].levels.are_equal() {
             project_onto_box(self.w, self.h, &mut self.auxs[c], &self.coefs[c]);
         } else {
             self.project_ranges(c, &found);
         }
-        self.positions[c] += 1;
         let own = self.coefs[c].rounded_px_count as usize;
         let aux = &self.auxs[c];
         let (levels, table) = (&self.owns[c].levels, &self.owns[c].table);
@@ -285,7 +361,6 @@ impl Run {
             "the own count and the published projection"
         );
         self.clipped[c] = (0..own).filter(moved).count() as u32;
-        self.marks[c] = !aux.fdata.iter().chain(&aux.cos[..own]).all(|x| x.is_finite());
     }
 
     /// The five jobs of a step; `after` sees the run after each, with the job's name and the channel that it was done for (for blend each channel).
@@ -336,9 +411,10 @@ impl Run {
         ]
     }
 
-    /// Whether the planes of a run that is done are those of the published `solve`, which knows no ranges: "The oracle judges sheets without `G`, these rules the others".
+    /// Whether the planes of a run that is done are those of the published `solve`, which knows no ranges and holds no channel: "The oracle judges sheets without `G`, these rules the
+    /// others"; "The oracle still judges sheets without an `H` line, and the others are judged by the recursion".
     pub fn check(&self) -> bool {
-        if self.owns.iter().any(|own| !own.levels.are_equal()) {
+        if self.owns.iter().any(|own| !own.levels.are_equal()) || self.holds.iter().any(|n| *n != self.iterations) {
             return true;
         }
         let solve = match self.reorder {

@@ -13,6 +13,7 @@ const WEIGHT: Fault = 6;
 const CUT: Fault = 7;
 const RANGE: Fault = 14;
 const PAGE: Fault = 15;
+const HOLD: Fault = 17;
 
 #[derive(Clone, Copy, Debug, PartialEq)]
 pub enum Weight {
@@ -119,6 +120,8 @@ pub struct Sheet {
     pub rounding: Option<Rounding>,
     /// None where there is no line `A`.
     pub reorder: Option<Reorder>,
+    /// The step counts of line `H` (M-108); None where there is none.
+    pub hold: Option<[u32; 3]>,
     pub channels: Vec<Channel>,
 }
 
@@ -136,6 +139,11 @@ pub const SMOOTH: Limits = Limits { side: 32, ..MOST };
 
 fn full_side(n: u32, most: u32) -> bool {
     n % 8 == 0 && (8..=most).contains(&n)
+}
+
+/// What each held count is measured against: "the one at its place, or with three channels in joint mode the first" (M-108).
+fn measures(channels: u32, joint: bool, counts: [u32; 3]) -> [u32; 3] {
+    if channels == 3 && joint { [counts[0]; 3] } else { counts }
 }
 
 /// Reads a whole text. "a parameter above 1,000 is 2, line 0, before the text is read", and so is a side limit that could be no side.
@@ -222,13 +230,24 @@ impl<'a> Lines<'a> {
         let data = [weight(field())?, weight(field())?, weight(field())?];
         let rounding = self.setting(b"F", [(b"t", Rounding::Truncate), (b"n", Rounding::Nearest)])?;
         let reorder = self.setting(b"A", [(b"m", Reorder::Each), (b"o", Reorder::Once)])?;
+        let hold = self.hold(measures(channels, joint, counts))?;
         let channels = (0..channels).map(|_| self.channel(w, h)).collect::<Result<_, _>>()?;
         self.next(b"E", 1)?;
         if !self.rest.is_empty() {
             self.line += 1;
             return Err(CUT);
         }
-        Ok(Sheet { w, h, picture_w, picture_h, joint, counts, smoothing, data, rounding, reorder, channels })
+        Ok(Sheet { w, h, picture_w, picture_h, joint, counts, smoothing, data, rounding, reorder, hold, channels })
+    }
+
+    /// "17 "hold", a count above the iterations, at its field", its spelling first.
+    fn hold(&mut self, measures: [u32; 3]) -> Result<Option<[u32; 3]>, Fault> {
+        if !self.is_next(b"H") {
+            return Ok(None);
+        }
+        let mut fields = self.next(b"H", 4)?;
+        let mut count = |most| number_in(fields.next().expect("counted"), |n| n <= most, HOLD);
+        Ok(Some([count(measures[0])?, count(measures[1])?, count(measures[2])?]))
     }
 
     fn channel(&mut self, full_w: u32, full_h: u32) -> Result<Channel, Fault> {
@@ -340,6 +359,28 @@ impl Sheet {
         self.reorder.unwrap_or(Reorder::Each)
     }
 
+    fn measures(&self) -> [u32; 3] {
+        measures(self.channels.len() as u32, self.joint, self.counts)
+    }
+
+    /// After how many steps each channel is held: "absent, each equals the iteration count it is measured against".
+    pub fn holds(&self) -> [u32; 3] {
+        self.hold.unwrap_or_else(|| self.measures())
+    }
+
+    /// Whether a channel of it is held before its run's end.
+    pub fn is_held(&self) -> bool {
+        let ends = self.holds().into_iter().zip(self.measures());
+        ends.take(self.channels.len()).any(|(hold, most)| hold < most)
+    }
+
+    /// The same sheet, its held counts within what they are measured against.
+    pub fn held_within(self) -> Self {
+        let most = self.measures();
+        let hold = self.hold.map(|counts| std::array::from_fn(|c| counts[c].min(most[c])));
+        Self { hold, ..self }
+    }
+
     /// Whether a line of it is `G`.
     pub fn is_ranged(&self) -> bool {
         self.channels.iter().any(|c| c.levels.ranged.contains(&true))
@@ -373,6 +414,7 @@ impl Sheet {
             Some(Reorder::Each) => "A\tm\n",
             Some(Reorder::Once) => "A\to\n",
         };
+        text += &self.hold.map_or(String::new(), |counts| format!("H\t{}\n", joined(counts, "\t")));
         for c in &self.channels {
             text += &format!("C\t{}\t{}\n", joined([c.w, c.h, c.across, c.down], "\t"), joined(&c.table, "\t"));
             let pairs: Vec<_> = c.levels.pairs().collect();

@@ -20,6 +20,7 @@ pub fn legal(r: &mut Random, limit: u32, steps: u32) -> Sheet {
         data: [0; 3].map(|_| weight(r)),
         rounding: None,
         reorder: None,
+        hold: None,
         channels: (0..channels).map(|_| channel(r, w, h, ranges)).collect(),
     };
     // of two sheets in five none, of two in five `n`
@@ -28,7 +29,29 @@ pub fn legal(r: &mut Random, limit: u32, steps: u32) -> Sheet {
     // of two sheets in five none, of two in five `o`
     let letters = [None, Some(Reorder::Once), None, Some(Reorder::Each), Some(Reorder::Once)];
     let reorder = letters[(2 * sheet.picture_w + sheet.picture_h + sheet.counts[1]) as usize % 5];
-    Sheet { rounding, reorder, ..sheet }
+    let hold = hold(&sheet);
+    Sheet { rounding, reorder, hold, ..sheet }
+}
+
+/// By numbers of the sheet's own, so that the other fields are those of a sheet without the line. Of seven sheets two have no line `H`, one has the iterations' counts; in the others every
+/// count is any, or all are 0, or one channel alone is held, or one alone is not.
+fn hold(sheet: &Sheet) -> Option<[u32; 3]> {
+    let [a, b, c] = sheet.counts.map(u64::from);
+    let first = sheet.channels[0].levels.lows.iter().fold(0, |sum, level| 31 * sum % 65_537 + (level & 255) as u64);
+    let mut r =
+        Random::new(first ^ u64::from(sheet.picture_w * sheet.picture_h) << 17 ^ (a + 1001 * (b + 1001 * c)) << 32);
+    let most = Sheet { hold: None, ..sheet.clone() }.holds();
+    let one = r.below(3);
+    let mut any = || most.map(|n| r.between(0, n.into()) as u32);
+    let (any, kind) = (any(), r.below(7));
+    match kind {
+        0 | 1 => None,
+        2 => Some(most),
+        3 => Some([0; 3]),
+        4 => Some(std::array::from_fn(|c| if c == one { any[c] } else { most[c] })),
+        5 => Some(std::array::from_fn(|c| if c == one { most[c] } else { any[c] })),
+        _ => Some(any),
+    }
 }
 
 fn full_side(r: &mut Random, limit: u32) -> u32 {
@@ -119,7 +142,7 @@ pub const DAMAGES: [Damage; 12] = [
     ("pair", paired),
     ("tag", |r, text| {
         fields(r, text, |r, line, _, _| {
-            line[0] = r.pick(&["S", "C", "B", "E", "", "b", "BB", "F", "A", "G", "N"]).into()
+            line[0] = r.pick(&["S", "C", "B", "E", "", "b", "BB", "F", "A", "H", "G", "N"]).into()
         });
     }),
     ("field count", field_count),
@@ -140,7 +163,7 @@ fn join(lines: &Lines) -> Vec<u8> {
 }
 
 fn tagged(r: &mut Random, lines: &Lines) -> usize {
-    let tag = r.pick(&["S", "S", "S", "S", "F", "A", "C", "C", "C", "B", "B", "G", "G", "E"]).as_bytes();
+    let tag = r.pick(&["S", "S", "S", "S", "F", "A", "H", "H", "C", "C", "C", "B", "B", "G", "G", "E"]).as_bytes();
     let found: Vec<usize> = (0..lines.len()).filter(|i| lines[*i][0] == tag).collect();
     if found.is_empty() { r.below(lines.len()) } else { r.pick(&found) }
 }
@@ -173,6 +196,7 @@ fn edge(r: &mut Random, line: &[Vec<u8>], at: usize, [w, h]: [u32; 2]) -> Vec<u8
         (b"S", 10..) => odd_weight(r),
         (b"F", 1) => r.pick(&["t", "n", "T", "N", "tn", "", "x", "0", "1"]).into(),
         (b"A", 1) => r.pick(&["m", "o", "M", "O", "mo", "", "t", "n", "0", "1"]).into(),
+        (b"H", 1..) => n(r, &[0, 1, 2, 3, 6, 999, 1_000, 1_001, 65_536, 999_999, 1_000_000]),
         (b"C", 1 | 2) => n(r, &[0, 4, 8, 12, full, full + 8, 512, 520, 65_544, 999_992, 999_999]),
         (b"C", 3 | 4) => n(r, &[0, 1, 2, 3, 4, 5, 257, 999_999]),
         (b"C", 5..) => n(r, &[0, 1, 254, 255, 256, 257, 511, 65_537, 999_999]),
@@ -342,7 +366,7 @@ fn cut(r: &mut Random, text: &mut Vec<u8>) {
 
 fn bytes(r: &mut Random, text: &mut Vec<u8>) {
     let at = r.below(text.len().max(1));
-    let byte = r.pick(b"\t\n\r\0 -+0189wxhjsSFACBGE\xff\xc3");
+    let byte = r.pick(b"\t\n\r\0 -+0189wxhjsSFAHCBGE\xff\xc3");
     match r.below(6) {
         0 => *text = String::from_utf8_lossy(text).replace('\n', r.pick(&["\r\n", "\r", "\n\n"])).into_bytes(),
         1 | 2 => text.insert(at.min(text.len()), byte),
@@ -528,7 +552,6 @@ pub fn fixed() -> Vec<(&'static str, Vec<u8>, Option<Refusal>)> {
         ("A twice", before(1, b"A\to\nA\to\n"), Some((1, 3))),
         ("F, then A twice", before(1, b"F\tn\nA\to\nA\to\n"), Some((1, 4))),
         ("F, A, then F", before(1, b"F\tn\nA\to\nF\tn\n"), Some((1, 4))),
-        ("A, then H", before(1, b"A\to\nH\t0\t0\t0\n"), Some((1, 3))),
         ("A first", before(0, b"A\to\n"), Some((1, 1))),
         ("A after C", before(2, b"A\to\n"), Some((1, 3))),
         ("A after B", before(3, b"A\to\n"), Some((1, 4))),
@@ -546,6 +569,67 @@ pub fn fixed() -> Vec<(&'static str, Vec<u8>, Option<Refusal>)> {
         ("A unended", [lines[0], b"A\to"].concat(), Some((7, 2))),
         ("A, then E", [lines[0], b"A\to\n", lines[3]].concat(), Some((1, 3))),
         ("A, long", before(1, &[b"A\t".as_slice(), &[b'o'; 1023], b"\n"].concat()), Some((1, 2))),
+    ]);
+    // line `H`: only directly after `S`, `F` or `A`, once, with three counts, each within the iterations it is measured against
+    let counts = |j: &'static str, counts: [&'static str; 3], line: &[u8]| {
+        let [a, b, c] = counts;
+        let text = edited(&[(S, 6, j), (S, 7, a), (S, 8, b), (S, 9, c)]);
+        let end = text.iter().position(|b| *b == b'\n').expect("a line") + 1;
+        [&text[..end], line, &text[end..]].concat()
+    };
+    let three = |text: Vec<u8>, line: &[u8]| {
+        let text = String::from_utf8(text)
+            .expect("text")
+            .replacen("\t1\ts\t", "\t3\ts\t", 1)
+            .replacen("\t1\tj\t", "\t3\tj\t", 1);
+        let end = text.find('\n').expect("a line") + 1;
+        let channel = [lines[1], lines[2]].concat();
+        [text[..end].as_bytes(), line, &channel.repeat(3), b"E\n"].concat()
+    };
+    all.extend([
+        ("H", before(1, b"H\t0\t0\t0\n"), None),
+        ("F, A, then H", before(1, b"F\tn\nA\to\nH\t0\t0\t0\n"), None),
+        ("F, then H", before(1, b"F\tn\nH\t0\t0\t0\n"), None),
+        ("A, then H", before(1, b"A\to\nH\t0\t0\t0\n"), None),
+        ("H, then A", before(1, b"H\t0\t0\t0\nA\to\n"), Some((1, 3))),
+        ("H, then F", before(1, b"H\t0\t0\t0\nF\tn\n"), Some((1, 3))),
+        ("H twice", before(1, b"H\t0\t0\t0\nH\t0\t0\t0\n"), Some((1, 3))),
+        ("H first", before(0, b"H\t0\t0\t0\n"), Some((1, 1))),
+        ("H after C", before(2, b"H\t0\t0\t0\n"), Some((1, 3))),
+        ("H after B", before(3, b"H\t0\t0\t0\n"), Some((1, 4))),
+        ("H after E", before(4, b"H\t0\t0\t0\n"), Some((7, 5))),
+        ("H, one count", before(1, b"H\t0\n"), Some((1, 2))),
+        ("H, two counts", before(1, b"H\t0\t0\n"), Some((1, 2))),
+        ("H, four counts", before(1, b"H\t0\t0\t0\t0\n"), Some((1, 2))),
+        ("H, above the iterations", before(1, b"H\t1\t0\t0\n"), Some((17, 2))),
+        ("H, above, then a spelling", before(1, b"H\t1\tx\t0\n"), Some((17, 2))),
+        ("H, a spelling, then above", before(1, b"H\tx\t1\t0\n"), Some((1, 2))),
+        ("H, a zero before", before(1, b"H\t00\t0\t0\n"), Some((1, 2))),
+        ("H, an empty count", before(1, b"H\t\t0\t0\n"), Some((1, 2))),
+        ("H, below 0", before(1, b"H\t-1\t0\t0\n"), Some((1, 2))),
+        ("H, seven digits", before(1, b"H\t1000000\t0\t0\n"), Some((1, 2))),
+        ("H, six digits", before(1, b"H\t999999\t0\t0\n"), Some((17, 2))),
+        ("H, above 1,000", counts("s", ["1000", "0", "0"], b"H\t1001\t0\t0\n"), Some((17, 2))),
+        ("H, spare counts, by place", counts("s", ["2", "0", "0"], b"H\t2\t1\t0\n"), Some((17, 2))),
+        ("H, the last", counts("s", ["2", "1", "0"], b"H\t2\t1\t1\n"), Some((17, 2))),
+        ("H, spare counts in joint mode", counts("j", ["2", "0", "0"], b"H\t2\t2\t0\n"), Some((17, 2))),
+        ("H, spare counts legal", counts("j", ["2", "3", "4"], b"H\t2\t3\t4\n"), None),
+        ("H, three channels, joint", three(counts("j", ["1", "0", "0"], b""), b"H\t0\t1\t1\n"), None),
+        (
+            "H, three channels, joint, above the first",
+            three(counts("j", ["1", "2", "2"], b""), b"H\t1\t2\t1\n"),
+            Some((17, 2)),
+        ),
+        ("H, three channels, separate", three(counts("s", ["1", "0", "0"], b""), b"H\t0\t1\t1\n"), Some((17, 2))),
+        ("H, three channels, separate, by place", three(counts("s", ["1", "2", "3"], b""), b"H\t0\t2\t3\n"), None),
+        ("H after A bad", before(1, b"A\tx\nH\t1\t0\t0\n"), Some((1, 2))),
+        ("H bad after A", before(1, b"F\tn\nA\to\nH\t1\t0\t0\n"), Some((17, 4))),
+        ("H bad, then C bad", before(1, b"H\t0\t1\t0\nC\n"), Some((17, 2))),
+        ("S, H and no more", [lines[0], b"H\t0\t0\t0\n"].concat(), Some((7, 3))),
+        ("H unended", [lines[0], b"H\t0\t0\t1"].concat(), Some((7, 2))),
+        ("H, then E", [lines[0], b"H\t0\t0\t0\n", lines[3]].concat(), Some((1, 3))),
+        ("H, long", before(1, &[b"H\t1\t0\t".as_slice(), &[b'0'; 1023], b"\n"].concat()), Some((1, 2))),
+        ("h", before(1, b"h\t0\t0\t0\n"), Some((1, 2))),
     ]);
     // line `G` in place of `B`: 64 pairs, each judged before the next
     let ranged = |pairs: &str| {
@@ -653,7 +737,7 @@ pub fn pages(seed: u64, count: u64, side: u32) -> Vec<(u32, Vec<u8>)> {
         if r.one_in(2) {
             sheet.counts = sheet.counts.map(|n| n.min(most));
         }
-        let mut text = sheet.text();
+        let mut text = sheet.held_within().text();
         for _ in 0..r.below(3) {
             r.pick(&DAMAGES).1(&mut r, &mut text);
         }
@@ -698,20 +782,21 @@ pub fn long() -> Vec<(Vec<u8>, Option<Refusal>)> {
         data: weights,
         rounding: Some(Rounding::Nearest),
         reorder: Some(Reorder::Once),
+        hold: Some([0, 1, 1]),
         channels: vec![channel; 3],
     };
     let whole = sheet.text();
     let no_end = &whole[..whole.len() - 2];
     let then = |start: &[u8], bytes: usize, end: &str| [start, &vec![b'a'; bytes], end.as_bytes()].concat();
     vec![
-        (then(&whole, 1, ""), Some((7, 56))),
-        (then(&whole, 30_000, "\n"), Some((7, 56))),
-        (then(no_end, 0, ""), Some((7, 55))),
-        (then(no_end, 1024, ""), Some((7, 55))),
-        (then(no_end, 1025, ""), Some((1, 55))),
-        (then(no_end, 1024, "\n"), Some((1, 55))),
-        (then(no_end, 1025, "\n"), Some((1, 55))),
-        (then(no_end, 30_000, "\n"), Some((1, 55))),
+        (then(&whole, 1, ""), Some((7, 57))),
+        (then(&whole, 30_000, "\n"), Some((7, 57))),
+        (then(no_end, 0, ""), Some((7, 56))),
+        (then(no_end, 1024, ""), Some((7, 56))),
+        (then(no_end, 1025, ""), Some((1, 56))),
+        (then(no_end, 1024, "\n"), Some((1, 56))),
+        (then(no_end, 1025, "\n"), Some((1, 56))),
+        (then(no_end, 30_000, "\n"), Some((1, 56))),
         (then(b"", 30_000, ""), Some((1, 1))),
         (vec![b'\n'; 30_000], Some((1, 1))),
         (whole, None),
@@ -741,6 +826,7 @@ pub fn largest() -> Sheet {
         data: [Weight::Bits(0.001_f32.to_bits()); 3],
         rounding: None,
         reorder: None,
+        hold: None,
         channels: [0; 3].map(&mut channel).into(),
     }
 }
@@ -767,6 +853,7 @@ pub fn fixed_runs() -> Vec<(&'static str, Sheet, bool)> {
         *channels.last_mut().expect("a channel") = late.clone();
         Sheet { w: 32, h: 32, reorder: Some(Reorder::Once), channels, ..sheet }
     };
+    let held = |sheet: Sheet, counts: [u32; 3]| Sheet { hold: Some(counts), ..sheet };
     let infinite = edited(&[(0, 7, "1"), (0, 10, "h7e000000"), (2, 2, "100"), (2, 10, "-77")]);
     vec![
         ("huge data weight", sheet(true, 1, [1, 0, 0], [HUGE, 0, 0]), true),
@@ -781,6 +868,20 @@ pub fn fixed_runs() -> Vec<(&'static str, Sheet, bool)> {
         ("blown in the last step", with_late(sheet(true, 1, [3, 0, 0], [LARGEST, 0, 0])), true),
         ("separate: blown in the last run", with_late(sheet(false, 3, [1, 1, 3], [LARGEST, 0, 0])), true),
         ("separate: one step less", with_late(sheet(false, 3, [1, 1, 2], [LARGEST, 0, 0])), false),
+        (
+            "held before the step that blows",
+            held(with_late(sheet(true, 1, [3, 0, 0], [LARGEST, 0, 0])), [2, 0, 0]),
+            false,
+        ),
+        (
+            "held after the last step, which blows",
+            held(with_late(sheet(true, 1, [3, 0, 0], [LARGEST, 0, 0])), [3, 0, 0]),
+            true,
+        ),
+        ("joint: one held at its start", held(sheet(true, 3, [2, 0, 0], [0, 0, HUGE]), [2, 2, 0]), false),
+        ("joint: another held", held(sheet(true, 3, [2, 0, 0], [0, 0, HUGE]), [2, 0, 2]), true),
+        ("separate: one held at its start", held(sheet(false, 3, [0, 1, 0], [HUGE, 0, 0]), [0, 0, 0]), false),
+        ("all held", held(with_late(sheet(true, 3, [3, 0, 0], [LARGEST, LARGEST, LARGEST])), [1, 0, 2]), false),
         ("the second total is infinite", read(&infinite, SMOOTH).expect("legal"), false),
     ]
 }

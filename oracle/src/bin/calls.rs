@@ -43,6 +43,7 @@ fn fresh(r: &mut Random, limit: u32) -> Lent {
     if record.n == 0 && !r.one_in(3) {
         record.n = r.between(1, 3) as u32;
     }
+    hold(r, &mut record);
     let owns = if sheet.joint { &sheet.channels[..] } else { &sheet.channels[c..=c] };
     let (lows, highs) = lent_levels(owns);
     let mut x = Lent {
@@ -55,6 +56,19 @@ fn fresh(r: &mut Random, limit: u32) -> Lent {
     };
     refill(r, &mut x);
     x
+}
+
+/// Held counts (M-108): of two runs in five none is held; else all, one, or any.
+fn hold(r: &mut Random, record: &mut Record) {
+    let (kind, one, n) = (r.below(5), r.below(3), record.n);
+    for (c, own) in record.channels.iter_mut().enumerate() {
+        own.held = match kind {
+            0 | 1 => n,
+            2 => r.pick(&[0, 0, n / 2]),
+            3 if c != one => n,
+            _ => r.between(0, n.into()) as u32,
+        };
+    }
 }
 
 type Make = fn(&mut Random) -> f32;
@@ -192,7 +206,7 @@ fn damage_record(r: &mut Random, record: &mut Record) {
     const SIDES: [u32; 14] = [0, 1, 4, 7, 8, 9, 12, 16, 512, 516, 520, 1 << 16, 1 << 31, u32::MAX - 7];
     let c = if r.one_in(6) { 2 } else { r.below(record.count.clamp(1, 3) as usize) };
     let own = &mut record.channels[c];
-    match r.below(19) {
+    match r.below(21) {
         0 => record.w = r.pick(&SIDES),
         1 => record.h = r.pick(&SIDES),
         2 => record.n = r.pick(&[0, 1, 2, 1000, 1001, 1 << 30, u32::MAX]),
@@ -212,6 +226,7 @@ fn damage_record(r: &mut Random, record: &mut Record) {
             let full = record.w.wrapping_mul(record.h);
             own.clipped = kept_number(r, own, full);
         }
+        19 | 20 => own.held = r.pick(&[0, record.n, record.n.wrapping_add(1), record.n / 2, 1000, 1001, u32::MAX]),
         16 => record.reorder = r.pick(&[0, 1, 2, 109, 111, 1 << 8, 1 << 31, u32::MAX]),
         _ => own.mark = !own.mark,
     }
@@ -240,10 +255,11 @@ enum Fault {
     Rest,
     Refused,
     Letter,
+    Held,
     ServeByte,
 }
 
-const FAULTS: [Fault; 12] = [
+const FAULTS: [Fault; 13] = [
     Fault::Answer,
     Fault::Blown,
     Fault::Position,
@@ -255,6 +271,7 @@ const FAULTS: [Fault; 12] = [
     Fault::Rest,
     Fault::Refused,
     Fault::Letter,
+    Fault::Held,
     Fault::ServeByte,
 ];
 
@@ -304,11 +321,14 @@ impl Compare {
         let answer = mine.call(job, c);
         let mut other = proved(theirs, job, c);
         self.calls += 1;
-        let rare = matches!(self.fault, Fault::Blown | Fault::Mark | Fault::Letter);
+        let rare = matches!(self.fault, Fault::Blown | Fault::Mark | Fault::Letter | Fault::Held);
         if self.fault != Fault::None && (rare || self.calls % 1009 > 1000) {
             self.plant(theirs, &mut other, job, c);
         }
         self.met(&format!("{kind}: {job:?} answered {answer}"));
+        if matches!(answer, 0 | BLOWN) && job != Job::Start {
+            self.met_held(&before.0, job, c, answer);
+        }
         if job == Job::Blend && answer == 0 {
             let unlike = |name: &str, is: fn(f64) -> bool| mine.totals.iter().any(|x| is(*x)).then(|| name.to_owned());
             let odd = [unlike("infinite", f64::is_infinite), unlike("NaN", f64::is_nan)];
@@ -326,6 +346,17 @@ impl Compare {
         });
         if self.fault != Fault::None {
             *theirs = mine.clone();
+        }
+    }
+
+    /// Accepted calls of a held channel, and blends with some or all held.
+    fn met_held(&mut self, before: &Record, job: Job, c: u32, answer: u32) {
+        let held = |own: &Channel| own.position / 5 >= own.held;
+        let (number, all) = (before.owns().iter().filter(|own| held(own)).count(), before.owns().len());
+        if job == Job::Blend && number > 0 {
+            self.met(&format!("blends with {} of {all} channels held", number));
+        } else if job != Job::Blend && held(&before.owns()[c as usize]) {
+            self.met(&format!("of a held channel: {job:?} answered {answer}"));
         }
     }
 
@@ -382,6 +413,15 @@ impl Compare {
                 let shows = difference(&other, theirs).1.is_some();
                 theirs.buffers = other.buffers;
                 shows
+            }
+            Fault::Held if accepted && job == Job::Data => {
+                let (n, own) = (theirs.record.area(), &theirs.record.channels[c]);
+                let part = &mut theirs.buffers[2][c * n..(c + 1) * n];
+                (own.position - 1) / 5 >= own.held && {
+                    let shows = part.iter().any(|x| x.to_bits() != 0);
+                    part.fill(0.0);
+                    shows
+                }
             }
             Fault::Refused if !accepted => value.is_some_and(|x| {
                 *x = if *x == 1.0 { 2.0 } else { 1.0 };

@@ -111,6 +111,7 @@ fn main() {
         data: [Weight::Bits(0.001_f32.to_bits()); 3],
         rounding: None,
         reorder: None,
+        hold: None,
         channels: vec![channel(luma, 1, &LUMA), channel(blue, 2, &CHROMA), channel(red, 2, &CHROMA)],
     };
     stdout().write_all(&sheet.text()).expect("standard output");

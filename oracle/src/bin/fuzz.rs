@@ -30,14 +30,15 @@ fn bytes(r: &mut Random) -> Vec<u8> {
     let most = r.pick(&[4, 40, 400, 4_000]);
     let length = r.below(most + 1);
     let alphabet: &[u8] =
-        r.pick(&[b"".as_slice(), b"\t\n", b"0123456789\t\n-", b"SFACBGEtnmojswh0123456789abcdef\t\n- \r"]);
+        r.pick(&[b"".as_slice(), b"\t\n", b"0123456789\t\n-", b"SFAHCBGEtnmojswh0123456789abcdef\t\n- \r"]);
     (0..length).map(|_| if alphabet.is_empty() { r.word() as u8 } else { r.pick(alphabet) }).collect()
 }
 
-const TOKENS: [&str; 50] = [
+const TOKENS: [&str; 52] = [
     "S",
     "F",
     "A",
+    "H",
     "C",
     "B",
     "G",
@@ -51,6 +52,7 @@ const TOKENS: [&str; 50] = [
     "S\t",
     "F\t",
     "A\t",
+    "H\t",
     "C\t",
     "B\t",
     "G\t",
@@ -95,7 +97,7 @@ fn tokens(r: &mut Random) -> Vec<u8> {
 /// Lines with the right tags and field counts, and fields that are mostly right, in an order that is mostly right.
 fn lines(r: &mut Random) -> Vec<u8> {
     let odd = r.pick(&[20, 100, 1_000]);
-    let mut field = |words: &[&'static str]| if r.one_in(odd) { r.pick(&TOKENS[19..]) } else { r.pick(words) };
+    let mut field = |words: &[&'static str]| if r.one_in(odd) { r.pick(&TOKENS[21..]) } else { r.pick(words) };
     let (full, sides) = (["16", "16", "32"], ["8", "8", "16"]);
     let factors = ["1", "1", "2"];
     let channels = field(&["1", "3"]);
@@ -105,6 +107,10 @@ fn lines(r: &mut Random) -> Vec<u8> {
     text.extend([0; 6].map(|_| field(&["w0", "w1", "w255", "h3f800000", "h00000001", "h7f7fffff"])));
     for line in [["", "\nF\tt", "\nF\tn", "\nF\tn", "\nF"], ["", "\nA\tm", "\nA\to", "\nA\to", "\nA"]] {
         text.extend(field(&line).split('\t').filter(|word| !word.is_empty()));
+    }
+    if field(&["", "", "H"]) == "H" {
+        text.extend(["\n", "H"]);
+        text.extend([0; 3].map(|_| field(&["0", "0", "1"])));
     }
     for _ in 0..channels.parse().unwrap_or(1).min(3) {
         let (w, h) = (field(&sides), field(&["8"]));
@@ -160,7 +166,7 @@ fn short(text: Vec<u8>) -> Vec<u8> {
     match read(&text, SMOOTH) {
         Ok(mut sheet) if sheet.counts.iter().any(|n| *n > STEPS) => {
             sheet.counts = sheet.counts.map(|n| n.min(STEPS));
-            sheet.text()
+            sheet.held_within().text()
         }
         _ => text,
     }
@@ -236,7 +242,7 @@ fn main() -> ExitCode {
         tally.count_in(kind, fault.is_none(), || format!("{}: input {i} of {} bytes", fault.expect("one"), text.len()));
     }
     let shares: Vec<_> = KINDS.iter().flat_map(|kind| vec![kind; kind.1]).collect();
-    let (mut pictures, mut refusals) = (0, [0; 16]);
+    let (mut pictures, mut refusals) = (0, [0; 21]);
     let all: Vec<u64> = (0..count).collect();
     for part in all.chunks(2_000) {
         let ended = answers(part, 2, |i| {
@@ -257,7 +263,7 @@ fn main() -> ExitCode {
         }
     }
     let refusals: Vec<String> =
-        (1..=15).filter(|n| refusals[*n] > 0).map(|n| format!("{n}: {}", refusals[n])).collect();
+        (1..=20).filter(|n| refusals[*n] > 0).map(|n| format!("{n}: {}", refusals[n])).collect();
     println!("{pictures} pictures; refusals {}", refusals.join(", "));
     tally.close()
 }

@@ -37,20 +37,25 @@ fn main() -> ExitCode {
 }
 
 /// Kinds of sheets; the number tells which of its kind it is.
+/// The probe's jobs know no held channels (M-108): `calls` and `planes` compare those.
 const KINDS: [(&str, fn(&mut Random, usize) -> Sheet); 4] = [
-    ("sheets", |r, _| legal(r, 64, 30)),
+    ("sheets", |r, _| free(r, 64)),
     ("covers", covers),
     ("weights", |r, _| Sheet {
         smoothing: [0; 3].map(|_| r.pick(&WEIGHTS)),
         data: [0; 3].map(|_| r.pick(&WEIGHTS)),
-        ..legal(r, 64, 30)
+        ..free(r, 64)
     }),
     ("levels", |r, _| {
-        let mut sheet = legal(r, 64, 30);
+        let mut sheet = free(r, 64);
         sheet.channels.iter_mut().for_each(|c| extreme(r, c));
         sheet
     }),
 ];
+
+fn free(r: &mut Random, side: u32) -> Sheet {
+    Sheet { hold: None, ..legal(r, side, 30) }
+}
 
 /// Three channels, all pairs of factors in turn, whose own sides cover as much as they can or a part; levels as pictures have them.
 fn covers(r: &mut Random, i: usize) -> Sheet {
@@ -66,7 +71,7 @@ fn covers(r: &mut Random, i: usize) -> Sheet {
         Channel { w, h, across: factors[0], down: factors[1], table, levels }
     };
     let channels = (3 * i..3 * i + 3).map(&mut channel).collect();
-    Sheet { w: sides[0], h: sides[1], channels, ..legal(r, 8, 30) }
+    Sheet { w: sides[0], h: sides[1], channels, ..free(r, 8) }
 }
 
 fn extreme(r: &mut Random, c: &mut Channel) {
@@ -217,6 +222,7 @@ impl Compare {
     fn values(&mut self, r: &mut Random, sheet: &Sheet, make: Make) {
         for (mut run, mut lent) in runs(sheet).into_iter().zip(jobs::runs(sheet, 0.0)) {
             let (channels, step) = (0..run.channels(), r.below(30));
+            run.holds.fill(usize::MAX);
             for job in &JOBS[1..] {
                 for c in channels.clone().take(if *job == "blend" { 1 } else { 3 }) {
                     fill(&mut run, &mut lent, |_, n| (0..n).map(|_| make(r)).collect());
@@ -314,6 +320,7 @@ fn large(r: &mut Random, (owns, joint, count, weight, reorder): Large) -> Sheet 
         data: weights,
         rounding: None,
         reorder: Some(reorder),
+        hold: None,
         channels,
     }
 }

@@ -112,7 +112,8 @@ impl Lent {
         };
         let channel = |c: usize| {
             let own_sides = own(n[15 + 4 * c], n[17 + 4 * c], n[0]) && own(n[16 + 4 * c], n[18 + 4 * c], n[1]);
-            own_sides && n[6 + c] <= 1000 && weight(n[9 + c]) && weight(n[12 + c])
+            let most = if n[5] == 1 { n[6] } else { n[6 + c] };
+            own_sides && n[6 + c] <= 1000 && n[29 + c] <= most && weight(n[9 + c]) && weight(n[12 + c])
         };
         n[..2].iter().all(|side| side % 8 == 0 && (8..=512).contains(side))
             && (n[4] == 1 || n[4] == 3)
@@ -143,6 +144,7 @@ impl Lent {
             data: weights(12),
             rounding: Some(if n[27] == 1 { Rounding::Nearest } else { Rounding::Truncate }),
             reorder: Some(if n[28] == 1 { Reorder::Once } else { Reorder::Each }),
+            hold: Some([n[29], n[30], n[31]]),
             channels: (0..n[4] as usize).map(channel).collect(),
         }
     }
@@ -183,7 +185,7 @@ fn damage(r: &mut Random, x: &mut Lent) {
     match r.below(14) {
         12 => x.totals.resize(longer(r, x.totals.len()), 7.0),
         10 => x.clipped.resize(r.pick(&[0, 1, 2, 3, 4]), 77),
-        0 => x.numbers.resize(r.pick(&[0, 1, 27, 28, 30, 58]), 1),
+        0 => x.numbers.resize(r.pick(&[0, 1, 27, 29, 31, 33, 64]), 1),
         1 => {
             let levels = if r.one_in(2) { &mut x.lows } else { &mut x.highs };
             levels.resize(longer(r, levels.len()), 0);
@@ -208,7 +210,7 @@ fn damage(r: &mut Random, x: &mut Lent) {
         }
         _ => {
             let at = r.below(x.numbers.len().max(1));
-            let count = (6..9).contains(&at);
+            let count = (6..9).contains(&at) || at > 28;
             let new = if count { r.pick(&[0, 1, 2, 1001, 65_536, u32::MAX]) } else { r.pick(&NUMBERS) };
             x.numbers.iter_mut().skip(at).take(1).for_each(|n| *n = new);
         }
@@ -258,17 +260,20 @@ fn full(r: &mut Random, side: u32, joint: bool, steps: u32) -> Sheet {
         data: [5, 1, 2].map(weight),
         rounding: Some(Rounding::Nearest),
         reorder: None,
+        hold: None,
         channels,
     }
 }
 
-const FAULTS: [&str; 17] = [
+const FAULTS: [&str; 19] = [
     "the other mode",
     "the other start",
     "the lows for both",
     "the highs for both",
     "the second data weight for the first",
     "one step less",
+    "held one step later",
+    "held counts in another order",
     "the lowest bit of the last value",
     "one coefficient more",
     "a number changed by a refusal",
@@ -322,12 +327,13 @@ fn compare(count: u64, seed: u64, fault: &str) -> (Tally, BTreeMap<u32, u64>) {
             Some(Reorder::Each) => ", A m",
             Some(Reorder::Once) => ", A o",
         };
+        let held = if sheet.is_held() { ", held" } else { "" };
         let lines = match (sheet.is_ranged(), sheet.plain()) {
             (false, _) => "",
             (true, Some(_)) => ", G with equal pairs",
             (true, None) => ", G",
         };
-        let plane = solved_as(&mut tally, &mut answers, &format!("{kind}{letter}{lines}"), &sheet, whole, fault);
+        let plane = solved_as(&mut tally, &mut answers, &format!("{kind}{letter}{lines}{held}"), &sheet, whole, fault);
         finished(&mut tally, &mut r, &sheet, plane, fault);
     }
     if fault.is_empty() {
@@ -382,6 +388,11 @@ fn solved_as(
         "the highs for both" => x.lows.clone_from(&x.highs),
         "the second data weight for the first" => x.numbers[12] = x.numbers[13],
         "one step less" => x.numbers[6] = x.numbers[6].saturating_sub(1),
+        "held one step later" => {
+            let most = if x.numbers[5] == 1 { [x.numbers[6]; 3] } else { [6, 7, 8].map(|i| x.numbers[i]) };
+            (0..3).for_each(|c| x.numbers[29 + c] = (x.numbers[29 + c] + 1).min(most[c].max(x.numbers[29 + c])));
+        }
+        "held counts in another order" => x.numbers[29..32].rotate_left(1),
         _ => (),
     }
     x.totals.resize(2 * blends(&x.numbers), 7.0);

@@ -90,6 +90,7 @@ fn sheet(r: &mut Random, ([w, h], steps, joint, smoothing, data, owns): &Form) -
         data: weights(data),
         rounding: None,
         reorder: None,
+        hold: None,
         channels: owns.iter().map(channel).collect(),
     }
 }
@@ -262,6 +263,23 @@ fn ranged(r: &mut Random, sheets: &[Sheet]) -> Vec<Sheet> {
     vec![wider(factors, Reorder::Each), wider(joint, Reorder::Once)]
 }
 
+/// Channels that are held (M-108): one after a step of two, at its start, and all three at different steps; one of three apart.
+fn held(sheets: &[Sheet]) -> Vec<Sheet> {
+    let with = |sheet: &Sheet, counts| Sheet { hold: Some(counts), ..sheet.clone() };
+    let one = sheets.iter().find(|sheet| sheet.channels.len() == 1 && sheet.counts[0] == 2).expect("one of FORMS");
+    let joint =
+        sheets.iter().find(|sheet| sheet.joint && sheet.channels.len() == 3 && sheet.counts[0] == 2 && sheet.w > 8);
+    let joint = joint.expect("one of FORMS");
+    let apart = sheets.iter().find(|sheet| !sheet.joint).expect("one of FORMS");
+    vec![
+        with(one, [1, 2, 2]),
+        with(one, [0, 2, 2]),
+        with(joint, [2, 1, 0]),
+        with(joint, [1, 1, 1]),
+        with(apart, [1, 0, 1]),
+    ]
+}
+
 /// One block, large and small levels and quantisers, and weights at the ends of what is legal.
 fn block(r: &mut Random, i: usize) -> Sheet {
     let most = 2047 >> (i % 11);
@@ -278,6 +296,7 @@ fn block(r: &mut Random, i: usize) -> Sheet {
         data: [r.pick(&WEIGHTS); 3],
         rounding: None,
         reorder: None,
+        hold: None,
         channels: vec![Channel { w: 8, h: 8, across: 1, down: 1, table, levels }],
     }
 }
@@ -291,6 +310,7 @@ fn main() {
     let mut sheets: Vec<Sheet> = fixed.chain(FORMS.iter().map(|form| sheet(&mut r, form))).collect();
     sheets.extend(reordered(&sheets));
     sheets.extend(ranged(&mut r, &sheets));
+    sheets.extend(held(&sheets));
     for (sheet, fill) in sheets.iter().zip(fills.into_iter().cycle()) {
         for (c, run) in runs(sheet).into_iter().enumerate() {
             walk(run, lent(sheet, c, fill), fill, true);

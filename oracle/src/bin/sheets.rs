@@ -54,7 +54,8 @@ fn expected(text: &[u8], limits: Limits) -> Given {
     let sides = [sheet.w, sheet.h, sheet.picture_w, sheet.picture_h, c.len() as u32, u32::from(sheet.joint)];
     let weights = sheet.weights().map(|weight| weight.value().to_bits());
     let owns = c.iter().flat_map(|c| [c.w, c.h, c.across, c.down]).chain([0; 8]).take(12);
-    let settings = [u32::from(sheet.rounds() == Rounding::Nearest), u32::from(sheet.reorders() == Reorder::Once)];
+    let letters = [u32::from(sheet.rounds() == Rounding::Nearest), u32::from(sheet.reorders() == Reorder::Once)];
+    let settings = letters.into_iter().chain(sheet.holds());
     Given::Sheet(
         lent_levels(c),
         c.iter().flat_map(|c| &c.table).map(|quantiser| *quantiser as u16).collect(),
@@ -123,7 +124,7 @@ struct Faults {
     planted: u64,
 }
 
-const FAULTS: [&str; 15] = [
+const FAULTS: [&str; 18] = [
     "another refusal",
     "another line",
     "the last low",
@@ -133,6 +134,9 @@ const FAULTS: [&str; 15] = [
     "the last quantiser",
     "the lowest bit of a weight",
     "the other letter of A",
+    "the last held count",
+    "17 as 2",
+    "17 left out",
     "a sheet refused",
     "another length taken",
     "15 left out",
@@ -179,6 +183,18 @@ impl Faults {
             }
             (Given::Sheet(_, _, header), "the other letter of A") => {
                 header[28] ^= 1;
+                true
+            }
+            (Given::Sheet(_, _, header), "the last held count") => {
+                header[31] ^= 1;
+                true
+            }
+            (Given::Refused(number @ 17, _), "17 as 2") => {
+                *number = 2;
+                true
+            }
+            (Given::Refused(17, _), "17 left out") => {
+                given = Given::Sheet((vec![], vec![]), vec![], vec![]);
                 true
             }
             (Given::Sheet(..), "a sheet refused") => {
@@ -372,6 +388,7 @@ fn bench(rounds: usize) {
         data: weights,
         rounding: None,
         reorder: None,
+        hold: None,
         channels,
     };
     let text = sheet.text();
