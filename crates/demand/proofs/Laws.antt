@@ -69,7 +69,7 @@ table-small (q ∷ qs) t zero = leb→le q 255 (and-r (leb 1 q) (leb q 255) (and
 table-small (q ∷ qs) t (suc i) = table-small qs (and-r (tableOk q) (all tableOk qs) t) i
 
 module _ (G : Given) (ok : GivenOk G) (c : ℕ) (h : c < count G) where
-  covers : Covers (coefOf G c .own) (G .sheet .W) (G .sheet .H)
+  pub covers : Covers (coefOf G c .own) (G .sheet .W) (G .sheet .H)
   unfolding coefOf
   covers = covers-of (G .sheet) (sheet-is (G .sheet) (ok .sheet-ok)) c h
 
@@ -82,7 +82,7 @@ module _ (G : Given) (ok : GivenOk G) (c : ℕ) (h : c < count G) where
       pair-ok (lowAt (coefOf G c .levels) k) (highAt (coefOf G c .levels) k)
       (part-faultless (G .levels) (faultless-of (G .levels) (levelsBefore (G .sheet) (count G)) (ok .levels-long) (ok .levels-ok)) at (at + coefs (G .sheet) c) k)
 
-  legal : Solver.Legal (coefOf G c)
+  pub legal : Solver.Legal (coefOf G c)
   unfolding coefOf
   legal =
       record {

@@ -21,22 +21,26 @@ use Rattle.projection.specs.Projection.{Box, Boxed, clampAt, clampBlock,
 use Rattle.start.proofs.Cover.{blocks-fill}
 use Rattle.projection.proofs.Lengths.{dcts-length}
 
-abbrev clampValue : Levels → List ℕ → ℕ → Float → Float
+abbrev pub clampValue : Levels → List ℕ → ℕ → Float → Float
 clampValue levels table k x = clampTo (lowAt levels k) (highAt levels k) (quantAt table (k % 64)) x
+
+-- all blocks as one loop over their places
+pub clamps-loop : (levels : Levels) (table : List ℕ) (n : ℕ) (x : List Float) → upto (clampBlock levels table) n x ≡ upto (turnAt nan (clampValue levels table)) (n * 64) x
+unfolding clampBlock clampAt
+clamps-loop levels table n x =
+    let v = clampValue levels table in
+    upto-ext (clampBlock levels table) (λ i t. upto (λ j. turnAt nan v (i * 64 + j)) 64 t) n x
+    (λ i t b. upto-ext (clampAt levels table i) (λ j. turnAt nan v (i * 64 + j)) 64 t
+    (λ j s m.
+    ap (λ (q : ℕ). set s (i * 64 + j) (clampTo (lowAt levels (i * 64 + j)) (highAt levels (i * 64 + j)) (quantAt table q) (val s (i * 64 + j))))
+    (sym (column-of i 64 j m))))
+    ∙ upto-nest (turnAt nan v) 64 n x
 
 clamps-at : (C : Coef) (x : List Float) → blockCount (C .own) * 64 ≤ length x → (k : ℕ) → k < blockCount (C .own) * 64
     → val (upto (clampBlock (C .levels) (C .table)) (blockCount (C .own)) x) k ≡ clampValue (C .levels) (C .table) k (val x k)
-unfolding clampBlock clampAt
 clamps-at C x h k l =
-    let v = clampValue (C .levels) (C .table) in
-    ap (λ (s : List Float). val s k)
-    (upto-ext (clampBlock (C .levels) (C .table)) (λ i t. upto (λ j. turnAt nan v (i * 64 + j)) 64 t) (blockCount (C .own)) x
-    (λ i t b. upto-ext (clampAt (C .levels) (C .table) i) (λ j. turnAt nan v (i * 64 + j)) 64 t
-    (λ j s m.
-    ap (λ (q : ℕ). set s (i * 64 + j) (clampTo (lowAt (C .levels) (i * 64 + j)) (highAt (C .levels) (i * 64 + j)) (quantAt (C .table) q) (val s (i * 64 + j))))
-    (sym (column-of i 64 j m))))
-    ∙ upto-nest (turnAt nan v) 64 (blockCount (C .own)) x)
-    ∙ turned-at nan v x (blockCount (C .own) * 64) h k l
+    ap (λ (s : List Float). val s k) (clamps-loop (C .levels) (C .table) (blockCount (C .own)) x)
+    ∙ turned-at nan (clampValue (C .levels) (C .table)) x (blockCount (C .own) * 64) h k l
 
 -- saved of one call of ontoBox, and the coefficients that were clamped
 module _ (C : Coef) (e : Eights (C .own)) (b : Boxed) where
