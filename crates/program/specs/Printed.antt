@@ -49,13 +49,15 @@ totalsLines s totals =
 unfoldable pub clippedLines : ℕ → (ℕ → ℕ) → List ℕ
 clippedLines n f = joinUpto (λ c. clippedText c (f c)) n
 
--- "A blown channel ends the program with 10"; "The line is 0 for 10"; "A sheet that ends with 10 prints no `T` line". Else the lines `T` of all runs, the
--- lines `K` "between the `T` lines and `I`", and the picture.
+-- the lines `T` of all runs, the lines `K` "between the `T` lines and `I`", and the picture
+abbrev pub solvedText : Sheet → Levels → List ℕ → List ℕ
+solvedText s levels tables =
+    totalsLines s (totalsOf s levels tables)
+    ++ (clippedLines (s .header .channels) (clippedAt s levels tables) ++ painted (roundingOf (s .settings .rounding)) (s .header) (planes s levels tables))
+
+-- "A blown channel ends the program with 10"; "The line is 0 for 10"; "A sheet that ends with 10 prints no `T` line"
 unfoldable pub sheetText : Sheet → Levels → List ℕ → List ℕ
-sheetText s levels tables =
-    cond (blows s levels tables) (refusalText 10 0)
-    (totalsLines s (totalsOf s levels tables)
-    ++ (clippedLines (s .header .channels) (clippedAt s levels tables) ++ painted (roundingOf (s .settings .rounding)) (s .header) (planes s levels tables)))
+sheetText s levels tables = cond (blows s levels tables) (refusalText 10 0) (solvedText s levels tables)
 
 -- the levels of what was read, "lows and highs" (M-105)
 abbrev pub levelsOf : Lent → Levels

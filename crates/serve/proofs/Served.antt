@@ -55,7 +55,7 @@ module _ (r : Run) (levels : Levels) (tables : List ℕ) (B : Buffers) where
   abbrev G : Given
   G = givenOf r levels tables
 
-  start-long : length (start jobs G (stateOf r B) .after .places) ≡ length (placesOf r)
+  pub start-long : length (start jobs G (stateOf r B) .after .places) ≡ length (placesOf r)
   unfolding start
   start-long = settle-long G (startRefusal G (placesOf r) (lengths allSix B)) (stateOf r B) (begin jobs G (stateOf r B)) (length-map (placesOf r) (λ p. fresh))
 

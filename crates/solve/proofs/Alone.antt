@@ -291,7 +291,7 @@ module _ (S : Sheet) (levels : Levels) (tables : List ℕ) (L₀ : Loan) (z : Ta
           levels-ok = λ e. own-faultless;
         }
 
-    accepted : startRefusal (aloneGiven S levels tables c) (placesOf (alone S c)) (lengths allSix (channel (areaOf S) c B)) ≡ 0
+    pub accepted : startRefusal (aloneGiven S levels tables c) (placesOf (alone S c)) (lengths allSix (channel (areaOf S) c B)) ≡ 0
     unfolding startRefusal
     accepted =
         let ls : List ℕ = lengths allSix (channel (areaOf S) c B) in
