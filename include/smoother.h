@@ -126,6 +126,10 @@ struct smoother_run {
 uint32_t smoother_run_bytes(void);
 uint32_t smoother_sheet_numbers(void);
 
+/* 1 where the record is legal, with at most 20 iterations, a smoothing weight and data weights of at most 1: then no call on its runs ever answers 255 or
+ * 10, whatever levels, tables and calls follow. Else 0, and nothing is promised. The record is as it was. */
+uint32_t smoother_never_blows(struct smoother_run *run);
+
 /* The buffers. plane, prior, gradient, across, down and saved have count x W x H values each, channel after channel, row by row; lows,
  * highs and tables are those of the run's channels, in their order: w x h lows, w x h highs and 64 quantisers a channel. A level that is known stands
  * in both, at the same place. A call is lent those buffers that it reads or writes, whole. All calls look for 13 first, then 8, then (where levels

@@ -3,7 +3,7 @@
 use Prim.Native.Nat.{ℕ}
 use mathlib.Core.Path.{_≡_}
 use mathlib.Core.Logic.{_≢_}
-use mathlib.Core.Bool.{true, false, cond}
+use mathlib.Core.Bool.{true, false, cond, _&&_}
 use mathlib.Core.List.{List, [], _∷_}
 use lib.Dec.{eqb, leb}
 use lib.Ieee.{Float}
@@ -22,6 +22,8 @@ use Rattle.record.specs.Model.{sheetOf, placesOf, givenOf, answerOf}
 use Rattle.run.specs.Public.{Result, callOf, startOf, forPush, forData, forBlend, forMove, forProject}
 use Rattle.smoother.specs.declared.LentRun.{LentRun}
 use Rattle.smoother.specs.declared.Numbered.{Numbered}
+use Rattle.mild.specs.Mild.{mild}
+use Rattle.mild.specs.Checked.{RunNeverBlows}
 use Rattle.serve.specs.Serve.{byteOf, callList, serveRefusalOf, Served}
 
 -- ---- the record
@@ -56,6 +58,14 @@ pub record GaveLent (x : LentRun) (B : Buffers) (f : Run → Result) (k : ℕ) (
   -- else what the call gives of the record that C's record says
   pub a-letter : leb (x .reorder) 1 ≡ true
       → (k ≡ byteOf (f (runFrom x) .answer)) × (x′ ≡ lentFrom (f (runFrom x) .run)) × (B′ ≡ f (runFrom x) .buffers)
+
+-- ---- M-112: 1 exactly where the letter's number is 0 or 1 and the record that C's record says is legal and mild, else 0; and 1 promises that no list of calls
+-- on its runs ever marks a channel. The record is as it was.
+
+pub record NeverBlowsNumbers (x : LentRun) (k : ℕ) (x′ : LentRun) : Type 0 where
+  pub exactly : k ≡ cond (leb (x .reorder) 1 && (legal (sheetOf (runFrom x)) (placesOf (runFrom x)) && mild (sheetOf (runFrom x)))) 1 0
+  pub promise : k ≡ 1 → RunNeverBlows (runFrom x)
+  pub same : x′ ≡ x
 
 -- ---- the contracts, call by call as in crate `run`: at entry, and with a prime afterwards; what a call only reads has no prime
 

@@ -11,7 +11,7 @@ ghost use lib.ListN.{length};
 ghost use Rattle.start.specs.Coef.{pairs};
 ghost use Rattle.record.specs.Model.{answerOf};
 ghost use Rattle.serve.specs.Serve.{byteOf};
-ghost use Rattle.smoother.specs.Numbers.{reorderFrom, reorderNumber, runFrom, lentFrom, inNumbers, pairIn, roomRefusal, StartNumbers, PushNumbers, DataNumbers, BlendNumbers, MoveNumbers, ProjectNumbers, ServeNumbers};
+ghost use Rattle.smoother.specs.Numbers.{reorderFrom, reorderNumber, runFrom, lentFrom, inNumbers, pairIn, roomRefusal, NeverBlowsNumbers, StartNumbers, PushNumbers, DataNumbers, BlendNumbers, MoveNumbers, ProjectNumbers, ServeNumbers};
 
 // An answer's number. Ruled out: 0 for a project that marks its channel; 255 for a refusal.
 pub fn number_of(a: Answer) -> u32
@@ -157,6 +157,31 @@ pub extern "C" fn smoother_start(
         down,
         saved,
     );
+    *run = p.run;
+    p.answer
+}
+
+// Whether the theorem of crate `mild` speaks of the record: 1 where it is legal, with at most 20 iterations and weights of at most 1; else 0.
+pub fn never_blows_number(run: LentRun) -> Numbered
+    ensures { λ r. ⌜ NeverBlowsNumbers run (r .answer) (r .run) ⌝ }
+{
+    if 1 < run.reorder {
+        return Numbered { answer: 0, run };
+    }
+    let r = run_from(run);
+    if !mild::never_blows(r) {
+        return Numbered { answer: 0, run };
+    }
+    Numbered { answer: 1, run }
+}
+
+// 1 where no call on the record's run ever answers 255 or 10. Ruled out: 1 for 21 iterations or a third data weight of 2; 0 for 20 iterations and weights of
+// exactly 1; a record that is not as it was.
+#[no_mangle]
+pub extern "C" fn smoother_never_blows(run: &mut LentRun) -> u32
+    ensures { λ r. ⌜ NeverBlowsNumbers (now (run .entry)) r (now (run .exit)) ⌝ }
+{
+    let p = never_blows_number(*run);
     *run = p.run;
     p.answer
 }

@@ -48,6 +48,7 @@ exports! {
         saved: *mut f32,
         saved_len: usize,
     ) -> u32;
+    pub fn smoother_never_blows(run: &mut Run) -> u32;
     pub fn smoother_push(
         run: &mut Run,
         c: u32,

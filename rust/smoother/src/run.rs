@@ -79,6 +79,14 @@ impl Run {
         let legal = side(self.w) && side(self.h) && self.count <= 3;
         Buffers::zeros(if legal { (self.count * self.w * self.h) as usize } else { 0 })
     }
+
+    /// Whether the record is legal and has at most 20 steps, and weights of at most 1: then no call on its runs ever says [`Outcome::Blown`] or refuses with
+    /// [`Refusal::Blown`](crate::Refusal::Blown), whatever levels, tables and calls follow.
+    pub fn never_blows(&self) -> bool {
+        let mut run = *self;
+        // SAFETY: the library reads and writes the record, of which this is a copy.
+        unsafe { smoother_never_blows(lent(&mut run)) == 1 }
+    }
 }
 
 /// What an accepted call says.

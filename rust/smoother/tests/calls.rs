@@ -379,6 +379,25 @@ fn huge_data_weight_blows_in_step_1() {
 }
 
 #[test]
+fn ordinary_numbers_never_blow() {
+    let mut run = sheet_of(&whole()).joint_run();
+    (run.n, run.smoothing, run.channels[0].weight) = (20, 1.0, 1.0);
+    assert!(run.never_blows());
+    let edits: [fn(&mut Run); 5] = [
+        |r| r.n = 21,
+        |r| r.smoothing = 1.5,
+        |r| r.channels[0].weight = 1.0 + f32::EPSILON,
+        |r| r.smoothing = f32::NAN,
+        |r| r.count = 2,
+    ];
+    for edit in edits {
+        let mut other = run;
+        edit(&mut other);
+        assert!(!other.never_blows());
+    }
+}
+
+#[test]
 fn calls_and_a_served_list_agree() {
     let sheet = sheet_of(&joint(7, "h3a83126f w0 w1"));
     let (levels, tables) = (sheet.levels(), &sheet.tables);
