@@ -12,7 +12,7 @@ fn cosb_of(low: i16, high: i16, q: u16, cosb: f32) -> f32
     ensures { λ r. ⌜ r ≡ cosbOf (mid low high) q cosb ⌝ }
 {
     let quant = q as f32;
-    float::mul_add(interval::mid(low, high), -quant, cosb) / float::powi2(quant)
+    wide::mul_add(interval::mid(low, high), -quant, cosb) / float::powi2(quant)
 }
 
 // A copy of block i of the saved coefficients, differenced and transformed.
@@ -52,7 +52,7 @@ fn spread(
     for sy in 0..vertical {
         for sx in 0..horizontal {
             let k = start::coef::spot(o, w, h, cy, cx, sy, sx);
-            gradient[k] = float::mul_add(alpha, v, gradient[k]);
+            gradient[k] = wide::mul_add(alpha, v, gradient[k]);
         }
     }
 }

@@ -61,7 +61,7 @@ pub fn bump(
     ensures { λ _. ⌜ now (gradient .exit) ≡ bump alpha v norm (pxIdx (g .w) (g .h) c y x) (now (gradient .entry)) ⌝ }
 {
     let k = px(g, c, y, x);
-    gradient[k] = float::mul_add(alpha, v / norm, gradient[k]);
+    gradient[k] = wide::mul_add(alpha, v / norm, gradient[k]);
 }
 
 // The same, and nothing at an edge. Rules out: a change at an edge, and 0 added there, which turns a −0.

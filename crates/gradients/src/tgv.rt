@@ -50,7 +50,7 @@ fn differences(across: &[f32], down: &[f32], g: Grid, y: usize, x: usize) -> Sec
         let g_yx = grid::difference(x == 0, down, g, c, y, x, y, left);
         g_yys[c] = grid::difference(y == 0, down, g, c, y, x, above, x);
         let g_xy = grid::difference(y == 0, across, g, c, y, x, above, x);
-        g_xy_syms[c] = float::midpoint(g_xy, g_yx);
+        g_xy_syms[c] = wide::midpoint(g_xy, g_yx);
     }
     Second {
         g_xxs,
@@ -59,8 +59,8 @@ fn differences(across: &[f32], down: &[f32], g: Grid, y: usize, x: usize) -> Sec
     }
 }
 
-// What a channel adds to g2_norm.
-fn square_of(g_xx: f32, g_xy_sym: f32, g_yy: f32) -> f32
+// What a channel adds to g2_norm. Rules out: the mixed square taken once, and the squares added in another order.
+pub fn square_of(g_xx: f32, g_xy_sym: f32, g_yy: f32) -> f32
     ensures { λ r. ⌜ r ≡ mulAdd «g_yy» «g_yy» (mulAdd f2 (square «g_xy_sym») (square «g_xx»)) ⌝ }
 {
     float::mul_add_rounded(
@@ -85,11 +85,11 @@ fn g2_norm_of(n: usize, held: [bool; 3], d: Second) -> f32
         }
         g2_norm += square_of(g_xxs[c], g_xy_syms[c], g_yys[c]);
     }
-    float::sqrt(g2_norm)
+    wide::sqrt(g2_norm)
 }
 
-// The derivative at the pixel's own place, before it is divided by g2_norm.
-fn middle(g_xx: f32, g_xy_sym: f32, g_yy: f32) -> f32
+// The derivative at the pixel's own place, before it is divided by g2_norm. Rules out: its sign turned, and the mixed difference taken once.
+pub fn middle(g_xx: f32, g_xy_sym: f32, g_yy: f32) -> f32
     ensures { λ r. ⌜ r ≡ neg (mulAdd f2 «g_yy» (mulAdd f2 «g_xx» (f2 ⊗ «g_xy_sym»))) ⌝ }
 {
     -float::mul_add_rounded(2.0, g_yy, float::mul_add_rounded(2.0, g_xx, 2.0 * g_xy_sym))
@@ -309,8 +309,8 @@ fn tgv_gradient_px(
     float::double::add_product(tv2, alpha, g2_norm)
 }
 
-// alpha /= (nchannel as f32).sqrt(), the same in each pixel.
-fn alpha_of(n: usize, alpha: f32) -> f32
+// alpha /= (nchannel as f32).sqrt(), the same in each pixel. Rules out: alpha undivided, and its product with 1 / √n, which rounds twice.
+pub fn alpha_of(n: usize, alpha: f32) -> f32
     requires { ⌜ n ≤ 3 ⌝ }
     ensures { λ r. ⌜ r ≡ tgvAlpha n alpha ⌝ }
 {

@@ -53,7 +53,7 @@ fn g_norm_of(n: usize, held: [bool; 3], d: Forward) -> f32
         g_norm += float::powi2(g_xs[c]);
         g_norm += float::powi2(g_ys[c]);
     }
-    float::sqrt(g_norm)
+    wide::sqrt(g_norm)
 }
 
 // "compute derivatives" of channel c, whose differences are g_x and g_y: own place, right, below.
@@ -152,8 +152,8 @@ fn tv_gradient_px(
     float::double::mul_add(alpha, g_norm, tv)
 }
 
-// alpha = 1.0 / (nchannel as f32).sqrt(), the same in each pixel.
-fn alpha_of(n: usize) -> f32
+// alpha = 1.0 / (nchannel as f32).sqrt(), the same in each pixel. Rules out: 1.0 / nchannel, and the root of the channels that aren't held.
+pub fn alpha_of(n: usize) -> f32
     requires { ⌜ n ≤ 3 ⌝ }
     ensures { λ r. ⌜ r ≡ tvAlpha n ⌝ }
 {

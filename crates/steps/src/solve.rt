@@ -18,9 +18,9 @@ pub struct Constants {
 fn next_term(term: f32) -> f32
     ensures { λ r. ⌜ r ≡ nextTerm term ⌝ }
 {
-    float::midpoint(
+    wide::midpoint(
         1.0,
-        float::sqrt(float::mul_add_rounded(4.0, float::powi2(term), 1.0)),
+        wide::sqrt(float::mul_add_rounded(4.0, float::powi2(term), 1.0)),
     )
 }
 
@@ -39,7 +39,7 @@ fn term_of(step: u32) -> f32
 pub fn root_of(n: u32) -> f32
     ensures { λ r. ⌜ r ≡ root (float n) ⌝ }
 {
-    float::sqrt(std::num::nearest_u32_to_f32(n))
+    wide::sqrt(std::num::nearest_u32_to_f32(n))
 }
 
 // The constants of a step, from the sheet and the step's number alone. Rules out: a term carried one step too far, and a step size of the own sides.
@@ -49,12 +49,12 @@ pub fn step_constants(w: u32, h: u32, iterations: u32, weight: f32, step: u32) -
 {
     let term = term_of(step);
     let radius = root_of(w * h) / 2.0;
-    let rest = float::sqrt(1.0 + std::num::nearest_u32_to_f32(iterations));
+    let rest = wide::sqrt(1.0 + std::num::nearest_u32_to_f32(iterations));
     Constants {
         term: term,
         factor: (term - 1.0) / next_term(term),
         step_size: radius / rest,
-        second: weight / float::sqrt(2.0),
+        second: weight / wide::sqrt(2.0),
     }
 }
 

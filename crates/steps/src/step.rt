@@ -9,7 +9,7 @@ ghost use Rattle.steps.specs.Step.{dataAlpha, gradientNorm, moved, moved
 pub fn data_alpha(weight: f32) -> f32
     ensures { λ r. ⌜ r ≡ dataAlpha weight ⌝ }
 {
-    weight * 2.0 * 255.0 * float::sqrt(2.0)
+    weight * 2.0 * 255.0 * wide::sqrt(2.0)
 }
 
 // The Euclidean norm of the objective gradient.
@@ -21,7 +21,7 @@ fn gradient_norm(gradient: &[f32]) -> f32
         let x = gradient[i];
         acc = float::mul_add_rounded(x, x, acc);
     }
-    float::sqrt(acc)
+    wide::sqrt(acc)
 }
 
 // Job 4: plane = step_size.mul_add(-(gradient / norm), plane), if the norm isn't 0.
@@ -34,7 +34,7 @@ pub fn move_plane(plane: &mut [f32], gradient: &[f32], k: Constants)
     let norm = gradient_norm(gradient);
     if norm != 0.0 {
         for i in 0..plane.len() {
-            plane[i] = float::mul_add(step_size, -(gradient[i] / norm), plane[i]);
+            plane[i] = wide::mul_add(step_size, -(gradient[i] / norm), plane[i]);
         }
     }
 }
