@@ -1,0 +1,2 @@
+-- Lemmas that the proofs use.
+pub mod Held
