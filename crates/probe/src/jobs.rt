@@ -166,7 +166,7 @@ pub extern "C" fn probe_blend(
         h: h as usize,
         held: none,
     };
-    let t = gradients::blend(plane, gradient, across, down, g, k);
+    let t = blend::blend(plane, gradient, across, down, g, k);
     both[0] = float::double::to_bits(t.tv);
     both[1] = float::double::to_bits(t.tgv);
 }

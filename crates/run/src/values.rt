@@ -115,7 +115,7 @@ pub fn blend_value(
         h: run.h as usize,
         held,
     };
-    let t = gradients::blend(plane, gradient, across, down, g, k);
+    let t = blend::blend(plane, gradient, across, down, g, k);
     let next = record::places::blended(run);
     Answered {
         answer: Answer::Blended {
