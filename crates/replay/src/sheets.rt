@@ -91,7 +91,7 @@ fn read_text(
 ) -> Given {
     match sheet::read(text, limits, lows, highs, tables) {
         Answer::Sheet(s) => {
-            let header = smoother::numbers(s);
+            let header = by_numbers::numbers(s);
             let d = with_header(0, &header);
             let e = with_levels(d, &lows[..]);
             let f = with_levels(e, &highs[..]);

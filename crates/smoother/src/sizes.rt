@@ -1,10 +1,10 @@
 // Sizes that a caller's declarations must have: to be tested where they are declared, or at first use.
-use crate::NUMBERS;
+use by_numbers::NUMBERS;
 ghost use mathlib.Core.Path.{_≡_};
 ghost use lib.ListN.{length};
 ghost use Rattle.contents.specs.declared.Sheet.{Sheet};
 ghost use Rattle.smoother.specs.declared.LentRun.{LentRun};
-ghost use Rattle.smoother.specs.Sheets.{numbersOf};
+ghost use Rattle.by_numbers.specs.Sheets.{numbersOf};
 ghost use Rattle.smoother.specs.Sizes.{runBytes};
 
 // The bytes of the run's record, which each call on a run is lent. Ruled out: 123, of marks of one byte without the three that follow; 60, of one channel for three.

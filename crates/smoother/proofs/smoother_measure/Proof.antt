@@ -1,6 +1,6 @@
 -- `smoother_measure` meets its contract: each case of the answer, as numbers. Assumes nothing.
 use borrow.Author.Needs.{needs}
-use Rattle.smoother.proofs.SheetLaws.{measured-lengths, measured-refused}
+use Rattle.by_numbers.proofs.SheetLaws.{measured-lengths, measured-refused}
 use Rattle.smoother.proofs.smoother_measure.Statement.{statement}
 use Rattle.smoother.proofs.smoother_measure.Tie as tie
 

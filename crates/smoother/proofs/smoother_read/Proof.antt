@@ -4,7 +4,7 @@ use denote.Ref.{now}
 use Rattle.contents.specs.Sheets.{lent}
 use Rattle.sheet.specs.Reading.{readText}
 use Rattle.sheet.specs.Calls.{reading}
-use Rattle.smoother.proofs.SheetLaws.{read-given, read-refused, short, short-refused}
+use Rattle.by_numbers.proofs.SheetLaws.{read-given, read-refused, short, short-refused}
 use Rattle.smoother.proofs.smoother_read.Statement.{statement}
 use Rattle.smoother.proofs.smoother_read.Tie as tie
 

@@ -2,8 +2,8 @@
 use mathlib.Core.Path.{sym, ap}
 use borrow.Author.Needs.{needs}
 use Rattle.picture.specs.Finish.{verdict}
-use Rattle.smoother.specs.Whole.{verdictNumber}
-use Rattle.smoother.proofs.WholeLaws.{no-rounding, finished}
+use Rattle.by_numbers.specs.Whole.{verdictNumber}
+use Rattle.by_numbers.proofs.WholeLaws.{no-rounding, finished}
 use Rattle.smoother.proofs.sheets.smoother_finish.Statement.{statement}
 use Rattle.smoother.proofs.sheets.smoother_finish.Tie as tie
 

@@ -8,7 +8,7 @@ use Rattle.contents.specs.declared.Sheet.{Sheet}
 use Rattle.rounds.specs.Whole.{six, loan}
 use Rattle.solve.specs.Solve.{allLegal}
 use Rattle.solve.proofs.Alone.{legal-few}
-use Rattle.smoother.proofs.WholeLaws.{no-record, no-letters, not-legal, no-room, other, solved}
+use Rattle.by_numbers.proofs.WholeLaws.{no-record, no-letters, not-legal, no-room, other, solved}
 use Rattle.smoother.proofs.sheets.smoother_solve.Statement.{statement}
 use Rattle.smoother.proofs.sheets.smoother_solve.Tie as tie
 

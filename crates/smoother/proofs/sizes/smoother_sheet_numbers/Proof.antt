@@ -1,7 +1,7 @@
 -- `smoother_sheet_numbers`: as many as `numbersOf` lists.
 use mathlib.Core.Path.{refl}
 use borrow.Author.Needs.{needs}
-use Rattle.smoother.specs.Sheets.{numbersOf}
+use Rattle.by_numbers.specs.Sheets.{numbersOf}
 use Rattle.smoother.proofs.sizes.smoother_sheet_numbers.Statement.{statement}
 use Rattle.smoother.proofs.sizes.smoother_sheet_numbers.Tie as tie
 

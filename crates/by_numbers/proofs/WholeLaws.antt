@@ -24,8 +24,8 @@ use Rattle.solve.proofs.Laws.{whole-channels}
 use Rattle.picture.specs.declared.Answer as drawn
 use Rattle.picture.specs.declared.Rounding.{Rounding}
 use Rattle.picture.specs.Finish.{Finished, verdict, finishing}
-use Rattle.smoother.specs.Sheets.{recordCount}
-use Rattle.smoother.specs.Whole.{sheetOfNumbers, lettersOk, sheetRefusal, numbersRefusal, SolveNumbers, verdictNumber, roundingFrom, finishingBy, FinishNumbers}
+use Rattle.by_numbers.specs.Sheets.{recordCount}
+use Rattle.by_numbers.specs.Whole.{sheetOfNumbers, lettersOk, sheetRefusal, numbersRefusal, SolveNumbers, verdictNumber, roundingFrom, finishingBy, FinishNumbers}
 
 -- an answer that is not done has left the numbers free
 not-done-ends : (n : ℕ) (w : Whole) (L : Loan) (a : Calls.Answer) (k k′ : ℕ → ℕ) (L′ : Loan) → byteOf a ≢ 0 → Ends n w L a k L′ → Ends n w L a k′ L′

@@ -1,7 +1,7 @@
 -- `choice_number` meets its contract, letter by letter.
 use borrow.Author.Needs.{needs}
-use Rattle.smoother.proofs.choice_number.Statement.{statement}
-use Rattle.smoother.proofs.choice_number.Tie as tie
+use Rattle.by_numbers.proofs.choice_number.Statement.{statement}
+use Rattle.by_numbers.proofs.choice_number.Tie as tie
 
 enum-told : tie.Need-enum-told
 enum-told c = search needs

@@ -21,7 +21,7 @@ use Rattle.calls.specs.Calls.{Answer, lengths, allSix}
 use Rattle.serve.specs.Serve.{byteOf}
 use Rattle.rounds.specs.Whole.{Loan, Ends}
 use Rattle.solve.specs.Solve.{allLegal, solveRefusal, wholeOf, numberIn}
-use Rattle.smoother.specs.Sheets.{recordCount}
+use Rattle.by_numbers.specs.Sheets.{recordCount}
 use Rattle.picture.specs.declared.Rounding.{Rounding}
 use Rattle.picture.specs.declared.Rounding.the-variants as rounding
 use Rattle.picture.specs.Finish.{Verdict, done, refused, Finished, finishing}

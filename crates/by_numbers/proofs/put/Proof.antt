@@ -7,9 +7,9 @@ use Rattle.fold.specs.Fold.{upto}
 use Rattle.fold.proofs.Loops.{upto-step, upto-end}
 use Rattle.fold.proofs.Stores.{storeAt, stored}
 use borrow.Author.Needs.{needs}
-use Rattle.smoother.specs.Sheets.{recordCount}
-use Rattle.smoother.proofs.put.Statement.{statement}
-use Rattle.smoother.proofs.put.Tie as tie
+use Rattle.by_numbers.specs.Sheets.{recordCount}
+use Rattle.by_numbers.proofs.put.Statement.{statement}
+use Rattle.by_numbers.proofs.put.Tie as tie
 
 abbrev Inv-loop : tie.InvT-loop
 Inv-loop to₀ from k₀ k-end to k = (k ≤ k-end) × (length to₀ ≡ recordCount) × (length to ≡ length to₀) × (length from ≡ recordCount) × (to ≡ upto (storeAt 0 (λ (i : ℕ). getD from i 0)) k to₀)

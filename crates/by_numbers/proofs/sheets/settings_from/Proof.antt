@@ -1,7 +1,7 @@
 -- `settings_from` meets its contract.
 use borrow.Author.Needs.{needs}
-use Rattle.smoother.proofs.sheets.settings_from.Statement.{statement}
-use Rattle.smoother.proofs.sheets.settings_from.Tie as tie
+use Rattle.by_numbers.proofs.sheets.settings_from.Statement.{statement}
+use Rattle.by_numbers.proofs.sheets.settings_from.Tie as tie
 
 returns : tie.Need-returns
 returns c = rw (c .before .before .before .before .before .choice-from .ensures, c .before .before .before .choice-from2 .ensures)

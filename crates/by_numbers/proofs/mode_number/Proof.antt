@@ -1,5 +1,5 @@
-use Rattle.smoother.proofs.mode_number.Statement.{statement}
-use Rattle.smoother.proofs.mode_number.Tie as tie
+use Rattle.by_numbers.proofs.mode_number.Statement.{statement}
+use Rattle.by_numbers.proofs.mode_number.Tie as tie
 
 returns : tie.Need-returns
 returns c = rw (c .if1 .taken)

@@ -1,8 +1,8 @@
 -- `numbers`: each number at its place.
 use borrow.Author.Needs.{needs}
-use Rattle.smoother.specs.Sheets.{numbersOf}
-use Rattle.smoother.proofs.numbers.Statement.{statement}
-use Rattle.smoother.proofs.numbers.Tie as tie
+use Rattle.by_numbers.specs.Sheets.{numbersOf}
+use Rattle.by_numbers.proofs.numbers.Statement.{statement}
+use Rattle.by_numbers.proofs.numbers.Tie as tie
 
 returns : tie.Need-returns
 unfolding numbersOf

@@ -1,8 +1,8 @@
 -- `sheet_of`: the header and each channel from its place.
 use borrow.Author.Needs.{needs}
-use Rattle.smoother.specs.Whole.{sheetOfNumbers}
-use Rattle.smoother.proofs.sheets.sheet_of.Statement.{statement}
-use Rattle.smoother.proofs.sheets.sheet_of.Tie as tie
+use Rattle.by_numbers.specs.Whole.{sheetOfNumbers}
+use Rattle.by_numbers.proofs.sheets.sheet_of.Statement.{statement}
+use Rattle.by_numbers.proofs.sheets.sheet_of.Tie as tie
 
 returns : tie.Need-returns
 unfolding sheetOfNumbers

@@ -1,7 +1,7 @@
 -- `choice_from` meets its contract.
 use borrow.Author.Tests.{eq-eqb, ne-eqb}
-use Rattle.smoother.proofs.sheets.choice_from.Statement.{statement}
-use Rattle.smoother.proofs.sheets.choice_from.Tie as tie
+use Rattle.by_numbers.proofs.sheets.choice_from.Statement.{statement}
+use Rattle.by_numbers.proofs.sheets.choice_from.Tie as tie
 
 returns : tie.Need-returns
 returns c = rw (eq-eqb _ _ (c .if1 .taken))

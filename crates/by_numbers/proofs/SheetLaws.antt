@@ -15,7 +15,7 @@ use Rattle.contents.specs.Sheets.{Lent}
 use Rattle.sheet.specs.Reading.{Outcome, Contents, readText}
 use Rattle.sheet.specs.Reading.Outcome.{Gives, Refused}
 use Rattle.sheet.specs.Calls.{Lengths, measuredSays, answerSays, sheetIn, lengthsOf, measuring, fits, fitted, reading, lentAfter}
-use Rattle.smoother.specs.Sheets.{Measures, ReadsNumbers, numbersOf, recordCount, withRecord}
+use Rattle.by_numbers.specs.Sheets.{Measures, ReadsNumbers, numbersOf, recordCount, withRecord}
 
 pub measured-lengths : (o : Outcome Lengths) (r : Measured) (n m n₀ m₀ : ℕ) → measuredSays r ≡ o → r ≡ measured.Lengths n m → Measures o n₀ n m₀ m 0 0
 measured-lengths o r n m n₀ m₀ e p =

@@ -31,8 +31,8 @@ use Rattle.rounds.specs.Whole.{jobCount, runBlows, runTotals, Whole, last, runO
 use Rattle.solve.specs.Solve.{reorderOf, joint, alone, iterationsAt, stepsBefore, blendCount, tablesFor, separately, wholeOf, isLegal, allLegal, solveRefusal, numberIn}
 use Rattle.contents.specs.Hold.{holdAt}
 use Rattle.solve.proofs.Held.{three-held}
-use Rattle.smoother.specs.Sheets.{choiceNumber, numbersOf, weightBits}
-use Rattle.smoother.specs.Whole.{choiceFrom, sheetOfNumbers, sheetRefusal, numbersRefusal, SolveNumbers}
+use Rattle.by_numbers.specs.Sheets.{choiceNumber, numbersOf, weightBits}
+use Rattle.by_numbers.specs.Whole.{choiceFrom, sheetOfNumbers, sheetRefusal, numbersRefusal, SolveNumbers}
 
 value-fits : (w : Weight) → T (fits binary32 (valueOf w))
 unfolding valueOf

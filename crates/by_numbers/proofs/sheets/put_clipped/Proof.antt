@@ -9,8 +9,8 @@ use Rattle.fold.specs.Fold.{upto}
 use Rattle.fold.proofs.Loops.{upto-step, upto-end}
 use Rattle.fold.proofs.Stores.{storeAt, stored}
 use borrow.Author.Needs.{needs}
-use Rattle.smoother.proofs.sheets.put_clipped.Statement.{statement}
-use Rattle.smoother.proofs.sheets.put_clipped.Tie as tie
+use Rattle.by_numbers.proofs.sheets.put_clipped.Statement.{statement}
+use Rattle.by_numbers.proofs.sheets.put_clipped.Tie as tie
 
 abbrev Inv-loop : tie.InvT-loop
 Inv-loop to₀ from k₀ k-end to k = (k ≤ k-end) × (length to₀ ≤ 3) × (length to ≡ length to₀) × (length from ≡ 3) × (to ≡ upto (storeAt 0 (λ (i : ℕ). getD from i 0)) k to₀)

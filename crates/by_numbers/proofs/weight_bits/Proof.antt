@@ -1,8 +1,8 @@
 use mathlib.Core.Path.{ap, _∙_}
 use lib.Ieee.{binary32, toBits}
 use borrow.Author.Needs.{needs}
-use Rattle.smoother.proofs.weight_bits.Statement.{statement}
-use Rattle.smoother.proofs.weight_bits.Tie as tie
+use Rattle.by_numbers.proofs.weight_bits.Statement.{statement}
+use Rattle.by_numbers.proofs.weight_bits.Tie as tie
 
 returns : tie.Need-returns
 returns c = c .to-bits .ensures ∙ ap (toBits binary32) (c .before .weight-value .ensures)
