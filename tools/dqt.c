@@ -1,11 +1,11 @@
 /* sheet dqt: the tables of a JPEG file's DQT segments, and a sheet's tables as such a segment. */
-#include "commands.h"
-#include "sheet.h"
+#include "dqt.h"
 
-#include <stdio.h>
+#include "commands.h"
+
 #include <string.h>
 
-enum { DQT = 0xDB, SCAN = 0xDA, DESTINATIONS = 4 };
+enum { DQT = 0xDB, SCAN = 0xDA };
 
 /* Which destinations a segment that was imported names. */
 static void note_named(const uint8_t *segment, size_t len, bool named[DESTINATIONS])
@@ -69,20 +69,25 @@ static enum status print_tables(const uint16_t *tables, const bool named[DESTINA
     return status;
 }
 
+enum status dqt_tables(const char *name, const struct bytes *file, uint16_t tables[SMOOTHER_QUANTISERS], bool named[DESTINATIONS])
+{
+    bool whole = file->len >= 2 && file->at[0] == 0xFF && file->at[1] == 0xD8;
+    enum status status = whole ? import_file(name, file, tables, named) : import_one(name, file->at, file->len, tables, named);
+    if (status == DONE && !named[0] && !named[1] && !named[2] && !named[3]) {
+        say("%s: no quantisation table before the first scan", name);
+        status = REFUSED;
+    }
+    return status;
+}
+
 static enum status import(const char *name)
 {
     struct bytes file = {0};
     uint16_t tables[SMOOTHER_QUANTISERS] = {0};
     bool named[DESTINATIONS] = {false};
     enum status status = file_read(name, &file);
-    if (status == DONE) {
-        bool whole = file.len >= 2 && file.at[0] == 0xFF && file.at[1] == 0xD8;
-        status = whole ? import_file(name, &file, tables, named) : import_one(name, file.at, file.len, tables, named);
-    }
-    if (status == DONE && !named[0] && !named[1] && !named[2] && !named[3]) {
-        say("%s: no quantisation table before the first scan", name);
-        status = REFUSED;
-    }
+    if (status == DONE)
+        status = dqt_tables(name, &file, tables, named);
     if (status == DONE)
         status = print_tables(tables, named);
     drop(&file);

@@ -1,5 +1,6 @@
-/* damage COUNT SEED FILE.jpg ..: damages the files in memory COUNT times, cut short or with bits, bytes or runs changed, and asks for the sheet of each. Built with
- * AddressSanitizer. jpeg_sheet itself holds every text that it hands on against the library's reader; TROUBLE means that one was refused. */
+/* damage COUNT SEED FILE.jpg ..: damages the files in memory COUNT times, cut short or with bits, bytes or runs changed, and asks for the sheet and for the tables of
+ * each. Built with AddressSanitizer. jpeg_sheet itself holds every text that it hands on against the library's reader; TROUBLE means that one was refused. */
+#include "dqt.h"
 #include "jpeg.h"
 
 #include <stdio.h>
@@ -34,7 +35,7 @@ static void damage(struct bytes *b)
 
 int main(int argc, char **argv)
 {
-    size_t counts[3] = {0}, total = argc > 3 ? strtoul(argv[1], NULL, 10) : 0;
+    size_t counts[3] = {0}, with_tables = 0, total = argc > 3 ? strtoul(argv[1], NULL, 10) : 0;
     if (total == 0)
         return TROUBLE;
     program = "damage";
@@ -54,7 +55,9 @@ int main(int argc, char **argv)
         uint8_t *exact = malloc(copy.len ? copy.len : 1); /* no byte past its end, for AddressSanitizer */
         memcpy(exact, copy.at, copy.len);
         enum status status = jpeg_sheet(&(struct bytes){exact, copy.len, copy.len}, &wishes, &text, why, sizeof why);
+        uint16_t tables[SMOOTHER_QUANTISERS] = {0};
         counts[status]++;
+        with_tables += dqt_tables("", &(struct bytes){exact, copy.len, copy.len}, tables, (bool[DESTINATIONS]){false}) == DONE;
         if (status == TROUBLE || (status == REFUSED && (!*why || strchr(why, '\n'))))
             printf("file %zu: %s\n", i, why);
         free(exact);
@@ -64,6 +67,7 @@ int main(int argc, char **argv)
     for (size_t i = 0; i < n; i++)
         drop(&files[i]);
     free(files);
-    printf("%zu damaged files: %zu became sheets, %zu were refused, %zu at fault\n", total, counts[DONE], counts[REFUSED], counts[TROUBLE]);
+    printf("%zu damaged files: %zu became sheets, %zu were refused, %zu at fault; tables were found in %zu\n", total, counts[DONE], counts[REFUSED], counts[TROUBLE],
+           with_tables);
     return counts[TROUBLE] > 0;
 }

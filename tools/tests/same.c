@@ -42,8 +42,10 @@ int main(int argc, char **argv)
     unsigned char *a = argc > 1 ? png_rows(argv[1], &wide[0], &high[0]) : NULL;
     if (!a)
         return 2;
-    if (argc == 2)
+    if (argc == 2) {
+        free(a);
         return 0;
+    }
     unsigned char *b = pnm_rows(argv[2], &wide[1], &high[1]);
     if (argc < 5 || !b || wide[0] != wide[1] || high[0] != high[1])
         return 2;
@@ -55,6 +57,8 @@ int main(int argc, char **argv)
         sum += d;
         most = d > most ? d : most;
     }
+    free(a);
+    free(b);
     printf("%d %.4f\n", most, sum / (double)n);
     return !(most <= atoi(argv[3]) && sum / (double)n <= atof(argv[4]));
 }

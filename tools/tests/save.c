@@ -67,5 +67,8 @@ int main(int argc, char **argv)
     fill(at, 7);
     bool mended = file_save(name, at, SIZE) == DONE && access(part, F_OK) != 0;
     printf("killed %d times, %d of them in mid-write; broken files: %d; saved afterwards and nothing left beside: %s\n", rounds, midway, broken, mended ? "yes" : "no");
+    free(name);
+    free(part);
+    free(at);
     return broken > 0 || midway == 0 || !mended;
 }

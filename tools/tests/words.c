@@ -92,6 +92,9 @@ int main(int argc, char **argv)
         }
         drop(&text);
     }
+    for (size_t i = 0; i < n; i++)
+        drop(&files[i]);
+    free(files);
     printf("%zu damaged texts, words of another number for %zu;", total, wrong);
     for (int k = 0; k < 32; k++)
         if (counts[k])
