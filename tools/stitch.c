@@ -32,14 +32,15 @@ enum status stitch_command(int argc, char **argv)
     struct bytes left = {0}, right = {0};
     uint8_t *out = NULL;
     size_t len = 0, line = 0;
+    uint32_t which = 0; /* the text at fault, 1 or 2; the words are found by reading it */
     enum status status = file_read(argv[0], &left);
     if (status == DONE)
         status = file_read(argv[1], &right);
     if (status == DONE) {
-        uint32_t answer = smoother_stitch_measure(left.at, left.len, right.at, right.len, &len, &line);
+        uint32_t answer = smoother_stitch_measure(left.at, left.len, right.at, right.len, &len, &which, &line);
         if (answer == SMOOTHER_OK) {
             out = space(len, 1);
-            answer = smoother_stitch(left.at, left.len, right.at, right.len, out, len, &line);
+            answer = smoother_stitch(left.at, left.len, right.at, right.len, out, len, &which, &line);
         }
         status = answer == SMOOTHER_OK ? file_save(argv[2], out, len) : stitch_refusal(argv[0], argv[1], &left, &right, answer);
     }

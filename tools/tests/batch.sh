@@ -24,7 +24,7 @@ same() { # FOLDER: its pictures and its summary, seconds aside, are those of the
     for picture in whole/*.png; do
         cmp "$picture" "$1/${picture#whole/}"
     done
-    [ "$(ls "$1" | grep -c 'png$')" = "$(ls whole | grep -c 'png$')" ]
+    [ "$(find "$1" -name '*.png' | wc -l)" = "$(find whole -name '*.png' | wc -l)" ]
     [ -z "$(find "$1" -name '.*.part')" ]
 }
 rows() { find "$1" -name '*.row' 2>/dev/null | wc -l; }

@@ -8,4 +8,4 @@ for kind in '-grayscale' '-sample 1x1' '-sample 2x1' '-sample 2x2' '-sample 4x1,
         jpeg $((9 + 3 * n)) $((60 - 2 * n)) $n $n.jpg -quality $((95 - 3 * n)) $kind $coding
     done
 done
-test-damage 10000 1 *.jpg 2>said || { tail -n 40 said; exit 1; }
+test-damage 10000 1 ./*.jpg 2>said || { tail -n 40 said; exit 1; }

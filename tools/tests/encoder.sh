@@ -25,7 +25,7 @@ check() { # WIDTH HEIGHT SAMPLING
     djpeg -dct float -nosmooth -pnm -outfile a.pnm a.jpg
     most=4 mean=1
     # with coarse tables values leave 0 to 255; djpeg clamps them before the colours are converted, a sheet's picture afterwards
-    [ $quality -ge 50 ] || { most=255 mean=4; }
+    [ "$quality" -ge 50 ] || { most=255 mean=4; }
     test-same a.png a.pnm $most $mean >difference || { echo "$1 x $2, $3, quality $quality$coding: differs by $(cat difference)"; exit 1; }
     sheet dqt a.jpg >tables
     awk -v FS='\t' 'NR == FNR { q[$2] = $0; sub(/^Q\t.\t/, "", q[$2]); next } /^C/ { c = n++; line = $0; sub(/^C\t[0-9]*\t[0-9]*\t.\t.\t/, "", line); if (line != q[c ? 1 : 0]) bad = 1 }
