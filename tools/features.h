@@ -2,7 +2,7 @@
 #ifndef TOOLS_FEATURES_H
 #define TOOLS_FEATURES_H
 
-#define HAVE_HOLD 0    /* M-108: line H, three held counts among a sheet's numbers, refusal 17 */
+#define HAVE_HOLD 1    /* M-108: line H, three held counts among a sheet's numbers, refusal 17 */
 #define HAVE_PARTNER 0 /* M-110: lines N, the reader as a parameter of smoother_read, refusal 18 */
 #define HAVE_STITCH 0  /* M-107: smoother_stitch_measure and smoother_stitch, refusal 16 */
 
