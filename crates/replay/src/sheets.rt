@@ -1,6 +1,7 @@
-// The reading of a sheet text: `read`, the limits of sides and of iterations, the refusal's number and line, a digest of what was read (the record's numbers, lows, highs,
+// The reading of a sheet text as staff: `read`, the limits of sides and of iterations, the refusal's number and line, a digest of what was read (the record's numbers, lows, highs,
 // tables), and the text's bytes.
 use contents::Limits;
+use contents::Reader;
 use float::bits::to_bits;
 use interval::whole;
 use sheet::Answer;
@@ -89,7 +90,7 @@ fn read_text(
     highs: &mut [i16],
     tables: &mut [u16],
 ) -> Given {
-    match sheet::read(text, limits, lows, highs, tables) {
+    match sheet::read(text, limits, Reader::Staff, lows, highs, tables) {
         Answer::Sheet(s) => {
             let header = by_numbers::numbers(s);
             let d = with_header(0, &header);

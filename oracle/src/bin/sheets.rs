@@ -10,7 +10,9 @@ use oracle::{
     bench::best,
     probe,
     random::Random,
-    sheet::{Channel, Limits, MOST, Refusal, Reorder, Rounding, SMOOTH, Sheet, Weight, joined, lent_levels, read},
+    sheet::{
+        Channel, Limits, MOST, Reader, Refusal, Reorder, Rounding, SMOOTH, Sheet, Weight, joined, lent_levels, read,
+    },
     tally::Tally,
     texts,
 };
@@ -38,6 +40,10 @@ fn main() -> ExitCode {
     ExitCode::SUCCESS
 }
 
+const READERS: [Reader; 2] = [Reader::Staff, Reader::Partner];
+const STAFF: u32 = 0;
+const PARTNER: u32 = 1;
+
 /// What a reader gives: the refusal, or lows and highs, tables and the record's numbers.
 #[derive(Debug, PartialEq)]
 enum Given {
@@ -45,10 +51,14 @@ enum Given {
     Sheet((Vec<i16>, Vec<i16>), Vec<u16>, Vec<u32>),
 }
 
-fn expected(text: &[u8], limits: Limits) -> Given {
+/// By the reader's number: one that is neither 0 nor 1 is 2 at line 0, as a limit that is none.
+fn expected(text: &[u8], limits: Limits, reader: u32) -> Given {
+    let Some(reader) = READERS.into_iter().find(|known| *known as u32 == reader) else {
+        return Given::Refused(2, 0);
+    };
     let sheet = match read(text, limits) {
         Err((number, line)) => return Given::Refused(number, line),
-        Ok(sheet) => sheet,
+        Ok(sheet) => sheet.seen_by(reader),
     };
     let c = &sheet.channels;
     let sides = [sheet.w, sheet.h, sheet.picture_w, sheet.picture_h, c.len() as u32, u32::from(sheet.joint)];
@@ -65,7 +75,7 @@ fn expected(text: &[u8], limits: Limits) -> Given {
 
 /// The proved reader: measuring, then reading into buffers of `spare` more values than it asks for. Buffers start as 7s, and a
 /// refusal must leave them so.
-fn proved(text: &[u8], limits: Limits, spare: (usize, usize, usize, usize)) -> Given {
+fn proved(text: &[u8], limits: Limits, reader: u32, spare: (usize, usize, usize, usize)) -> Given {
     let (mut n, mut m, mut line) = (7, 7, 7);
     let measured = probe::measure(text, limits, &mut n, &mut m, &mut line);
     let measured_line = line;
@@ -75,12 +85,12 @@ fn proved(text: &[u8], limits: Limits, spare: (usize, usize, usize, usize)) -> G
     let [mut lows, mut highs] = [spare.0, spare.1].map(|more| vec![7i16; n + more]);
     let mut tables = vec![7u16; m + spare.2];
     let mut header = vec![7u32; probe::NUMBERS + spare.3];
-    let number = probe::read(text, limits, &mut lows, &mut highs, &mut tables, &mut header, &mut line);
+    let number = probe::read(text, limits, reader, &mut lows, &mut highs, &mut tables, &mut header, &mut line);
     if number == 0 {
         assert_eq!((measured, line), (0, 0), "measuring accepts what reading accepts");
         return Given::Sheet((lows, highs), tables, header);
     }
-    if measured != 0 {
+    if measured != 0 && reader <= PARTNER {
         assert_eq!((measured, measured_line), (number, line), "measuring refuses as reading does");
     }
     let untouched =
@@ -100,7 +110,7 @@ fn list(count: u64, seed: u64) {
     let pages =
         texts::pages(seed, 8 * count, 32).into_iter().filter(|(_, text)| text.len() < 1000).take(count as usize);
     for (iterations, text) in wide.chain(paged).chain(pages) {
-        let (number, line, digest) = match expected(&text, Limits { iterations, ..SMOOTH }) {
+        let (number, line, digest) = match expected(&text, Limits { iterations, ..SMOOTH }, STAFF) {
             Given::Refused(number, line) => (number, line, 0),
             Given::Sheet(levels, tables, header) => (0, 0, digest(&levels, &tables, &header)),
         };
@@ -124,7 +134,7 @@ struct Faults {
     planted: u64,
 }
 
-const FAULTS: [&str; 18] = [
+const FAULTS: [&str; 22] = [
     "another refusal",
     "another line",
     "the last low",
@@ -137,6 +147,10 @@ const FAULTS: [&str; 18] = [
     "the last held count",
     "17 as 2",
     "17 left out",
+    "18 as 12",
+    "18 left out",
+    "the staff's levels for a partner",
+    "a hidden level let through",
     "a sheet refused",
     "another length taken",
     "15 left out",
@@ -193,6 +207,14 @@ impl Faults {
                 *number = 2;
                 true
             }
+            (Given::Refused(number @ 18, _), "18 as 12") => {
+                *number = 12;
+                true
+            }
+            (Given::Refused(18, _), "18 left out") => {
+                given = Given::Sheet((vec![], vec![]), vec![], vec![]);
+                true
+            }
             (Given::Refused(17, _), "17 left out") => {
                 given = Given::Sheet((vec![], vec![]), vec![], vec![]);
                 true
@@ -245,12 +267,13 @@ fn compare(count: u64, seed: u64, faults: &mut Faults) -> Tally {
     for limits in [SMOOTH, MOST] {
         for (kind, text) in texts::all(seed, count, limits.side, 1000) {
             tally.start(&format!("{kind}, limit {}", limits.side));
-            let rust = expected(&text, limits);
-            let answer = faults.plant(proved(&text, limits, (0, 0, 0, 0)));
+            let rust = expected(&text, limits, STAFF);
+            let answer = faults.plant(proved(&text, limits, STAFF, (0, 0, 0, 0)));
             tally.count(rust == answer, || String::from_utf8_lossy(&text).into_owned());
+            partner(&text, limits, faults, &mut tally);
             for spare in [(1, 0, 0, 0), (0, 1, 0, 0), (0, 0, 1, 0), (0, 0, 0, 1)] {
                 if let Given::Sheet(..) = rust {
-                    let answer = faults.plant(proved(&text, limits, spare));
+                    let answer = faults.plant(proved(&text, limits, STAFF, spare));
                     tally.count(answer == Given::Refused(8, 0), || format!("a buffer too long: {spare:?}"));
                 }
             }
@@ -258,20 +281,52 @@ fn compare(count: u64, seed: u64, faults: &mut Faults) -> Tally {
     }
     tally.kind("limits that are no side");
     for side in [0, 1, 4, 7, 9, 31, 33, 513, 520, 1024, u32::MAX] {
-        let answer = faults.plant(proved(&texts::example(), Limits { side, ..MOST }, (0, 0, 0, 0)));
+        let answer = faults.plant(proved(&texts::example(), Limits { side, ..MOST }, STAFF, (0, 0, 0, 0)));
         tally.count(answer == Given::Refused(2, 0), || format!("{side}: {answer:?}"));
     }
     tally.kind("fixed texts, answers as written down");
     for (name, text, refusal) in texts::fixed() {
-        let answer = proved(&text, SMOOTH, (0, 0, 0, 0));
+        let answer = proved(&text, SMOOTH, STAFF, (0, 0, 0, 0));
         let right = match refusal {
             Some((number, line)) => answer == Given::Refused(number, line),
             None => matches!(answer, Given::Sheet(..)),
         };
         tally.count(right, || format!("{name}: {answer:?}"));
     }
+    tally.kind("readers that are none");
+    for reader in [2, 3, 112, 255, 256, 65_537, u32::MAX] {
+        for text in [texts::example(), b"x".to_vec()] {
+            let answer = proved(&text, SMOOTH, reader, (0, 0, 0, 0));
+            tally.count(answer == expected(&text, SMOOTH, reader), || format!("{reader}: {answer:?}"));
+        }
+    }
     compare_pages(count, seed, faults, &mut tally);
     tally
+}
+
+/// What a partner gets of a text (M-110), and of the same text with other hidden levels: one and the same; a refused text is refused as for the staff.
+fn partner(text: &[u8], limits: Limits, faults: &mut Faults, tally: &mut Tally) {
+    let mut answer = proved(text, limits, PARTNER, (0, 0, 0, 0));
+    if faults.kind == "the staff's levels for a partner" {
+        let staff = proved(text, limits, STAFF, (0, 0, 0, 0));
+        faults.planted += u64::from(staff != answer);
+        answer = staff;
+    }
+    let due = expected(text, limits, PARTNER);
+    tally.count_in("by the partner", due == answer, || String::from_utf8_lossy(text).into_owned());
+    if let Some(sheet) = read(text, limits).ok().filter(|sheet| !sheet.marks.is_empty()) {
+        let other = texts::hidden(&mut Random::new(text.len() as u64), &sheet).text();
+        let mut answer = proved(&other, limits, PARTNER, (0, 0, 0, 0));
+        if faults.kind == "a hidden level let through" {
+            if let Given::Sheet((_, highs), ..) = &mut answer {
+                let hidden = highs.iter_mut().last().expect("a level");
+                *hidden = if *hidden == 2047 { 2046 } else { *hidden + 1 };
+                faults.planted += 1;
+            }
+        }
+        let shown = || String::from_utf8_lossy(&other).into_owned();
+        tally.count_in("other hidden levels, by the partner", due == answer, shown);
+    }
 }
 
 /// M-106: fixed texts at their limits of iterations, each fixed text at each limit where something changes, and at each side limit half of `count` texts at a
@@ -279,8 +334,8 @@ fn compare(count: u64, seed: u64, faults: &mut Faults) -> Tally {
 fn compare_pages(count: u64, seed: u64, faults: &mut Faults, tally: &mut Tally) {
     let mut met = BTreeMap::<u32, u64>::new();
     let mut one = |tally: &mut Tally, kind: &str, text: &[u8], limits: Limits, due: Given| {
-        let wide = || proved(text, Limits { iterations: 1000, ..limits }, (0, 0, 0, 0));
-        let answer = faults.plant_page(proved(text, limits, (0, 0, 0, 0)), wide);
+        let wide = || proved(text, Limits { iterations: 1000, ..limits }, STAFF, (0, 0, 0, 0));
+        let answer = faults.plant_page(proved(text, limits, STAFF, (0, 0, 0, 0)), wide);
         *met.entry(if let Given::Refused(number, _) = due { number } else { 0 }).or_default() += 1;
         tally.count_in(kind, answer == due, || format!("{limits:?}: {}", String::from_utf8_lossy(text)));
     };
@@ -288,7 +343,7 @@ fn compare_pages(count: u64, seed: u64, faults: &mut Faults, tally: &mut Tally) 
         let limits = Limits { iterations, ..SMOOTH };
         let due = match refusal {
             Some((number, line)) => Given::Refused(number, line),
-            None => expected(&text, limits),
+            None => expected(&text, limits, STAFF),
         };
         one(tally, "pages, answers as written down", &text, limits, due);
     }
@@ -302,13 +357,13 @@ fn compare_pages(count: u64, seed: u64, faults: &mut Faults, tally: &mut Tally) 
     for iterations in texts::LIMITS {
         for text in &fixed {
             let limits = Limits { iterations, ..SMOOTH };
-            one(tally, &named(iterations), text, limits, expected(text, limits));
+            one(tally, &named(iterations), text, limits, expected(text, limits, STAFF));
         }
     }
     for side in [32, 512] {
         for (iterations, text) in texts::pages(seed, count / 2, side) {
             let limits = Limits { side, iterations };
-            one(tally, &named(iterations), &text, limits, expected(&text, limits));
+            one(tally, &named(iterations), &text, limits, expected(&text, limits, STAFF));
         }
     }
     if faults.kind.is_empty() {
@@ -389,6 +444,7 @@ fn bench(rounds: usize) {
         rounding: None,
         reorder: None,
         hold: None,
+        marks: vec![],
         channels,
     };
     let text = sheet.text();
@@ -398,6 +454,7 @@ fn bench(rounds: usize) {
     println!("{} bytes read in {} by the oracle", text.len(), each(time));
     let ([mut lows, mut highs], mut tables) = ([0; 2].map(|_| vec![0i16; 3 * 512 * 512]), vec![0u16; 192]);
     let (mut header, mut line) = ([0u32; probe::NUMBERS], 0);
-    let time = best(rounds, 1, || probe::read(&text, MOST, &mut lows, &mut highs, &mut tables, &mut header, &mut line));
+    let time =
+        best(rounds, 1, || probe::read(&text, MOST, STAFF, &mut lows, &mut highs, &mut tables, &mut header, &mut line));
     println!("{} by the proved reader", each(time));
 }
