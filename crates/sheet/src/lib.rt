@@ -1,7 +1,7 @@
 // The sheet text: how long its buffers are, and what it says.
 mod line;
 mod state;
-mod walk;
+pub mod walk;
 
 use crate::walk::Walked;
 use contents::Limits;
