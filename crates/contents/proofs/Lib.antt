@@ -1,3 +1,4 @@
 -- Laws of the definitions.
 pub mod ValueLaws
 pub mod HoldLaws
+pub mod MarkLaws

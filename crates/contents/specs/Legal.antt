@@ -4,7 +4,7 @@ use mathlib.Core.Path.{_≡_}
 use lib.IntN.{ℤ, pos, negsuc}
 use Rattle.contents.specs.declared.Weight.{Weight}
 use Rattle.contents.specs.declared.Weight.the-variants as weight
-use mathlib.Core.List.{List, [], _∷_}
+use mathlib.Core.List.{List, [], _∷_, _++_}
 use mathlib.Core.Logic.{_⊎_}
 use mathlib.Core.Bool.{Bool, true, false}
 use lib.ListN.{length, take, drop}
@@ -14,7 +14,8 @@ use Rattle.contents.specs.declared.Header.{Header}
 use Rattle.contents.specs.declared.Channel.{Channel}
 use Rattle.contents.specs.declared.Sheet.{Sheet}
 use Rattle.contents.specs.Hold.{LegalHold}
-use Rattle.contents.specs.Sheets.{Lent, Held, noChannel, channelAt, levelsTo}
+use Rattle.contents.specs.Sheets.{Lent, Marked, Held, noChannel, channelAt, levelsTo}
+use Rattle.contents.specs.Marks.{blockOf, hasBlock, among}
 
 pub record Between (a b n : ℕ) : Type 0 where
   pub low : a ≤ n
@@ -103,3 +104,13 @@ LegalKinds (r ∷ rs) ls hs = (r ≡ false → take 64 ls ≡ take 64 hs) × Leg
 pub record LegalBlocks (h : Held) : Type 0 where
   pub kinds-count : 64 * length (h .ranged) ≡ length (h .lent .lows)
   pub kinds : LegalKinds (h .ranged) (h .lent .lows) (h .lent .highs)
+
+-- A mark after those before it: "channel or block absent or marked twice" is 18 (M-110)
+pub record LegalMark (s : Sheet) (before : List Marked) (m : Marked) : Type 0 where
+  pub block : m .block ≡ blockOf s (m .at)
+  pub has : hasBlock s (m .at) ≡ true
+  pub once : among (m .block) before ≡ false
+
+abbrev pub LegalMarks : Sheet → List Marked → List Marked → Type 0
+LegalMarks s before [] = Unit {0}
+LegalMarks s before (m ∷ ms) = LegalMark s before m × LegalMarks s (before ++ m ∷ []) ms

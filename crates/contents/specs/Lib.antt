@@ -2,4 +2,5 @@
 pub mod Weights
 pub mod Sheets
 pub mod Hold
+pub mod Marks
 pub mod Legal

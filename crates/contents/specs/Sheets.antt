@@ -8,6 +8,7 @@ use lib.IntN.{ℤ}
 use Rattle.contents.specs.declared.Header.{Header}
 use Rattle.contents.specs.declared.Channel.{Channel}
 use Rattle.contents.specs.declared.Sheet.{Sheet}
+use Rattle.contents.specs.declared.Mark.{Mark}
 use Rattle.contents.specs.declared.Weight.the-variants as weight
 use Rattle.contents.specs.declared.Choice.the-variants as choice
 use Rattle.contents.specs.declared.Hold.the-variants as hold
@@ -22,16 +23,26 @@ pub record Lent : Type 0 where
 abbrev pub lent : List ℤ → List ℤ → List ℕ → Lent
 lent ls hs ts = record { lows = ls; highs = hs; tables = ts }
 
--- What a text holds beside its sheet: these, and of each block whether its line was `G`, with 64 pairs, or `B`, with 64 levels
+-- A mark, and the number of its block in the order of the text
+pub record Marked : Type 0 where
+  pub at : Mark
+  pub block : ℕ
+
+abbrev pub marked : Mark → ℕ → Marked
+marked m b = record { at = m; block = b }
+
+-- What a text holds beside its sheet: these, of each block whether its line was `G`, with 64 pairs, or `B`, with 64 levels, and the
+-- marks in the order of their lines
 pub record Held : Type 0 where
   pub lent : Lent
   pub ranged : List Bool
+  pub marks : List Marked
 
-abbrev pub held : Lent → List Bool → Held
-held b rs = record { lent = b; ranged = rs }
+abbrev pub held : Lent → List Bool → List Marked → Held
+held b rs ms = record { lent = b; ranged = rs; marks = ms }
 
 abbrev pub nothing : Held
-nothing = held (lent [] [] []) []
+nothing = held (lent [] [] []) [] []
 
 -- no header, no settings, no channel
 abbrev pub noHeader : Header

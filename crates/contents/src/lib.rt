@@ -1,7 +1,10 @@
 // A sheet but for its text: the types that reading gives and solving takes.
 ghost use mathlib.Core.Path.{_≡_};
+ghost use Prim.Native.Nat.{_<_};
 ghost use Rattle.contents.specs.Weights.{valueOf};
 ghost use Rattle.contents.specs.Hold.{ofThree, measured, holdAt};
+ghost use Rattle.contents.specs.Sheets.{channelAt};
+ghost use Rattle.contents.specs.Marks.{blocksIn, blocksBefore, blockOf, hasBlock};
 
 // A weight: the bits of an f32, or a whole number.
 pub enum Weight {
@@ -60,6 +63,19 @@ pub struct Settings {
     pub rounding: Choice,
     pub start: Choice,
     pub hold: Hold,
+}
+
+// A mark of line N: the channel, block row and block column, from 0, of a block of which a partner may see only the mean.
+pub struct Mark {
+    pub channel: u32,
+    pub row: u32,
+    pub column: u32,
+}
+
+// Who reads a sheet.
+pub enum Reader {
+    Staff,
+    Partner,
 }
 
 // A sheet but for its levels and quantisers. With one channel the second and third are zero.
@@ -126,4 +142,68 @@ pub fn held_after(s: Sheet, c: u32) -> u32
         Hold::Unsaid => measured_by(header, c),
         Hold::Counts(first, second, third) => of_three(c, first, second, third),
     }
+}
+
+// Channel c's line; every number above 1 is the third channel.
+pub fn channel_at(s: Sheet, c: u32) -> Channel
+    ensures { λ r. ⌜ r ≡ channelAt s c ⌝ }
+{
+    if c == 0 {
+        return s.first;
+    }
+    if c == 1 {
+        return s.second;
+    }
+    s.third
+}
+
+// How many blocks a channel has. The product of two u32 fits 64 bits.
+fn blocks_in(c: Channel) -> u64
+    ensures { λ r. ⌜ (r ≡ blocksIn c) × (r < 288230376151711744) ⌝ }
+{
+    let w = c.width as u64;
+    let h = c.height as u64;
+    w * h / 64
+}
+
+// How many blocks the channels before channel c have.
+fn blocks_before(s: Sheet, c: u32) -> u64
+    ensures { λ r. ⌜ (r ≡ blocksBefore s c) × (r < 576460752303423488) ⌝ }
+{
+    if c == 0 {
+        return 0;
+    }
+    let first = s.first;
+    let n = blocks_in(first);
+    if c == 1 {
+        return n;
+    }
+    let second = s.second;
+    n + blocks_in(second)
+}
+
+// The number of a mark's block in the order of the text. Ruled out: a channel's blocks counted from 0; columns before rows.
+pub fn block_of(s: Sheet, m: Mark) -> u64
+    ensures { λ r. ⌜ r ≡ blockOf s m ⌝ }
+{
+    let c = channel_at(s, m.channel);
+    let before = blocks_before(s, m.channel);
+    let row = m.row as u64;
+    let across = (c.width / 8) as u64;
+    before + row * across + (m.column as u64)
+}
+
+// Does the sheet have a mark's block? Ruled out: a block of a channel that the sheet has not; the row as many rows down as there are rows.
+pub fn has_block(s: Sheet, m: Mark) -> bool
+    ensures { λ r. ⌜ r ≡ hasBlock s m ⌝ }
+{
+    let h = s.header;
+    let c = channel_at(s, m.channel);
+    if h.channels <= m.channel {
+        return false;
+    }
+    if c.height / 8 <= m.row {
+        return false;
+    }
+    m.column < c.width / 8
 }
