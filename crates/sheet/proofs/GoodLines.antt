@@ -17,8 +17,9 @@ use Rattle.digits.specs.Written.{joined}
 use Rattle.text.proofs.JoinLaws.{joined-split}
 use Rattle.text.proofs.GoodLaws.{addsTable, addsLevel, tables-none, levels-none, quantiser-good}
 use Rattle.digits.proofs.Both.{both-left, both-right}
+use Rattle.contents.specs.declared.Sheet.{Sheet}
 use Rattle.contents.specs.Sheets.{lent, Held, held}
-use Rattle.sheet.specs.Lines.{factor, ownSide, channelRules, orElse, firstFault, lineAdds, kindOf, holding}
+use Rattle.sheet.specs.Lines.{factor, ownSide, channelRules, orElse, firstFault, lineAdds, kindOf, marksIn, holding}
 use Rattle.contents.specs.Legal.{LegalQuantisers}
 
 pub or-left : (k m : Option ℕ) → orElse k m ≡ none → k ≡ none
@@ -84,15 +85,15 @@ pub highs-without : (rs : List Rule) (fs : List (List ℕ)) → noneOf addsLevel
 highs-without = adds-none highsIn addsLevel (λ r f e. levels-none r f e .1)
 
 -- a line that adds nothing, and a channel's line
-pub holds-none : (H : Held) (g : ℕ) (rs : List Rule) (fs : List (List ℕ)) → kindOf g ≡ [] → noneOf addsLevel rs ≡ true → noneOf addsTable rs ≡ true → holding H g rs fs ≡ H
-holds-none H g rs fs k l t =
-    rw (lows-without rs fs l, highs-without rs fs l, tables-without rs fs t, k, append-nil (H .lent .lows), append-nil (H .lent .highs), append-nil (H .lent .tables), append-nil (H .ranged))
+pub holds-none : (H : Held) (s : Sheet) (g : ℕ) (rs : List Rule) (fs : List (List ℕ)) → kindOf g ≡ [] → marksIn s g fs ≡ [] → noneOf addsLevel rs ≡ true → noneOf addsTable rs ≡ true → holding H s g rs fs ≡ H
+holds-none H s g rs fs k m l t =
+    rw (lows-without rs fs l, highs-without rs fs l, tables-without rs fs t, k, m, append-nil (H .lent .lows), append-nil (H .lent .highs), append-nil (H .lent .tables), append-nil (H .ranged), append-nil (H .marks))
 
 abbrev pub withTable : Held → List ℕ → Held
-withTable H qs = held (lent (H .lent .lows) (H .lent .highs) (H .lent .tables ++ qs)) (H .ranged)
+withTable H qs = held (lent (H .lent .lows) (H .lent .highs) (H .lent .tables ++ qs)) (H .ranged) (H .marks)
 
-pub holds-table : (H : Held) (fs : List (List ℕ)) → holding H 67 channelRules fs ≡ withTable H (lineAdds tablesIn (replicate 64 rule.Quantiser) (drop 5 fs))
-holds-table H fs =
+pub holds-table : (H : Held) (s : Sheet) (fs : List (List ℕ)) → holding H s 67 channelRules fs ≡ withTable H (lineAdds tablesIn (replicate 64 rule.Quantiser) (drop 5 fs))
+holds-table H s fs =
     rw (
       lows-without channelRules fs refl,
       highs-without channelRules fs refl,
@@ -100,6 +101,7 @@ holds-table H fs =
       append-nil (H .lent .lows),
       append-nil (H .lent .highs),
       append-nil (H .ranged),
+      append-nil (H .marks),
     )
 
 -- A run of quantisers

@@ -5,3 +5,4 @@ pub mod StoreLaws
 pub mod WalkLaws
 pub mod ReadLaws
 pub mod GoodLines
+pub mod HideLaws

@@ -35,9 +35,10 @@ use Rattle.contents.specs.declared.Hold.{Hold}
 use Rattle.contents.specs.declared.Hold.the-variants as hold
 use Rattle.contents.specs.declared.Header.{Header}
 use Rattle.contents.specs.declared.Channel.{Channel}
+use Rattle.contents.specs.declared.Mark.{Mark}
 use Rattle.sheet.specs.declared.line.Setting.the-variants as setting
 use Rattle.sheet.specs.declared.line.Record.the-variants as line
-use Rattle.sheet.specs.Lines.{count, mode, factor, ownSide, headerRules, choiceRules, roundingRules, startRules, choiceOf, holdRules, holdOf, channelRules, blockRules, pairRules, rangeRules, rulesOf, fieldCount, headerOf, channelOf, recordOf}
+use Rattle.sheet.specs.Lines.{count, mode, factor, ownSide, headerRules, choiceRules, roundingRules, startRules, choiceOf, holdRules, holdOf, anyNumber, markRules, markOf, channelRules, blockRules, pairRules, rangeRules, rulesOf, fieldCount, headerOf, channelOf, recordOf}
 use Rattle.contents.specs.Hold.{measured}
 use Rattle.sheet.specs.Walk.{saidBefore, lowSaid, rangeRule}
 
@@ -99,9 +100,13 @@ module _ (t : ℕ) where
   unfolding fieldCount
   count-H e = rw e
 
-  pub count-E : (t ≡ 83 → ⊥) → (t ≡ 67 → ⊥) → (t ≡ 66 → ⊥) → (t ≡ 71 → ⊥) → (t ≡ 70 → ⊥) → (t ≡ 65 → ⊥) → (t ≡ 72 → ⊥) → 1 ≡ fieldCount t
+  pub count-E : (t ≡ 83 → ⊥) → (t ≡ 67 → ⊥) → (t ≡ 66 → ⊥) → (t ≡ 71 → ⊥) → (t ≡ 70 → ⊥) → (t ≡ 65 → ⊥) → (t ≡ 72 → ⊥) → (t ≡ 78 → ⊥) → 1 ≡ fieldCount t
   unfolding fieldCount
-  count-E s c b g f a h = rw (ne-eqb t 66 b, ne-eqb t 71 g, ne-eqb t 67 c, ne-eqb t 83 s, ne-eqb t 70 f, ne-eqb t 65 a, ne-eqb t 72 h)
+  count-E s c b g f a h n = rw (ne-eqb t 66 b, ne-eqb t 71 g, ne-eqb t 67 c, ne-eqb t 83 s, ne-eqb t 70 f, ne-eqb t 65 a, ne-eqb t 72 h, ne-eqb t 78 n)
+
+  pub count-N : t ≡ 78 → 4 ≡ fieldCount t
+  unfolding fieldCount
+  count-N e = rw e
 
   pub record-S : (fs : List (List ℕ)) (h : Header) → t ≡ 83 → h ≡ headerOf fs → line.Header h ≡ recordOf t fs
   unfolding recordOf
@@ -123,14 +128,22 @@ module _ (t : ℕ) where
   unfolding recordOf
   record-H fs x s c f a e q = rw (ne-eqb t 83 s, ne-eqb t 67 c, ne-eqb t 70 f, ne-eqb t 65 a, eq-eqb t 72 e, q)
 
-  pub record-B : (fs : List (List ℕ)) → (t ≡ 83 → ⊥) → (t ≡ 67 → ⊥) → (t ≡ 70 → ⊥) → (t ≡ 65 → ⊥) → (t ≡ 72 → ⊥) → line.Block ≡ recordOf t fs
+  pub record-N : (fs : List (List ℕ)) (m : Mark) → (t ≡ 83 → ⊥) → (t ≡ 67 → ⊥) → (t ≡ 70 → ⊥) → (t ≡ 65 → ⊥) → (t ≡ 72 → ⊥) → t ≡ 78 → m ≡ markOf fs → line.Mark m ≡ recordOf t fs
   unfolding recordOf
-  record-B fs s c f a h = rw (ne-eqb t 83 s, ne-eqb t 67 c, ne-eqb t 70 f, ne-eqb t 65 a, ne-eqb t 72 h)
+  record-N fs m s c f a h e q = rw (ne-eqb t 83 s, ne-eqb t 67 c, ne-eqb t 70 f, ne-eqb t 65 a, ne-eqb t 72 h, eq-eqb t 78 e, q)
+
+  pub record-B : (fs : List (List ℕ)) → (t ≡ 83 → ⊥) → (t ≡ 67 → ⊥) → (t ≡ 70 → ⊥) → (t ≡ 65 → ⊥) → (t ≡ 72 → ⊥) → (t ≡ 78 → ⊥) → line.Block ≡ recordOf t fs
+  unfolding recordOf
+  record-B fs s c f a h n = rw (ne-eqb t 83 s, ne-eqb t 67 c, ne-eqb t 70 f, ne-eqb t 65 a, ne-eqb t 72 h, ne-eqb t 78 n)
 
 -- the three counts
 pub hold-is : (fs : List (List ℕ)) (k l m : ℕ) → k ≡ numberAt fs 1 → l ≡ numberAt fs 2 → m ≡ numberAt fs 3 → hold.Counts k l m ≡ holdOf fs
 unfolding holdOf
 hold-is fs k l m e q r = rw (e, q, r)
+
+pub mark-is : (fs : List (List ℕ)) (k l m : ℕ) → k ≡ numberAt fs 1 → l ≡ numberAt fs 2 → m ≡ numberAt fs 3 → record { channel = k; row = l; column = m } ≡ markOf fs
+unfolding markOf
+mark-is fs k l m e q r = rw (e, q, r)
 
 -- a setting's letter
 module _ (a : ℕ) (f : List ℕ) (b : Bool) (e : b ≡ letter a f) where
@@ -140,7 +153,7 @@ module _ (a : ℕ) (f : List ℕ) (b : Bool) (e : b ≡ letter a f) where
   pub choice-second : b ≡ false → choice.Second ≡ choiceOf a f
   choice-second p = rw (sym e ∙ p)
 
-pub ruleset tags = (count-S, count-C, count-B, count-G, count-F, count-A, count-H, count-E, record-S, record-C, record-F, record-A, record-H, record-B, hold-is, choice-first, choice-second)
+pub ruleset tags = (count-S, count-C, count-B, count-G, count-F, count-A, count-H, count-N, count-E, record-S, record-C, record-F, record-A, record-H, record-N, record-B, hold-is, mark-is, choice-first, choice-second)
 
 -- Rules by place
 
@@ -323,7 +336,21 @@ module _ (h : Header) (i : ℕ) where
   pub hold-third : (n : ℕ) → (i ≡ 0 → ⊥) → (i ≡ 1 → ⊥) → (i ≡ 2 → ⊥) → i < 4 → n ≡ measured h 2 → rule.Range 17 0 n ≡ getD (holdRules h) i (rule.Tag 0)
   hold-third n o k l b q = let e : i ≡ 3 = omega arith in rw (e, q)
 
-pub ruleset rules = (hold-tag, hold-first, hold-second, hold-third, choice-tag, choice-letter, range-tag, range-low, range-high, range-none, header-tag, header-side, header-wide, header-high, header-channels, header-mode, header-count, header-weight, channel-tag, channel-side, channel-factor, channel-quantiser, block-tag, block-level)
+module _ (i : ℕ) where
+  pub mark-tag : i ≡ 0 → rule.Tag 78 ≡ getD markRules i (rule.Tag 0)
+  mark-tag e = rw e
+
+  pub mark-number : (i ≡ 0 → ⊥) → i < 4 → anyNumber ≡ getD markRules i (rule.Tag 0)
+  mark-number = three i
+    where
+      three : (i : ℕ) → (i ≡ 0 → ⊥) → i < 4 → anyNumber ≡ getD markRules i (rule.Tag 0)
+      three zero o k = absurd (o refl)
+      three (suc zero) o k = refl
+      three (suc (suc zero)) o k = refl
+      three (suc (suc (suc zero))) o k = refl
+      three (suc (suc (suc (suc j)))) o k = let z : ⊥ = omega arith in absurd z
+
+pub ruleset rules = (mark-tag, mark-number, hold-tag, hold-first, hold-second, hold-third, choice-tag, choice-letter, range-tag, range-low, range-high, range-none, header-tag, header-side, header-wide, header-high, header-channels, header-mode, header-count, header-weight, channel-tag, channel-side, channel-factor, channel-quantiser, block-tag, block-level)
 
 -- The rule of a tag's field
 
@@ -356,11 +383,15 @@ module _ (t : ℕ) (limits : Limits) (top : Header) (i : ℕ) (fs : List (List �
   unfolding rulesOf
   rule-H b c s f a e q = rw e q
 
-pub rule-E : (t : ℕ) (limits : Limits) (top : Header) (i : ℕ) (fs : List (List ℕ)) → (t ≡ 66 → ⊥) → (t ≡ 71 → ⊥) → (t ≡ 67 → ⊥) → (t ≡ 83 → ⊥) → (t ≡ 70 → ⊥) → (t ≡ 65 → ⊥) → (t ≡ 72 → ⊥) → i < fieldCount t → rule.Tag 69 ≡ getD (rulesOf t limits top fs) i (rule.Tag 0)
+  pub rule-N : (t ≡ 66 → ⊥) → (t ≡ 67 → ⊥) → (t ≡ 83 → ⊥) → (t ≡ 70 → ⊥) → (t ≡ 65 → ⊥) → (t ≡ 72 → ⊥) → t ≡ 78 → r ≡ getD markRules i (rule.Tag 0) → r ≡ getD (rulesOf t limits top fs) i (rule.Tag 0)
+  unfolding rulesOf
+  rule-N b c s f a o e q = rw e q
+
+pub rule-E : (t : ℕ) (limits : Limits) (top : Header) (i : ℕ) (fs : List (List ℕ)) → (t ≡ 66 → ⊥) → (t ≡ 71 → ⊥) → (t ≡ 67 → ⊥) → (t ≡ 83 → ⊥) → (t ≡ 70 → ⊥) → (t ≡ 65 → ⊥) → (t ≡ 72 → ⊥) → (t ≡ 78 → ⊥) → i < fieldCount t → rule.Tag 69 ≡ getD (rulesOf t limits top fs) i (rule.Tag 0)
 unfolding rulesOf fieldCount
-rule-E t limits top i fs b g c s f a o h =
-    let z : i ≡ 0 = omega (arith, simp (ne-eqb t 83 s, ne-eqb t 67 c, ne-eqb t 66 b, ne-eqb t 71 g, ne-eqb t 70 f, ne-eqb t 65 a, ne-eqb t 72 o) at h) in
-    rw (ne-eqb t 66 b, ne-eqb t 71 g, ne-eqb t 67 c, ne-eqb t 83 s, ne-eqb t 70 f, ne-eqb t 65 a, ne-eqb t 72 o, z)
+rule-E t limits top i fs b g c s f a o m h =
+    let z : i ≡ 0 = omega (arith, simp (ne-eqb t 83 s, ne-eqb t 67 c, ne-eqb t 66 b, ne-eqb t 71 g, ne-eqb t 70 f, ne-eqb t 65 a, ne-eqb t 72 o, ne-eqb t 78 m) at h) in
+    rw (ne-eqb t 66 b, ne-eqb t 71 g, ne-eqb t 67 c, ne-eqb t 83 s, ne-eqb t 70 f, ne-eqb t 65 a, ne-eqb t 72 o, ne-eqb t 78 m, z)
 
 module _ (t i : ℕ) (h : i < fieldCount t) where
   pub below-S : t ≡ 83 → i < 16
@@ -381,4 +412,7 @@ module _ (t i : ℕ) (h : i < fieldCount t) where
   pub below-H : t ≡ 72 → i < 4
   below-H e = omega (arith, count-H t e)
 
-pub ruleset places = (rule-S, rule-C, rule-B, rule-G, rule-F, rule-A, rule-H, rule-E, below-S, below-C, below-B, below-F, below-A, below-H)
+  pub below-N : t ≡ 78 → i < 4
+  below-N e = omega (arith, count-N t e)
+
+pub ruleset places = (rule-S, rule-C, rule-B, rule-G, rule-F, rule-A, rule-H, rule-N, rule-E, below-S, below-C, below-B, below-F, below-A, below-H, below-N)

@@ -1,18 +1,18 @@
 -- A walk over a text: what is left to read, read after what was read, gives the whole answer.
-use Prim.Native.Nat.{ℕ, suc, _+_, _-_, _^_, _<_, _≤_}
+use Prim.Native.Nat.{ℕ, zero, suc, _+_, _-_, _^_, _<_, _≤_}
 use mathlib.Core.Path.{_≡_, refl, sym, ap, _∙_}
-use mathlib.Core.List.{List, [], _∷_, _++_}
-use mathlib.Core.Bool.{Bool, true, false, cond}
+use mathlib.Core.List.{List, [], _∷_, _++_, append-nil}
+use mathlib.Core.Bool.{Bool, true, false, not, cond, _&&_, _||_}
 use mathlib.Core.Logic.{⊎-elim}
 use mathlib.Core.Option.{none, some}
 use native.Mathlib.Numerals.{add-one}
 use native.Mathlib.Nat.{zero-add}
 use native.Mathlib.Omega.{arith}
-use lib.ListN.{length, getD, drop, take, set, length-append, length-drop, drop-of-length-le}
-use lib.Seq.{drop-cons, drop-drop, sets, length-sets}
+use lib.ListN.{length, getD, drop, take, set, replicate, length-replicate, length-set, length-append, length-drop, drop-of-length-le}
+use lib.Seq.{drop-cons, drop-drop, sets, length-sets, getD-set-same, getD-set-other}
 use lib.Dec.{eqb}
 use lib.IntN.{ℤ}
-use borrow.Author.Tests.{eq-eqb, ne-eqb, lt-ltb, le-ltb}
+use borrow.Author.Tests.{eq-eqb, ne-eqb, lt-ltb, le-ltb, eqb-true, eqb-false}
 use denote.Enum.Declared.{tagOf}
 use types.Run.{OneOf}
 use Rattle.text.proofs.field.Field.{the-type}
@@ -27,16 +27,24 @@ use Rattle.text.specs.Fields.{fieldOf, faultIn, lowsIn, highsIn, tablesIn}
 use Rattle.text.proofs.PieceLaws.{at-start, at-here, at-next, at-end, before-le, before-take, split-cut, split-whole, split-first, split-some, split-length}
 use Rattle.contents.specs.declared.Limits.{Limits}
 use Rattle.contents.specs.declared.Header.{Header}
+use Rattle.contents.specs.declared.Channel.{Channel}
+use Rattle.contents.specs.declared.Mark.{Mark}
+use Rattle.contents.specs.declared.Sheet.{Sheet}
+use Rattle.sheet.specs.declared.line.Setting.{Setting}
+use Rattle.sheet.specs.declared.line.Setting.the-variants as setting
+use Rattle.sheet.specs.declared.line.Record.the-variants as line
 use Rattle.sheet.specs.declared.line.Record.{Record}
 use Rattle.sheet.specs.declared.state.State.{State}
 use Rattle.sheet.specs.declared.state.Taken.{Taken}
 use Rattle.sheet.specs.declared.state.Taken.the-variants as taken
 use Rattle.sheet.specs.declared.walk.Walked.the-variants as walked
-use Rattle.sheet.specs.Lines.{headerRules, roundingRules, startRules, holdRules, channelRules, blockRules, rangeRules, endRules, rulesOf, fieldCount, firstFault, fieldsFault, lineAdds, holding, recordOf}
-use Rattle.contents.specs.Sheets.{Lent, lent, Held, nothing}
-use Rattle.sheet.specs.Reading.{Outcome, Contents, contents, blank, lineTag, takenOf, isLast, nothingLeft, onTaken, lineFault, readFrom, allowed, readText}
+use Rattle.sheet.specs.Lines.{headerRules, roundingRules, startRules, holdRules, markRules, markOf, marksIn, channelRules, blockRules, rangeRules, endRules, rulesOf, fieldCount, firstFault, fieldsFault, lineAdds, holding, headerOf, channelOf, choiceOf, holdOf, recordOf}
+use Rattle.contents.specs.Sheets.{Lent, lent, Marked, marked, Held, nothing}
+use Rattle.contents.specs.Marks.{blockOf, among}
+use Rattle.sheet.specs.Reading.{Outcome, Contents, contents, blank, lineTag, mostBlocks, exists, takenIf, takenOf, isLast, nothingLeft, onTaken, lineFault, readFrom, allowed, readText}
 use Rattle.sheet.specs.Reading.Outcome.{Refused}
-use Rattle.sheet.specs.Walk.{saidBefore, Stored, Walks}
+use Rattle.sheet.specs.Walk.{saidBefore, Stored, Bits, twiceIn, markedIn, Walks}
+use Rattle.sheet.proofs.StateLaws.{exists-within}
 use Rattle.sheet.proofs.GoodLines.{lows-without, highs-without, tables-without}
 
 -- Stores one after the other
@@ -80,19 +88,20 @@ stored-end d e = record { next = omega (arith, d .next, e .next); last = e .last
 
 pub rules-length : (t : ℕ) (limits : Limits) (top : Header) (fs : List (List ℕ)) → length (rulesOf t limits top fs) ≡ fieldCount t
 unfolding rulesOf fieldCount
-rules-length t limits top fs = seven (eqb t 66) (eqb t 71) (eqb t 67) (eqb t 83) (eqb t 70) (eqb t 65) (eqb t 72)
+rules-length t limits top fs = eight (eqb t 66) (eqb t 71) (eqb t 67) (eqb t 83) (eqb t 70) (eqb t 65) (eqb t 72) (eqb t 78)
   where
-    seven : (a b c d e f g : Bool)
-        → length (cond a blockRules (cond b (rangeRules fs) (cond c channelRules (cond d (headerRules limits fs) (cond e roundingRules (cond f startRules (cond g (holdRules top) endRules)))))))
-        ≡ cond a 65 (cond b 129 (cond c 69 (cond d 16 (cond e 2 (cond f 2 (cond g 4 1))))))
-    seven true b c d e f g = refl
-    seven false true c d e f g = refl
-    seven false false true d e f g = refl
-    seven false false false true e f g = refl
-    seven false false false false true f g = refl
-    seven false false false false false true g = refl
-    seven false false false false false false true = refl
-    seven false false false false false false false = refl
+    eight : (a b c d e f g h : Bool)
+        → length (cond a blockRules (cond b (rangeRules fs) (cond c channelRules (cond d (headerRules limits fs) (cond e roundingRules (cond f startRules (cond g (holdRules top) (cond h markRules endRules))))))))
+        ≡ cond a 65 (cond b 129 (cond c 69 (cond d 16 (cond e 2 (cond f 2 (cond g 4 (cond h 4 1)))))))
+    eight true b c d e f g h = refl
+    eight false true c d e f g h = refl
+    eight false false true d e f g h = refl
+    eight false false false true e f g h = refl
+    eight false false false false true f g h = refl
+    eight false false false false false true g h = refl
+    eight false false false false false false true h = refl
+    eight false false false false false false false true = refl
+    eight false false false false false false false false = refl
 
 -- E adds nothing
 module _ (t : ℕ) (limits : Limits) (top : Header) (fs : List (List ℕ)) (e : t ≡ 69) where
@@ -274,8 +283,8 @@ module _ (limits : Limits) (s : State) (H : Held) (k : ℕ) (p : List ℕ) (rest
 
       module _ (f : firstFault (rulesOf tag limits (s .sheet .header) (split 9 p)) (split 9 p) ≡ none) where
         good : cond (eqb tag 69) (cond (nothingLeft rest) (contents (s .sheet) H) (Refused 7 (k + 1)))
-            (onTaken (takenOf s (recordOf tag (split 9 p))) k
-            (λ t. readFrom limits t (holding H tag (rulesOf tag limits (s .sheet .header) (split 9 p)) (split 9 p)) (k + 1) rest)) ≡ T
+            (onTaken (takenOf s (H .marks) (recordOf tag (split 9 p))) k
+            (λ t. readFrom limits t (holding H (s .sheet) tag (rulesOf tag limits (s .sheet .header) (split 9 p)) (split 9 p)) (k + 1) rest)) ≡ T
         unfolding lineFault fieldsFault
         good = rw (sym g, le-ltb 1024 (length p) h, e, eq-eqb (length (split 9 p)) (length (rulesOf tag limits (s .sheet .header) (split 9 p))) same, f) at R
 
@@ -286,11 +295,11 @@ module _ (limits : Limits) (s : State) (H : Held) (k : ℕ) (p : List ℕ) (rest
         line-after t o = sym good ∙ rw (eq-eqb tag 69 t, o)
 
         module _ (t : tag ≡ 69 → ⊥) where
-          pub line-bad : (m : ℕ) → takenOf s (recordOf tag (split 9 p)) ≡ taken.Bad m → T ≡ Refused m k
+          pub line-bad : (m : ℕ) → takenOf s (H .marks) (recordOf tag (split 9 p)) ≡ taken.Bad m → T ≡ Refused m k
           line-bad m o = sym good ∙ rw (ne-eqb tag 69 t, o)
 
-          pub line-next : (u : State) → takenOf s (recordOf tag (split 9 p)) ≡ taken.Good u
-              → readFrom limits u (holding H tag (rulesOf tag limits (s .sheet .header) (split 9 p)) (split 9 p)) (k + 1) rest ≡ T
+          pub line-next : (u : State) → takenOf s (H .marks) (recordOf tag (split 9 p)) ≡ taken.Good u
+              → readFrom limits u (holding H (s .sheet) tag (rulesOf tag limits (s .sheet .header) (split 9 p)) (split 9 p)) (k + 1) rest ≡ T
           line-next u o = sym (rw (ne-eqb tag 69 t, o)) ∙ good
 
 -- What the pieces of a text say
@@ -323,9 +332,119 @@ some-after b (x ∷ l) h = two (eqb x b) (split b l) (split-some b l)
     two false [] k = refl
     two false (p ∷ ps) k = refl
 
+-- The map of all blocks
+
+zeros : (n b : ℕ) → _≡_ {A = ℕ} (getD (replicate n 0) b 0) 0
+zeros zero b = refl
+zeros (suc n) zero = refl
+zeros (suc n) (suc b) = zeros n b
+
+pub no-bits : Bits [] (replicate mostBlocks 0)
+no-bits = record { long = length-replicate {A = ℕ} mostBlocks 0; bit = zeros mostBlocks }
+
+pub among-more : (b : ℕ) (ms : List Marked) (m : Marked) → among b (ms ++ m ∷ []) ≡ (among b ms || eqb b (m .block))
+among-more b [] m = two (eqb b (m .block))
+  where
+    two : (x : Bool) → (x || false) ≡ (false || x)
+    two true = refl
+    two false = refl
+among-more b (n ∷ ms) m = two (eqb b (n .block)) (among-more b ms m)
+  where
+    two : (x : Bool) → among b (ms ++ m ∷ []) ≡ (among b ms || eqb b (m .block)) → (x || among b (ms ++ m ∷ [])) ≡ ((x || among b ms) || eqb b (m .block))
+    two true e = refl
+    two false e = e
+
+module _ (ms : List Marked) (bits : List ℕ) (m : Bits ms bits) where
+  -- one more mark
+  more-bits : (k : Marked) → k .block < mostBlocks → Bits (ms ++ k ∷ []) (set bits (k .block) 1)
+  more-bits k h =
+      record {
+        long = length-set bits (k .block) 1 ∙ m .long;
+        bit = λ b. which b (eqb b (k .block)) refl ∙ sym (ap {B = ℕ} (λ (x : Bool). cond x 1 0) (among-more b ms k));
+      }
+    where
+      same : (x : Bool) → _≡_ {A = ℕ} 1 (cond (x || true) 1 0)
+      same true = refl
+      same false = refl
+
+      other : (x : Bool) → _≡_ {A = ℕ} (cond x 1 0) (cond (x || false) 1 0)
+      other true = refl
+      other false = refl
+
+      which : (b : ℕ) (x : Bool) → eqb b (k .block) ≡ x → getD (set bits (k .block) 1) b 0 ≡ cond (among b ms || eqb b (k .block)) 1 0
+      which b true e =
+          rw (e, eqb-true b (k .block) e) (getD-set-same bits (k .block) 1 0 (omega (arith, m .long)) ∙ same (among (k .block) ms))
+      which b false e =
+          rw e (getD-set-other bits (k .block) b 1 0 (eqb-false b (k .block) e) ∙ m .bit b ∙ other (among b ms))
+
+  twice-is : (s : Sheet) (k : Mark) → not (eqb (getD bits (blockOf s k) 0) 0) ≡ among (blockOf s k) ms
+  twice-is s k = ap (λ (n : ℕ). not (eqb n 0)) (m .bit (blockOf s k)) ∙ two (among (blockOf s k) ms)
+    where
+      two : (x : Bool) → not (eqb (cond x 1 0) 0) ≡ x
+      two true = refl
+      two false = refl
+
+  -- by the map as by the marks
+  taken-alike : (s : State) (d : Record) → takenIf s (twiceIn (s .sheet) d bits) d ≡ takenOf s ms d
+  unfolding takenIf
+  taken-alike s (line.Header h) = refl
+  taken-alike s (line.Channel c) = refl
+  taken-alike s (line.Setting x) = refl
+  taken-alike s line.Block = refl
+  taken-alike s (line.Mark k) = rw (twice-is (s .sheet) k) (two (exists (s .sheet) k))
+    where
+      two : (x : Bool) → cond (x && not (cond x (among (blockOf (s .sheet) k) ms) false)) (taken.Good s) (taken.Bad 18) ≡ cond (x && not (among (blockOf (s .sheet) k) ms)) (taken.Good s) (taken.Bad 18)
+      two true = refl
+      two false = refl
+
+  -- a line that is no mark leaves the map
+  unmarked : (s : Sheet) (h : Header) (c : Channel) (x y z : Setting) (a b d e f : Bool)
+      → markedIn s (cond a (line.Header h) (cond b (line.Channel c) (cond d (line.Setting x) (cond e (line.Setting y) (cond f (line.Setting z) line.Block))))) bits ≡ bits
+  unmarked s h c x y z true b d e f = refl
+  unmarked s h c x y z false true d e f = refl
+  unmarked s h c x y z false false true e f = refl
+  unmarked s h c x y z false false false true f = refl
+  unmarked s h c x y z false false false false true = refl
+  unmarked s h c x y z false false false false false = refl
+
+  next-bits : (s : Sheet) (tag : ℕ) (fs : List (List ℕ)) → (tag ≡ 78 → exists s (markOf fs) ≡ true) → Bits (ms ++ marksIn s tag fs) (markedIn s (recordOf tag fs) bits)
+  unfolding recordOf
+  next-bits s tag fs h = two (eqb tag 78) refl
+    where
+      two : (x : Bool) → eqb tag 78 ≡ x → Bits (ms ++ marksIn s tag fs) (markedIn s (recordOf tag fs) bits)
+      two true e =
+          let q = eqb-true tag 78 e in
+          rw (q, h q) (more-bits (marked (markOf fs) (blockOf s (markOf fs))) (exists-within s (markOf fs) (h q)))
+      two false e =
+          rw (e, append-nil ms, unmarked s (headerOf fs) (channelOf fs) (setting.Rounding (choiceOf 116 (getD fs 1 []))) (setting.Start (choiceOf 109 (getD fs 1 []))) (setting.Hold (holdOf fs)) (eqb tag 83) (eqb tag 67) (eqb tag 70) (eqb tag 65) (eqb tag 72)) m
+
+marked-length : (s : Sheet) (d : Record) (bits : List ℕ) → length (markedIn s d bits) ≡ length bits
+marked-length s (line.Header h) bits = refl
+marked-length s (line.Channel c) bits = refl
+marked-length s (line.Setting x) bits = refl
+marked-length s line.Block bits = refl
+marked-length s (line.Mark m) bits = two (exists s m)
+  where
+    two : (x : Bool) → length (cond x (set bits (blockOf s m) 1) bits) ≡ length bits
+    two true = length-set bits (blockOf s m) 1
+    two false = refl
+
+-- a mark that was taken has its block
+taken-exists : (s : State) (t : Bool) (m : Mark) (u : State) → takenIf s t (line.Mark m) ≡ taken.Good u → exists (s .sheet) m ≡ true
+unfolding takenIf
+taken-exists s t m u e = two (exists (s .sheet) m) e
+  where
+    two : (x : Bool) → cond (x && not t) (taken.Good s) (taken.Bad 18) ≡ taken.Good u → x ≡ true
+    two true o = refl
+    two false o = let z : _≡_ {A = ℕ} 0 1 = cc in let y : ⊥ = omega arith in absurd y
+
+marked-exists : (s : State) (t : Bool) (tag : ℕ) (fs : List (List ℕ)) (u : State) → takenIf s t (recordOf tag fs) ≡ taken.Good u → tag ≡ 78 → exists (s .sheet) (markOf fs) ≡ true
+unfolding recordOf
+marked-exists s t tag fs u e q = taken-exists s t (markOf fs) u (rw q at e)
+
 -- The text up to a line
 
-pub record Reading (limits : Limits) (text : List ℕ) (into after : Lent) (s : State) (at k : ℕ) (next : Places) : Type 0 where
+pub record Reading (limits : Limits) (text : List ℕ) (into after : Lent) (bits₀ bits : List ℕ) (s : State) (at k : ℕ) (next : Places) : Type 0 where
   so-far : Held
   pub inside : at ≤ length text
   pub lines : k ≤ at + 1
@@ -335,11 +454,13 @@ pub record Reading (limits : Limits) (text : List ℕ) (into after : Lent) (s : 
   lows : Stored (into .lows) (after .lows) 0 (next .lows) (so-far .lent .lows)
   highs : Stored (into .highs) (after .highs) 0 (next .highs) (so-far .lent .highs)
   tables : Stored (into .tables) (after .tables) 0 (next .tables) (so-far .lent .tables)
+  mapped : Bits (so-far .marks) bits
+  pub kept : length bits ≡ length bits₀
   rest : readFrom limits s so-far k (split 10 (drop at text)) ≡ readText limits text
 
-pub read-begin : (limits : Limits) (text : List ℕ) (into : Lent) (s : State) → allowed limits ≡ true → s ≡ blank → Reading limits text into into s 0 1 (places 0 0 0)
+pub read-begin : (limits : Limits) (text : List ℕ) (into : Lent) (bits : List ℕ) (s : State) → allowed limits ≡ true → s ≡ blank → bits ≡ replicate mostBlocks 0 → Reading limits text into into bits bits s 0 1 (places 0 0 0)
 unfolding readText
-read-begin limits text into s h e =
+read-begin limits text into bits s h e q =
     record {
       so-far = nothing;
       inside = omega arith;
@@ -350,15 +471,17 @@ read-begin limits text into s h e =
       lows = record { next = refl; last = refl };
       highs = record { next = refl; last = refl };
       tables = record { next = refl; last = refl };
+      mapped = rw q no-bits;
+      kept = refl;
       rest = rw (e, h);
     }
 
-refused : (limits : Limits) (text : List ℕ) (into after : Lent) (m k : ℕ) → readText limits text ≡ Refused m k → Walks limits text into after (walked.Refused m k)
-refused limits text into after m k e = record { answer = rw e; stored = rw e tt }
+refused : (limits : Limits) (text : List ℕ) (into after : Lent) (bits : List ℕ) (m k : ℕ) → readText limits text ≡ Refused m k → Walks limits text into after bits (walked.Refused m k)
+refused limits text into after bits m k e = record { answer = rw e; stored = rw e tt; mapped = rw e tt }
 
-pub walk-limit : (limits : Limits) (text : List ℕ) (into : Lent) → allowed limits ≡ false → Walks limits text into into (walked.Refused 2 0)
+pub walk-limit : (limits : Limits) (text : List ℕ) (into : Lent) (bits : List ℕ) → allowed limits ≡ false → Walks limits text into into bits (walked.Refused 2 0)
 unfolding readText
-walk-limit limits text into h = refused limits text into into 2 0 (rw h)
+walk-limit limits text into bits h = refused limits text into into bits 2 0 (rw h)
 
 -- an ended line of at most 1,024 bytes from at to e, where a tag is due
 pub record OnLine (text : List ℕ) (s : State) (at e tag count : ℕ) : Type 0 where
@@ -371,7 +494,7 @@ pub record OnLine (text : List ℕ) (s : State) (at e tag count : ℕ) : Type 0 
   due : tag ≡ lineTag s (split 9 (take (e - at) (drop at text)))
   counted : count ≡ fieldCount tag
 
-module _ {limits : Limits} {text : List ℕ} {into after : Lent} {s : State} {at k : ℕ} {next : Places} (r : Reading limits text into after s at k next) where
+module _ {limits : Limits} {text : List ℕ} {into after : Lent} {bits₀ bits : List ℕ} {s : State} {at k : ℕ} {next : Places} (r : Reading limits text into after bits₀ bits s at k next) where
   pub same-lows : length (after .lows) ≡ length (into .lows)
   same-lows = ap length (r .lows .last) ∙ length-sets (into .lows) 0 (r .so-far .lent .lows)
 
@@ -380,6 +503,12 @@ module _ {limits : Limits} {text : List ℕ} {into after : Lent} {s : State} {at
 
   pub same-tables : length (after .tables) ≡ length (into .tables)
   same-tables = ap length (r .tables .last) ∙ length-sets (into .tables) 0 (r .so-far .lent .tables)
+
+  pub bits-long : length bits ≡ mostBlocks
+  bits-long = r .mapped .long
+
+  pub kept-marked : (d : Record) {t : Bool} {bits′ : List ℕ} → (t ≡ twiceIn (s .sheet) d bits) × (bits′ ≡ markedIn (s .sheet) d bits) → length bits′ ≡ length bits₀
+  kept-marked d m = ap length (m .1) ∙ marked-length (s .sheet) d bits ∙ r .kept
 
   module _ {g : Line} (q : IsLine text at g) where
     pub end-inside : g .end ≤ length text
@@ -391,15 +520,15 @@ module _ {limits : Limits} {text : List ℕ} {into after : Lent} {s : State} {at
         let w : (at + b) - at ≡ b = omega arith in
         sym (rw (q .end, w) (before-take 10 (drop at text)))
 
-    pub walk-long : 1024 < g .end - at → Walks limits text into after (walked.Refused 1 k)
+    pub walk-long : 1024 < g .end - at → Walks limits text into after bits (walked.Refused 1 k)
     walk-long h =
-        refused limits text into after 1 k
+        refused limits text into after bits 1 k
         (line-long limits s (r .so-far) k (before 10 (drop at text)) (drop 1 (split 10 (drop at text))) (readText limits text)
         (rw (split-head 10 (drop at text)) at (r .rest)) (omega (arith, q .end)))
 
-    pub walk-cut : g .end - at ≤ 1024 → g .end ≡ length text → Walks limits text into after (walked.Refused 7 k)
+    pub walk-cut : g .end - at ≤ 1024 → g .end ≡ length text → Walks limits text into after bits (walked.Refused 7 k)
     walk-cut h z =
-        refused limits text into after 7 k
+        refused limits text into after bits 7 k
         (line-last limits s (r .so-far) k (drop at text) [] (readText limits text)
         (rw (split-whole 10 (drop at text) (omega (arith, q .end, length-drop at text))) at (r .rest)) (omega (arith, length-drop at text)) refl)
 
@@ -425,9 +554,9 @@ module _ {limits : Limits} {text : List ℕ} {into after : Lent} {s : State} {at
     this-line : readFrom limits s (r .so-far) k (take (e - at) (drop at text) ∷ split 10 (drop (e + 1) text)) ≡ readText limits text
     this-line = rw (o .cut) at (r .rest)
 
-    pub walk-count : {g : Line} → IsLine text at g → (g .fields ≡ count → ⊥) → Walks limits text into after (walked.Refused 1 k)
+    pub walk-count : {g : Line} → IsLine text at g → (g .fields ≡ count → ⊥) → Walks limits text into after bits (walked.Refused 1 k)
     walk-count q z =
-        refused limits text into after 1 k
+        refused limits text into after bits 1 k
         (line-count limits s (r .so-far) k (take (e - at) (drop at text)) (split 10 (drop (e + 1) text)) (readText limits text) this-line
         tag (o .due) (o .short) (not-last 10 (drop (e + 1) text)) (λ c. z (q .fields ∙ ap (λ (x : List ℕ). length (split 9 x)) (o .first) ∙ c ∙ sym (o .counted))))
 
@@ -449,15 +578,15 @@ module _ {limits : Limits} {text : List ℕ} {into after : Lent} {s : State} {at
       table-room z h q = omega (arith, r .space, split-length 9 (take (e - at) (drop at text)), o .size, o .ordered, o .ended)
 
       pub walk-fault : {v : ℕ} {stored : Lent} → firstFault (rulesOf tag limits (s .sheet .header) (split 9 (take (e - at) (drop at text)))) (split 9 (take (e - at) (drop at text))) ≡ some v
-          → Walks limits text into stored (walked.Refused v k)
+          → Walks limits text into stored bits (walked.Refused v k)
       walk-fault {v} {stored} f =
-          refused limits text into stored v k
+          refused limits text into stored bits v k
           (line-fault limits s (r .so-far) k (take (e - at) (drop at text)) (split 10 (drop (e + 1) text)) (readText limits text) this-line
           tag (o .due) (o .short) (not-last 10 (drop (e + 1) text)) (y ∙ o .counted) v f)
 
       module _ {stored : Lent} {filled : Places} {i a : ℕ} {last : Field}
           (c : Checking (rulesOf tag limits (s .sheet .header) (split 9 (take (e - at) (drop at text)))) (take (e - at) (drop at text)) count after next stored filled i a last) (h : count ≤ i) where
-        pub walk-end : tag ≡ 69 → e + 1 ≡ length text → Walks limits text into stored (walked.Sheet (s .sheet) (filled .lows) (filled .highs) (filled .tables))
+        pub walk-end : tag ≡ 69 → e + 1 ≡ length text → Walks limits text into stored bits (walked.Sheet (s .sheet) (filled .lows) (filled .highs) (filled .tables))
         walk-end x z =
             let w : readText limits text ≡ contents (s .sheet) (r .so-far) =
             line-end limits s (r .so-far) k (take (e - at) (drop at text)) (split 10 (drop (e + 1) text)) (readText limits text) this-line
@@ -466,28 +595,33 @@ module _ {limits : Limits} {text : List ℕ} {into after : Lent} {s : State} {at
             let u = stored-end (r .lows) (rw (end-lows tag limits (s .sheet .header) (split 9 (take (e - at) (drop at text))) x) at (check-low c rules-count h)) in
             let q = stored-end (r .highs) (rw (end-highs tag limits (s .sheet .header) (split 9 (take (e - at) (drop at text))) x) at (check-high c rules-count h)) in
             let v = stored-end (r .tables) (rw (end-tables tag limits (s .sheet .header) (split 9 (take (e - at) (drop at text))) x) at (check-listed c rules-count h)) in
-            record { answer = rw (w, ← zero-add (length (r .so-far .lent .lows)), ← u .next, ← zero-add (length (r .so-far .lent .highs)), ← q .next, ← zero-add (length (r .so-far .lent .tables)), ← v .next); stored = rw w (u .last, q .last, v .last) }
+            record { answer = rw (w, ← zero-add (length (r .so-far .lent .lows)), ← u .next, ← zero-add (length (r .so-far .lent .highs)), ← q .next, ← zero-add (length (r .so-far .lent .tables)), ← v .next); stored = rw w (u .last, q .last, v .last); mapped = rw w (r .mapped) }
 
-        pub walk-after : tag ≡ 69 → (e + 1 ≡ length text → ⊥) → Walks limits text into stored (walked.Refused 7 (k + 1))
+        pub walk-after : tag ≡ 69 → (e + 1 ≡ length text → ⊥) → Walks limits text into stored bits (walked.Refused 7 (k + 1))
         walk-after x z =
-            refused limits text into stored 7 (k + 1)
+            refused limits text into stored bits 7 (k + 1)
             (line-after limits s (r .so-far) k (take (e - at) (drop at text)) (split 10 (drop (e + 1) text)) (readText limits text) this-line
             tag (o .due) (o .short) (not-last 10 (drop (e + 1) text)) (y ∙ o .counted) (check-good c rules-count h) x
             (some-after 10 (drop (e + 1) text) (omega (arith, length-drop (e + 1) text, o .ended))))
 
-        module _ (x : tag ≡ 69 → ⊥) {d : Record} {w : Taken} (u : d ≡ recordOf tag (split 9 (take (e - at) (drop at text)))) (v : w ≡ takenOf s d) where
-          pub walk-bad : {p : ℕ} → w ≡ taken.Bad p → Walks limits text into stored (walked.Refused p k)
+        module _ (x : tag ≡ 69 → ⊥) {d : Record} {t : Bool} {bits′ : List ℕ} {w : Taken} (u : d ≡ recordOf tag (split 9 (take (e - at) (drop at text))))
+            (m : (t ≡ twiceIn (s .sheet) d bits) × (bits′ ≡ markedIn (s .sheet) d bits)) (v : w ≡ takenIf s t d) where
+          taken-is : takenOf s (r .so-far .marks) (recordOf tag (split 9 (take (e - at) (drop at text)))) ≡ w
+          taken-is =
+              ap (takenOf s (r .so-far .marks)) (sym u) ∙ sym (taken-alike (r .so-far .marks) bits (r .mapped) s d) ∙ ap (λ (b : Bool). takenIf s b d) (sym (m .0)) ∙ sym v
+
+          pub walk-bad : {p : ℕ} → w ≡ taken.Bad p → Walks limits text into stored bits′ (walked.Refused p k)
           walk-bad {p} z =
-              refused limits text into stored p k
+              refused limits text into stored bits′ p k
               (line-bad limits s (r .so-far) k (take (e - at) (drop at text)) (split 10 (drop (e + 1) text)) (readText limits text) this-line
               tag (o .due) (o .short) (not-last 10 (drop (e + 1) text)) (y ∙ o .counted) (check-good c rules-count h) x p
-              (ap (takenOf s) (sym u) ∙ sym v ∙ z))
+              (taken-is ∙ z))
 
-          pub walk-next : {s' : State} → w ≡ taken.Good s' → Reading limits text into stored s' (e + 1) (k + 1) filled
+          pub walk-next : {s' : State} → w ≡ taken.Good s' → Reading limits text into stored bits₀ bits′ s' (e + 1) (k + 1) filled
           walk-next {s'} z =
               let row = take (e - at) (drop at text) in
               record {
-                so-far = holding (r .so-far) tag (rulesOf tag limits (s .sheet .header) (split 9 row)) (split 9 row);
+                so-far = holding (r .so-far) (s .sheet) tag (rulesOf tag limits (s .sheet .header) (split 9 row)) (split 9 row);
                 inside = o .ended;
                 lines = omega (arith, r .lines, o .ordered);
                 low-room = omega (arith, c .low-most, c .upto, r .low-room, split-length 9 row, o .size, o .ordered);
@@ -496,8 +630,13 @@ module _ {limits : Limits} {text : List ℕ} {into after : Lent} {s : State} {at
                 lows = stored-both (r .lows) (check-low c rules-count h);
                 highs = stored-both (r .highs) (check-high c rules-count h);
                 tables = stored-both (r .tables) (check-listed c rules-count h);
+                mapped =
+                    rw (m .1, u)
+                    (next-bits (r .so-far .marks) bits (r .mapped) (s .sheet) tag (split 9 row)
+                    (marked-exists s t tag (split 9 row) s' (ap (takenIf s t) (sym u) ∙ sym v ∙ z)));
+                kept = ap length (m .1) ∙ marked-length (s .sheet) d bits ∙ r .kept;
                 rest =
                     line-next limits s (r .so-far) k row (split 10 (drop (e + 1) text)) (readText limits text) this-line
                     tag (o .due) (o .short) (not-last 10 (drop (e + 1) text)) (y ∙ o .counted) (check-good c rules-count h) x s'
-                    (ap (takenOf s) (sym u) ∙ sym v ∙ z);
+                    (taken-is ∙ z);
               }

@@ -11,7 +11,9 @@ use Rattle.sheet.specs.declared.Measured.{Measured}
 use Rattle.sheet.specs.declared.Measured.the-variants as measured
 use Rattle.sheet.specs.declared.Answer.{Answer}
 use Rattle.sheet.specs.declared.Answer.the-variants as answer
+use Rattle.contents.specs.declared.Reader.{Reader}
 use Rattle.contents.specs.Sheets.{Lent}
+use Rattle.contents.specs.Marks.{seenBy}
 use Rattle.sheet.specs.Reading.{Outcome, Contents, readText}
 use Rattle.sheet.specs.Reading.Outcome.{Gives, Refused}
 
@@ -46,7 +48,7 @@ abbrev pub fitted : Lent → Outcome Contents → Outcome Contents
 fitted into (Gives c) = cond (fits (c .held .lent) into) (Gives c) (Refused 8 0)
 fitted into (Refused k line) = Refused k line
 
--- Reading a text into buffers that hold these values
+-- Reading a text into buffers that hold these values. Who reads is not asked: "Illegal levels are refused alike for both readers"
 abbrev pub reading : Limits → List ℕ → Lent → Outcome Contents
 reading limits text into = fitted into (readText limits text)
 
@@ -55,10 +57,10 @@ abbrev pub sheetIn : Outcome Contents → Outcome Sheet
 sheetIn (Gives c) = Gives (c .sheet)
 sheetIn (Refused k line) = Refused k line
 
-abbrev pub lentAfter : Outcome Contents → Lent → Lent
-lentAfter (Gives c) into = c .held .lent
-lentAfter (Refused k line) into = into
+abbrev pub lentAfter : Reader → Outcome Contents → Lent → Lent
+lentAfter who (Gives c) into = seenBy who (c .held)
+lentAfter who (Refused k line) into = into
 
-pub record Reads (limits : Limits) (text : List ℕ) (into after : Lent) (r : Answer) : Type 0 where
+pub record Reads (limits : Limits) (who : Reader) (text : List ℕ) (into after : Lent) (r : Answer) : Type 0 where
   pub answer : answerSays r ≡ sheetIn (reading limits text into)
-  pub lent : after ≡ lentAfter (reading limits text into) into
+  pub lent : after ≡ lentAfter who (reading limits text into) into

@@ -1,5 +1,5 @@
 -- The lines of a sheet: the rule of each field, left to right, and what a good line says.
--- Tags are S (83), F (70), A (65), H (72), C (67), B (66), G (71) and E (69).
+-- Tags are S (83), F (70), A (65), H (72), C (67), B (66), G (71), N (78) and E (69).
 use Prim.Native.Nat.{ℕ, zero, suc}
 use mathlib.Core.List.{List, [], _∷_, _++_}
 use mathlib.Core.Bool.{Bool, true, false, cond}
@@ -20,10 +20,13 @@ use Rattle.contents.specs.declared.Hold.{Hold}
 use Rattle.contents.specs.declared.Hold.the-variants as hold
 use Rattle.contents.specs.declared.Header.{Header}
 use Rattle.contents.specs.declared.Channel.{Channel}
+use Rattle.contents.specs.declared.Mark.{Mark}
+use Rattle.contents.specs.declared.Sheet.{Sheet}
 use Rattle.sheet.specs.declared.line.Setting.the-variants as setting
 use Rattle.sheet.specs.declared.line.Record.{Record}
 use Rattle.sheet.specs.declared.line.Record.the-variants as line
-use Rattle.contents.specs.Sheets.{lent, Held, held}
+use Rattle.contents.specs.Sheets.{lent, Marked, marked, Held, held}
+use Rattle.contents.specs.Marks.{blockOf}
 use Rattle.contents.specs.Hold.{measured}
 
 -- "three iteration counts (0 to 1,000)", by the caller's limit
@@ -92,6 +95,14 @@ pairRules (suc n) fs = rule.Low ∷ rule.High (levelValue (levelOf (getD fs 0 []
 abbrev pub rangeRules : List (List ℕ) → List Rule
 rangeRules fs = rule.Tag 71 ∷ pairRules 64 (drop 1 fs)
 
+-- "A line `N` with channel, block row and block column (from 0)" (M-110): "after the whole line's form" it is seen whether there is such
+-- a block, so here any number will do, and a number has at most six digits
+abbrev pub anyNumber : Rule
+anyNumber = rule.Range 1 0 999999
+
+abbrev pub markRules : List Rule
+markRules = rule.Tag 78 ∷ anyNumber ∷ anyNumber ∷ anyNumber ∷ []
+
 -- "`E` alone ends it."
 abbrev pub endRules : List Rule
 endRules = rule.Tag 69 ∷ []
@@ -105,11 +116,12 @@ rulesOf tag limits h fs =
     (cond (eqb tag 83) (headerRules limits fs)
     (cond (eqb tag 70) roundingRules
     (cond (eqb tag 65) startRules
-    (cond (eqb tag 72) (holdRules h) endRules))))))
+    (cond (eqb tag 72) (holdRules h)
+    (cond (eqb tag 78) markRules endRules)))))))
 
 -- how many fields that line must have
 unfoldable pub fieldCount : ℕ → ℕ
-fieldCount tag = cond (eqb tag 66) 65 (cond (eqb tag 71) 129 (cond (eqb tag 67) 69 (cond (eqb tag 83) 16 (cond (eqb tag 70) 2 (cond (eqb tag 65) 2 (cond (eqb tag 72) 4 1))))))
+fieldCount tag = cond (eqb tag 66) 65 (cond (eqb tag 71) 129 (cond (eqb tag 67) 69 (cond (eqb tag 83) 16 (cond (eqb tag 70) 2 (cond (eqb tag 65) 2 (cond (eqb tag 72) 4 (cond (eqb tag 78) 4 1)))))))
 
 -- "fields left to right": the fault of the first bad field, if there is one
 abbrev pub orElse : Option ℕ → Option ℕ → Option ℕ
@@ -135,12 +147,20 @@ lineAdds add (r ∷ rs) (f ∷ fs) = add (fieldOf r f) ++ lineAdds add rs fs
 abbrev pub kindOf : ℕ → List Bool
 kindOf tag = cond (eqb tag 66) (false ∷ []) (cond (eqb tag 71) (true ∷ []) [])
 
--- what was read so far, and a line more
-abbrev pub holding : Held → ℕ → List Rule → List (List ℕ) → Held
-holding h tag rs fs =
+-- what a line N marks
+unfoldable pub markOf : List (List ℕ) → Mark
+markOf fs = record { channel = numberAt fs 1; row = numberAt fs 2; column = numberAt fs 3 }
+
+abbrev pub marksIn : Sheet → ℕ → List (List ℕ) → List Marked
+marksIn s tag fs = cond (eqb tag 78) (marked (markOf fs) (blockOf s (markOf fs)) ∷ []) []
+
+-- what was read so far of the sheet s, and a line more
+abbrev pub holding : Held → Sheet → ℕ → List Rule → List (List ℕ) → Held
+holding h s tag rs fs =
     held
     (lent (h .lent .lows ++ lineAdds lowsIn rs fs) (h .lent .highs ++ lineAdds highsIn rs fs) (h .lent .tables ++ lineAdds tablesIn rs fs))
     (h .ranged ++ kindOf tag)
+    (h .marks ++ marksIn s tag fs)
 
 -- "A record is a header, channel or block line": what a good line holds besides
 unfoldable pub headerOf : List (List ℕ) → Header
@@ -179,4 +199,5 @@ recordOf tag fs =
     (cond (eqb tag 67) (line.Channel (channelOf fs))
     (cond (eqb tag 70) (line.Setting (setting.Rounding (choiceOf 116 (getD fs 1 []))))
     (cond (eqb tag 65) (line.Setting (setting.Start (choiceOf 109 (getD fs 1 []))))
-    (cond (eqb tag 72) (line.Setting (setting.Hold (holdOf fs))) line.Block))))
+    (cond (eqb tag 72) (line.Setting (setting.Hold (holdOf fs)))
+    (cond (eqb tag 78) (line.Mark (markOf fs)) line.Block)))))

@@ -1,7 +1,7 @@
 -- What a whole text means: the sheet with its levels and tables, or the first refusal with its line.
 use Prim.Native.Nat.{ℕ, _+_, _-_, _*_, _/_}
 use mathlib.Core.List.{List, [], _∷_}
-use mathlib.Core.Bool.{Bool, true, false, cond, _&&_}
+use mathlib.Core.Bool.{Bool, true, false, not, cond, _&&_}
 use mathlib.Core.Option.{Option, none, some}
 use lib.ListN.{length, getD}
 use lib.Dec.{eqb, leb, ltb}
@@ -15,6 +15,7 @@ use Rattle.contents.specs.declared.Hold.{Hold}
 use Rattle.contents.specs.declared.Hold.the-variants as hold
 use Rattle.contents.specs.declared.Header.{Header}
 use Rattle.contents.specs.declared.Channel.{Channel}
+use Rattle.contents.specs.declared.Mark.{Mark}
 use Rattle.contents.specs.declared.Settings.{Settings}
 use Rattle.contents.specs.declared.Sheet.{Sheet}
 use Rattle.sheet.specs.declared.line.Setting.{Setting}
@@ -25,7 +26,8 @@ use Rattle.sheet.specs.declared.state.State.{State}
 use Rattle.sheet.specs.declared.state.Taken.{Taken}
 use Rattle.sheet.specs.declared.state.Taken.the-variants as taken
 use Rattle.sheet.specs.Lines.{rulesOf, fieldsFault, holding, recordOf}
-use Rattle.contents.specs.Sheets.{Held, nothing, noHeader, noSettings, noChannel}
+use Rattle.contents.specs.Marks.{blockOf, hasBlock, among}
+use Rattle.contents.specs.Sheets.{Marked, Held, nothing, noHeader, noSettings, noChannel}
 
 -- What a call or a text gives: its values, or a number of the paper's table and the line, counted from 1
 pub data Outcome (A : Type 0) : Type 0 where
@@ -79,9 +81,13 @@ isSetting s fs i tag = letter tag (getD fs 0 []) && mayStand i s
 abbrev pub isRange : State → List (List ℕ) → Bool
 isRange s fs = letter 71 (getD fs 0 []) && (s .begun && ltb 0 (s .left))
 
+-- "`N` .. may stand, any number of times, after the last block line": where E is due
+abbrev pub isMark : State → List (List ℕ) → Bool
+isMark s fs = letter 78 (getD fs 0 []) && eqb (dueTag s) 69
+
 -- The tag that a line with the fields fs is read by: its own where it may stand here, else the due one, whose rule then gives 1
 unfoldable pub lineTag : State → List (List ℕ) → ℕ
-lineTag s fs = cond (isSetting s fs 1 70) 70 (cond (isSetting s fs 2 65) 65 (cond (isSetting s fs 3 72) 72 (cond (isRange s fs) 71 (dueTag s))))
+lineTag s fs = cond (isSetting s fs 1 70) 70 (cond (isSetting s fs 2 65) 65 (cond (isSetting s fs 3 72) 72 (cond (isRange s fs) 71 (cond (isMark s fs) 78 (dueTag s)))))
 
 -- one more setting
 abbrev pub withSetting : Settings → Setting → Settings
@@ -112,12 +118,32 @@ opened s c = record { begun = true; sheet = placed (s .sheet) (s .read) c; read 
 abbrev pub covers : Header → Channel → Bool
 covers h c = leb (c .width * c .across) (h .width) && leb (c .height * c .down) (h .height)
 
--- The state after a line whose fields are good, or its fault: "then cover (2)"
-unfoldable pub takenOf : State → Record → Taken
-takenOf s (line.Header h) = taken.Good (record { begun = true; sheet = headed h; read = 0; left = 0 })
-takenOf s (line.Channel c) = cond (covers (s .sheet .header) c) (taken.Good (opened s c)) (taken.Bad 2)
-takenOf s (line.Setting x) = taken.Good (record { begun = s .begun; sheet = settled (s .sheet) (withSetting (s .sheet .settings) x); read = s .read; left = s .left })
-takenOf s line.Block = taken.Good (record { begun = s .begun; sheet = s .sheet; read = s .read; left = s .left - 1 })
+-- A mark's block is one of the sheet. Of no sheet that a caller allows are there more than 3 × 64 × 64 blocks, as many as are remembered
+abbrev pub mostBlocks : ℕ
+mostBlocks = 12288
+
+unfoldable pub exists : Sheet → Mark → Bool
+exists s m = hasBlock s m && ltb (blockOf s m) mostBlocks
+
+-- The state after a line whose fields are good, or its fault: "then cover (2)"; "18 "mark", channel or block absent or marked twice", where
+-- `twice` says whether the block was marked before
+unfoldable pub takenIf : State → Bool → Record → Taken
+takenIf s twice (line.Header h) = taken.Good (record { begun = true; sheet = headed h; read = 0; left = 0 })
+takenIf s twice (line.Channel c) = cond (covers (s .sheet .header) c) (taken.Good (opened s c)) (taken.Bad 2)
+takenIf s twice (line.Setting x) = taken.Good (record { begun = s .begun; sheet = settled (s .sheet) (withSetting (s .sheet .settings) x); read = s .read; left = s .left })
+takenIf s twice line.Block = taken.Good (record { begun = s .begun; sheet = s .sheet; read = s .read; left = s .left - 1 })
+takenIf s twice (line.Mark m) = cond (exists (s .sheet) m && not twice) (taken.Good s) (taken.Bad 18)
+
+-- its block is marked already
+abbrev pub isTwice : Sheet → List Marked → Record → Bool
+isTwice s ms (line.Header h) = false
+isTwice s ms (line.Channel c) = false
+isTwice s ms (line.Setting x) = false
+isTwice s ms line.Block = false
+isTwice s ms (line.Mark m) = among (blockOf s m) ms
+
+abbrev pub takenOf : State → List Marked → Record → Taken
+takenOf s ms rec = takenIf s (isTwice (s .sheet) ms rec) rec
 
 -- The line p is the last piece: unended, or nothing at all
 abbrev pub isLast : List (List ℕ) → Bool
@@ -158,7 +184,7 @@ readFrom limits s h at (p ∷ rest) =
     onFault (lineFault rs p rest) at
     (cond (eqb tag 69)
     (cond (nothingLeft rest) (contents (s .sheet) h) (Refused 7 (at + 1)))
-    (onTaken (takenOf s (recordOf tag fs)) at (λ t. readFrom limits t (holding h tag rs fs) (at + 1) rest)))
+    (onTaken (takenOf s (h .marks) (recordOf tag fs)) at (λ t. readFrom limits t (holding h (s .sheet) tag rs fs) (at + 1) rest)))
 
 -- What a caller may allow: a side limit that could be a side, and a limit of iterations "from 0 to 1,000" (M-106)
 abbrev pub allowed : Limits → Bool

@@ -1,10 +1,12 @@
 // The sheet text: how long its buffers are, and what it says.
+mod hide;
 mod line;
 mod state;
 mod walk;
 
 use crate::walk::Walked;
 use contents::Limits;
+use contents::Reader;
 use contents::Sheet;
 ghost use mathlib.Core.Path.{_≡_};
 ghost use Rattle.contents.specs.Sheets.{lent};
@@ -31,7 +33,8 @@ fn count(text: &[u8], limits: Limits) -> Walked
     let mut lows = [0i16; 1];
     let mut highs = [0i16; 1];
     let mut tables = [0u16; 1];
-    walk::walk(text, limits, &mut lows, &mut highs, &mut tables)
+    let mut bits = [0u8; 12288];
+    walk::walk(text, limits, &mut lows, &mut highs, &mut tables, &mut bits)
 }
 
 // The lengths that reading needs, or the refusal that it gives. A side or an iteration count above the limit is refused, and so
@@ -55,17 +58,18 @@ pub fn measure(text: &[u8], limits: Limits) -> Measured
 }
 
 // Reads a sheet into the lent buffers: of each place the lowest and the highest level, and the tables. They are written only
-// once the whole text and all lengths are good.
+// once the whole text and all lengths are good. To a partner all levels of a marked block but the first are 0.
 // Ruled out: a level stored before a later line is refused; a range's high in the lows; 8 given for a text that is itself
-// refused.
+// refused; a level of a marked block, but the first, shown to a partner.
 pub fn read(
     text: &[u8],
     limits: Limits,
+    who: Reader,
     lows: &mut [i16],
     highs: &mut [i16],
     tables: &mut [u16],
 ) -> Answer
-    ensures { λ r. ⌜ Reads limits (now (text .entry)) (lent (now (lows .entry)) (now (highs .entry)) (now (tables .entry))) (lent (now (lows .exit)) (now (highs .exit)) (now (tables .exit))) r ⌝ }
+    ensures { λ r. ⌜ Reads limits who (now (text .entry)) (lent (now (lows .entry)) (now (highs .entry)) (now (tables .entry))) (lent (now (lows .exit)) (now (highs .exit)) (now (tables .exit))) r ⌝ }
 {
     let counted = count(text, limits);
     match counted {
@@ -85,13 +89,18 @@ pub fn read(
             if m != tables.len() {
                 return Answer::Refused { number: 8, line: 0 };
             }
-            match walk::walk(text, limits, lows, highs, tables) {
+            let mut bits = [0u8; 12288];
+            match walk::walk(text, limits, lows, highs, tables, &mut bits) {
                 Walked::Sheet {
                     sheet,
                     lows: _,
                     highs: _,
                     tables: _,
-                } => Answer::Sheet(sheet),
+                } => {
+                    hide::show(who, &bits, lows);
+                    hide::show(who, &bits, highs);
+                    Answer::Sheet(sheet)
+                }
                 Walked::Refused { number, line } => Answer::Refused { number, line },
             }
         }

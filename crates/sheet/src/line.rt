@@ -4,6 +4,7 @@ use contents::Choice;
 use contents::Header;
 use contents::Hold;
 use contents::Limits;
+use contents::Mark;
 use contents::measured_by;
 use text::field;
 use text::field::Field;
@@ -15,7 +16,7 @@ ghost use mathlib.Core.List.{[]};
 ghost use Prim.Native.Nat.{_<_};
 ghost use lib.ListN.{getD};
 ghost use Rattle.text.specs.Pieces.{split};
-ghost use Rattle.sheet.specs.Lines.{headerRules, choiceRules, choiceOf, holdRules, holdOf, channelRules, blockRules, rulesOf, fieldCount, headerOf, channelOf, recordOf};
+ghost use Rattle.sheet.specs.Lines.{headerRules, choiceRules, choiceOf, holdRules, holdOf, markRules, markOf, channelRules, blockRules, rulesOf, fieldCount, headerOf, channelOf, recordOf};
 ghost use Rattle.sheet.specs.Walk.{saidBefore, rangeRule};
 
 // A setting's line: F, A or H.
@@ -31,6 +32,7 @@ pub enum Record {
     Setting(Setting),
     Channel(Channel),
     Block,
+    Mark(Mark),
 }
 
 // How many fields a line has.
@@ -56,6 +58,9 @@ pub fn field_count(tag: u8) -> usize
         return 2;
     }
     if tag == b'H' {
+        return 4;
+    }
+    if tag == b'N' {
         return 4;
     }
     1
@@ -180,6 +185,21 @@ fn hold_rule(i: usize, header: Header) -> Rule
     }
 }
 
+// A mark: three numbers, with no range of their own.
+fn mark_rule(i: usize) -> Rule
+    requires { ⌜ i < 4 ⌝ }
+    ensures { λ r. ⌜ r ≡ getD markRules i (Rule.Tag 0) ⌝ }
+{
+    if i == 0 {
+        return Rule::Tag(b'N');
+    }
+    Rule::Range {
+        fault: 1,
+        low: 0,
+        high: 999999,
+    }
+}
+
 // The rule of field i of a line after this header. The field before it said `last`, so that a rule can depend on it and nothing is read twice.
 pub fn rule_at(tag: u8, i: usize, limits: Limits, header: Header, last: Field, row: &[u8]) -> Rule
     requires { ⌜ (i < fieldCount tag) × (last ≡ saidBefore (rulesOf tag limits header (split 9 (now row))) (split 9 (now row)) i) ⌝ }
@@ -205,6 +225,9 @@ pub fn rule_at(tag: u8, i: usize, limits: Limits, header: Header, last: Field, r
     }
     if tag == b'H' {
         return hold_rule(i, header);
+    }
+    if tag == b'N' {
+        return mark_rule(i);
     }
     Rule::Tag(b'E')
 }
@@ -268,6 +291,16 @@ fn hold_of(row: &[u8]) -> Hold
     )
 }
 
+fn mark_of(row: &[u8]) -> Mark
+    ensures { λ r. ⌜ r ≡ markOf (split 9 (now (row .entry))) ⌝ }
+{
+    Mark {
+        channel: number::number_at(row, 1),
+        row: number::number_at(row, 2),
+        column: number::number_at(row, 3),
+    }
+}
+
 // What a good line holds.
 pub fn record_of(tag: u8, row: &[u8]) -> Record
     ensures { λ r. ⌜ r ≡ recordOf tag (split 9 (now (row .entry))) ⌝ }
@@ -286,6 +319,9 @@ pub fn record_of(tag: u8, row: &[u8]) -> Record
     }
     if tag == b'H' {
         return Record::Setting(Setting::Hold(hold_of(row)));
+    }
+    if tag == b'N' {
+        return Record::Mark(mark_of(row));
     }
     Record::Block
 }

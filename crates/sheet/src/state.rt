@@ -5,17 +5,21 @@ use contents::Channel;
 use contents::Choice;
 use contents::Header;
 use contents::Hold;
+use contents::Mark;
 use contents::Settings;
 use contents::Sheet;
 use contents::Weight;
+use contents::block_of;
+use contents::has_block;
 use text::field;
 ghost use mathlib.Core.Path.{_≡_};
-ghost use mathlib.Core.Bool.{cond};
+ghost use mathlib.Core.Bool.{cond, false};
 ghost use Rattle.contents.specs.Sheets.{noHeader, noChannel};
 ghost use Prim.Native.Nat.{_<_};
-ghost use Rattle.sheet.specs.Walk.{Due};
+ghost use lib.ListN.{length};
+ghost use Rattle.sheet.specs.Walk.{Due, twiceIn, markedIn};
 ghost use Rattle.text.specs.Pieces.{split};
-ghost use Rattle.sheet.specs.Reading.{blank, headed, placed, dueTag, unsaid, noHold, lastSaid, mayStand, isSetting, isRange, lineTag, withSetting, settled, takenOf};
+ghost use Rattle.sheet.specs.Reading.{mostBlocks, exists, blank, headed, placed, dueTag, unsaid, noHold, lastSaid, mayStand, isSetting, isRange, isMark, lineTag, withSetting, settled, takenIf};
 
 // The sheet so far: whether the header was read, how many channels were, and how many blocks of the last are still to come.
 pub struct State {
@@ -191,6 +195,16 @@ fn is_range(s: State, row: &[u8]) -> bool
     false
 }
 
+// Is this the line of a mark, and may it stand here?
+fn is_mark(s: State, row: &[u8]) -> bool
+    ensures { λ r. ⌜ r ≡ isMark s (split 9 (now (row .entry))) ⌝ }
+{
+    if field::letter_at(row, 0, b'N') {
+        return due(s) == b'E';
+    }
+    false
+}
+
 // The tag that the next line is read by: its own where it may stand here, else the due one.
 pub fn expected(s: State, row: &[u8]) -> u8
     ensures { λ r. ⌜ r ≡ lineTag s (split 9 (now (row .entry))) ⌝ }
@@ -206,6 +220,9 @@ pub fn expected(s: State, row: &[u8]) -> u8
     }
     if is_range(s, row) {
         return b'G';
+    }
+    if is_mark(s, row) {
+        return b'N';
     }
     due(s)
 }
@@ -283,7 +300,7 @@ fn place(sheet: Sheet, j: u32, c: Channel) -> Sheet
 // The next channel's line. Blocks and cover are products of 64 bits, which hold every product of two u32.
 fn take_channel(s: State, c: Channel) -> Taken
     requires { ⌜ s .read < s .sheet .header .channels ⌝ }
-    ensures { λ r. ⌜ r ≡ takenOf s (Record.Channel c) ⌝ }
+    ensures { λ r. ⌜ r ≡ takenIf s false (Record.Channel c) ⌝ }
 {
     let sheet = s.sheet;
     let h = sheet.header;
@@ -306,10 +323,62 @@ fn take_channel(s: State, c: Channel) -> Taken
     })
 }
 
-// The state after a good line, or the number of its fault.
-pub fn take_record(s: State, rec: Record) -> Taken
+// Is a mark's block one of the sheet?
+fn is_block(s: Sheet, m: Mark) -> bool
+    ensures { λ r. ⌜ r ≡ exists s m ⌝ }
+{
+    if has_block(s, m) {
+        return block_of(s, m) < 12288;
+    }
+    false
+}
+
+// Marks a block in the map of all blocks. Was it marked before?
+fn mark_one(s: Sheet, m: Mark, bits: &mut [u8]) -> bool
+    requires { ⌜ length (now bits) ≡ mostBlocks ⌝ }
+    ensures { λ r. ⌜ (r ≡ twiceIn s (Record.Mark m) (now (bits .entry))) × (now (bits .exit) ≡ markedIn s (Record.Mark m) (now (bits .entry))) ⌝ }
+{
+    if is_block(s, m) {
+        let b = block_of(s, m) as usize;
+        let old = bits[b];
+        bits[b] = 1;
+        return old != 0;
+    }
+    false
+}
+
+// Marks the block of a line N. Was it marked before?
+pub fn mark_block(s: Sheet, rec: Record, bits: &mut [u8]) -> bool
+    requires { ⌜ length (now bits) ≡ mostBlocks ⌝ }
+    ensures { λ r. ⌜ (r ≡ twiceIn s rec (now (bits .entry))) × (now (bits .exit) ≡ markedIn s rec (now (bits .entry))) ⌝ }
+{
+    match rec {
+        Record::Header(_) => false,
+        Record::Setting(_) => false,
+        Record::Channel(_) => false,
+        Record::Block => false,
+        Record::Mark(m) => mark_one(s, m, bits),
+    }
+}
+
+// The state after a mark, where it is known whether its block was marked before.
+fn take_mark(s: State, twice: bool, m: Mark) -> Taken
+    ensures { λ r. ⌜ r ≡ takenIf s twice (Record.Mark m) ⌝ }
+{
+    let sheet = s.sheet;
+    if is_block(sheet, m) {
+        if twice {
+            return Taken::Bad(18);
+        }
+        return Taken::Good(s);
+    }
+    Taken::Bad(18)
+}
+
+// The state after a good line, or the number of its fault. For a mark it is known whether its block was marked before.
+pub fn take_record(s: State, twice: bool, rec: Record) -> Taken
     requires { ⌜ Due s rec ⌝ }
-    ensures { λ r. ⌜ r ≡ takenOf s rec ⌝ }
+    ensures { λ r. ⌜ r ≡ takenIf s twice rec ⌝ }
 {
     match rec {
         Record::Header(h) => {
@@ -339,5 +408,6 @@ pub fn take_record(s: State, rec: Record) -> Taken
             t.left = s.left - 1;
             Taken::Good(t)
         }
+        Record::Mark(m) => take_mark(s, twice, m),
     }
 }

@@ -12,7 +12,8 @@ ghost use mathlib.Core.List.{[], _∷_};
 ghost use Prim.Native.Nat.{_+_, _^_, _<_};
 ghost use Rattle.text.specs.Fields.{lowsIn, highsIn, tablesIn};
 ghost use Rattle.contents.specs.Sheets.{lent};
-ghost use Rattle.sheet.specs.Reading.{allowed};
+ghost use lib.ListN.{replicate};
+ghost use Rattle.sheet.specs.Reading.{mostBlocks, allowed};
 ghost use Rattle.sheet.specs.Walk.{Stored, Walks};
 
 // What a walk of a text gives: the sheet with how many lows, highs and quantisers it has, or a refusal and its line.
@@ -97,15 +98,17 @@ fn put_quantiser(f: Field, tables: &mut [u16], at: usize) -> usize
 }
 
 // Reads a whole text and stops at the first bad field of the first bad line. Levels and quantisers go to the lent buffers as
-// far as there is room.
+// far as there is room, and the marks to a map of all blocks.
 pub fn walk(
     text: &[u8],
     limits: Limits,
     lows: &mut [i16],
     highs: &mut [i16],
     tables: &mut [u16],
+    bits: &mut [u8],
 ) -> Walked
-    ensures { λ r. ⌜ Walks limits (now (text .entry)) (lent (now (lows .entry)) (now (highs .entry)) (now (tables .entry))) (lent (now (lows .exit)) (now (highs .exit)) (now (tables .exit))) r ⌝ }
+    requires { ⌜ now bits ≡ replicate mostBlocks 0 ⌝ }
+    ensures { λ r. ⌜ Walks limits (now (text .entry)) (lent (now (lows .entry)) (now (highs .entry)) (now (tables .entry))) (lent (now (lows .exit)) (now (highs .exit)) (now (tables .exit))) (now (bits .exit)) r ⌝ }
 {
     if !are_allowed(limits) {
         return Walked::Refused { number: 2, line: 0 };
@@ -152,7 +155,7 @@ pub fn walk(
             a = e + 1;
             i += 1;
         }
-        // nothing after E; cover after a channel's fields
+        // nothing after E; cover after a channel's fields, a mark's block after its line's form
         if tag == b'E' {
             if end + 1 == text.len() {
                 break 'lines Walked::Sheet {
@@ -168,7 +171,9 @@ pub fn walk(
                 line: next,
             };
         }
-        match state::take_record(state, line::record_of(tag, row)) {
+        let rec = line::record_of(tag, row);
+        let twice = state::mark_block(sheet, rec, bits);
+        match state::take_record(state, twice, rec) {
             Taken::Good(next) => {
                 state = next;
             }

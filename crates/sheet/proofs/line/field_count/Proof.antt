@@ -6,4 +6,4 @@ use Rattle.sheet.proofs.line.field_count.Tie as tie
 pub field-count-spec : {M : Type 1} → statement M
 field-count-spec =
     tie.close
-    (tie.spec (λ c. search tags) (λ c. search tags) (λ c. search tags) (λ c. search tags) (λ c. search tags) (λ c. search tags) (λ c. search tags) (λ c. search tags))
+    (tie.spec (λ c. search tags) (λ c. search tags) (λ c. search tags) (λ c. search tags) (λ c. search tags) (λ c. search tags) (λ c. search tags) (λ c. search tags) (λ c. search tags))

@@ -7,4 +7,4 @@ use Rattle.sheet.proofs.line.record_of.Tie as tie
 pub record-of-spec : {M : Type 1} → statement M
 record-of-spec =
     tie.close
-    (tie.spec (λ c κs. search needs) (λ c. search tags) (λ c κs. search needs) (λ c. search tags) (λ c κs. search needs) (λ c. search tags) (λ c κs. search needs) (λ c. search tags) (λ c κs. search needs) (λ c. search tags) (λ c. search tags))
+    (tie.spec (λ c κs. search needs) (λ c. search tags) (λ c κs. search needs) (λ c. search tags) (λ c κs. search needs) (λ c. search tags) (λ c κs. search needs) (λ c. search tags) (λ c κs. search needs) (λ c. search tags) (λ c κs. search needs) (λ c. search tags) (λ c. search tags))

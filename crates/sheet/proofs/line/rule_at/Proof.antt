@@ -6,4 +6,4 @@ use Rattle.sheet.proofs.line.rule_at.Tie as tie
 pub rule-at-spec : {M : Type 1} → statement M
 rule-at-spec =
     tie.close
-    (tie.spec (λ c κs. search places) (λ c. search places) (λ c κs. search places) (λ c. search places) (λ c κs. search places) (λ c. search places) (λ c κs. search places) (λ c. search places) (λ c κs. search places) (λ c. search places) (λ c κs. search places) (λ c. search places) (λ c κs. search places) (λ c. search places) (λ c. search places))
+    (tie.spec (λ c κs. search places) (λ c. search places) (λ c κs. search places) (λ c. search places) (λ c κs. search places) (λ c. search places) (λ c κs. search places) (λ c. search places) (λ c κs. search places) (λ c. search places) (λ c κs. search places) (λ c. search places) (λ c κs. search places) (λ c. search places) (λ c κs. search places) (λ c. search places) (λ c. search places))

@@ -7,4 +7,4 @@ use Rattle.sheet.proofs.state.expected.Tie as tie
 pub expected-spec : {M : Type 1} → statement M
 expected-spec =
     tie.close
-    (tie.spec (λ c κs. search needs) (λ c. search nexts) (λ c κs. search needs) (λ c. search nexts) (λ c κs. search needs) (λ c. search nexts) (λ c κs. search needs) (λ c. search nexts) (λ c κs. search needs) (λ c. search nexts))
+    (tie.spec (λ c κs. search needs) (λ c. search nexts) (λ c κs. search needs) (λ c. search nexts) (λ c κs. search needs) (λ c. search nexts) (λ c κs. search needs) (λ c. search nexts) (λ c κs. search needs) (λ c. search nexts) (λ c κs. search needs) (λ c. search nexts))

@@ -7,4 +7,4 @@ use Rattle.sheet.proofs.state.take_record.Tie as tie
 pub take-record-spec : {M : Type 1} → statement M
 take-record-spec =
     tie.close
-    (tie.spec (λ c. search needs) (λ c κs. search needs) (λ c. search needs) (λ c κs. search needs) (λ c κs. search needs) (λ c. search needs) (λ c κs. search takes) (λ c. search needs) (λ c. search takes) (λ c. search takes) (λ c. search takes) (λ c. search takes) (λ c. search takes))
+    (tie.spec (λ c. search needs) (λ c κs. search needs) (λ c. search needs) (λ c κs. search needs) (λ c κs. search needs) (λ c. search needs) (λ c κs. search takes) (λ c. search needs) (λ c. search takes) (λ c. search needs) (λ c κs. search needs) (λ c. search takes) (λ c. search takes) (λ c. search takes) (λ c. search takes) (λ c. search takes))
