@@ -26,6 +26,7 @@ use Rattle.text.proofs.SpellingLaws.{level-canonical, level-length}
 use Rattle.text.proofs.JoinLaws.{Within, joined-length}
 use Rattle.contents.specs.declared.Limits.{Limits}
 use Rattle.contents.specs.declared.Header.{Header}
+use Rattle.contents.specs.declared.Sheet.{Sheet}
 use Rattle.contents.specs.Sheets.{lent, Held, held}
 use Rattle.contents.specs.Legal.{LegalLevel, LegalLevels, LegalRanges, LegalKinds}
 use Rattle.sheet.specs.declared.line.Record.the-variants as line
@@ -47,7 +48,7 @@ pub record Block (r : Bool) (ls hs : List ℤ) : Type 0 where
 
 -- what is held, and a block more
 abbrev pub withBlock : Held → Bool → List ℤ → List ℤ → Held
-withBlock H r ls hs = held (lent (H .lent .lows ++ ls) (H .lent .highs ++ hs) (H .lent .tables)) (H .ranged ++ r ∷ [])
+withBlock H r ls hs = held (lent (H .lent .lows ++ ls) (H .lent .highs ++ hs) (H .lent .tables)) (H .ranged ++ r ∷ []) (H .marks)
 
 -- n good levels
 record Levels (n : ℕ) (fs : List (List ℕ)) : Type 0 where
@@ -148,7 +149,7 @@ pub record BlockSaid (r : Bool) (g : ℕ) (rs : List Rule) (p : List ℕ) : Type
   pub hs : List ℤ
   pub block : Block r ls hs
   pub row : joined (blockFields r ls hs) ≡ p
-  pub holds : (H : Held) → holding H g rs (split 9 p) ≡ withBlock H r ls hs
+  pub holds : (H : Held) (s : Sheet) → holding H s g rs (split 9 p) ≡ withBlock H r ls hs
 
 one-level : (p : List ℕ) → length (split 9 p) ≡ 65 → firstFault blockRules (split 9 p) ≡ none → BlockSaid false 66 blockRules p
 one-level p n e =
@@ -159,7 +160,7 @@ one-level p n e =
       hs = a .zs;
       block = record { low-count = a .count; high-count = a .count; lows = a .legal; highs = a .legal; ranges = same-ranges (a .zs); alike = λ q. refl };
       row = row-as p (blockFields false (a .zs) (a .zs)) (field-at fs 0 _ _ (omega arith) (tag-as (getD fs 0 []) 66 (fault-at blockRules fs 0 e (omega arith) (omega arith))) (a .texts));
-      holds = λ H.
+      holds = λ H s.
           rw (
             lows-skip (rule.Tag 66 ∷ []) (replicate 64 rule.Level) fs refl,
             highs-skip (rule.Tag 66 ∷ []) (replicate 64 rule.Level) fs refl,
@@ -167,6 +168,7 @@ one-level p n e =
             a .lows,
             a .highs,
             append-nil (H .lent .tables),
+            append-nil (H .marks),
           );
     }
 
@@ -179,7 +181,7 @@ one-range p n e =
       hs = a .hs;
       block = record { low-count = a .low-count; high-count = a .high-count; lows = a .low-legal; highs = a .high-legal; ranges = a .ranges; alike = λ q. let z : _≡_ {A = ℕ} 0 1 = cc in let y : ⊥ = omega arith in absurd y };
       row = row-as p (blockFields true (a .ls) (a .hs)) (field-at fs 0 _ _ (omega arith) (tag-as (getD fs 0 []) 71 (fault-at (rangeRules fs) fs 0 e (omega arith) (omega arith))) (a .texts));
-      holds = λ H.
+      holds = λ H s.
           rw (
             lows-skip (rule.Tag 71 ∷ []) (pairRules 64 (drop 1 fs)) fs refl,
             highs-skip (rule.Tag 71 ∷ []) (pairRules 64 (drop 1 fs)) fs refl,
@@ -188,6 +190,7 @@ one-range p n e =
             a .highs,
             a .tables,
             append-nil (H .lent .tables),
+            append-nil (H .marks),
           );
     }
 

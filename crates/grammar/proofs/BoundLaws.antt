@@ -46,11 +46,11 @@ from-line limits s H at m (p ∷ rest) h =
     let tag = lineTag s fs in
     let rs = rulesOf tag limits (s .sheet .header) fs in
     let E = cond (nothingLeft rest) (contents (s .sheet) H) (Refused 7 (at + 1)) in
-    let more = onTaken (takenOf s (recordOf tag fs)) at (λ t. readFrom limits t (holding H tag rs fs) (at + 1) rest) in
+    let more = onTaken (takenOf s (H .marks) (recordOf tag fs)) at (λ t. readFrom limits t (holding H (s .sheet) tag rs fs) (at + 1) rest) in
     on-fault (lineFault rs p rest) at m (cond (eqb tag 69) E more) (omega arith)
     (on-cond (eqb tag 69) m E more (ended rest s H at m (omega arith))
-    (on-taken (takenOf s (recordOf tag fs)) at m (λ t. readFrom limits t (holding H tag rs fs) (at + 1) rest) (omega arith)
-    (λ t. from-line limits t (holding H tag rs fs) (at + 1) m rest (omega arith))))
+    (on-taken (takenOf s (H .marks) (recordOf tag fs)) at m (λ t. readFrom limits t (holding H (s .sheet) tag rs fs) (at + 1) rest) (omega arith)
+    (λ t. from-line limits t (holding H (s .sheet) tag rs fs) (at + 1) m rest (omega arith))))
 
 pub line-bound : (limits : Limits) (text : List ℕ) → LineTo (length text + 2) (readText limits text)
 unfolding readText

@@ -28,18 +28,20 @@ use Rattle.contents.specs.declared.Sheet.{Sheet}
 use Rattle.sheet.specs.declared.state.State.{State}
 use Rattle.sheet.specs.declared.state.Taken.the-variants as taken
 use Rattle.sheet.specs.Lines.{headerRules, channelRules, endRules, rulesOf, firstFault, lineAdds, headerOf, channelOf, recordOf}
-use Rattle.contents.specs.Sheets.{Lent, lent, Held, held, nothing, channelsOf}
-use Rattle.sheet.specs.Reading.{Contents, contents, headed, blank, lastSaid, lineTag, withSetting, settled, placed, opened, covers, takenOf, nothingLeft, onTaken, readFrom, allowed, readText}
+use Rattle.contents.specs.Marks.{blockOf}
+use Rattle.contents.specs.Sheets.{Lent, lent, Marked, marked, Held, held, nothing, channelsOf}
+use Rattle.sheet.specs.Reading.{Contents, contents, headed, blank, lastSaid, lineTag, withSetting, settled, placed, opened, covers, takenIf, takenOf, nothingLeft, onTaken, readFrom, allowed, readText}
 use Rattle.sheet.specs.Reading.Outcome.{Gives, Refused}
-use Rattle.grammar.specs.Written.{headerFields, channelFields, blockFields, endFields, settingLines, blockLines, dropHeld, channelLines, written}
+use Rattle.grammar.specs.Written.{headerFields, channelFields, blockFields, endFields, settingLines, blockLines, dropHeld, channelLines, markLines, written}
 use Rattle.grammar.specs.Accepts.{Accepts}
 use Rattle.grammar.specs.Equal.{EqualPairs}
 use Rattle.sheet.proofs.StateLaws.{SettingTag, BlockTag, Stands, stands, unbegun, first-tag}
-use Rattle.sheet.proofs.StateLaws.Stands.{Header-line, Setting-line, Block-line, Channel-line, End-line}
+use Rattle.sheet.proofs.StateLaws.Stands.{Header-line, Setting-line, Block-line, Channel-line, End-line, Mark-line}
 use Rattle.sheet.proofs.GoodLines.{or-left, or-right, fault-at, fault-drop, holds-none, withTable, holds-table, all-quantisers, field-at, no-more, row-as}
 use Rattle.grammar.proofs.SettingLaws.{placeOf, Agree, linesAfter, now-said, none-after, one-line, one-kept}
 use Rattle.grammar.proofs.BlockLaws.{withBlock}
-use Rattle.grammar.proofs.LegalLaws.{header-is-legal, few, line-is, setting-read, lessBlock, block-read, refusal, legal, legal-blocks}
+use Rattle.grammar.proofs.MarkLaws.{withMark}
+use Rattle.grammar.proofs.LegalLaws.{header-is-legal, few, some-channel, line-is, setting-read, lessBlock, block-read, mark-read, refusal, legal, legal-blocks, legal-marks}
 use Rattle.grammar.proofs.RoundTrip.{during, joinHeld, placedAll, round-trip}
 use Rattle.grammar.proofs.PrefixLaws.{not-unended}
 
@@ -94,16 +96,23 @@ channel-as fs n e =
 end-as : (fs : List (List ℕ)) → length fs ≡ 1 → firstFault (rule.Tag 69 ∷ []) fs ≡ none → endFields ≡ fs
 end-as fs n e = field-at fs 0 _ _ (omega arith) (tag-as (getD fs 0 []) 69 (fault-at (rule.Tag 69 ∷ []) fs 0 e (omega arith) (omega arith))) (no-more fs 1 (omega arith))
 
--- The lines that are still to come: n blocks, then the channels cs, with what they hold
+-- the marks and the end
+abbrev lastRows : List Marked → List (List ℕ)
+lastRows ms = markLines ms ++ joined endFields ∷ [] ∷ []
+
+-- The lines that are still to come: n blocks, then the channels cs, with what they hold, and the marks
 abbrev rows : ℕ → List Channel → Held → List (List ℕ)
-rows n cs K = blockLines (take n (K .ranged)) (K .lent .lows) (K .lent .highs) ++ (channelLines cs (dropHeld n 0 K) ++ joined endFields ∷ [] ∷ [])
+rows n cs K = blockLines (take n (K .ranged)) (K .lent .lows) (K .lent .highs) ++ (channelLines cs (dropHeld n 0 K) ++ lastRows (K .marks))
 
 -- a block before what is held, and a table
 abbrev blockBefore : Bool → List ℤ → List ℤ → Held → Held
-blockBefore r ls hs K = held (lent (ls ++ K .lent .lows) (hs ++ K .lent .highs) (K .lent .tables)) (r ∷ K .ranged)
+blockBefore r ls hs K = held (lent (ls ++ K .lent .lows) (hs ++ K .lent .highs) (K .lent .tables)) (r ∷ K .ranged) (K .marks)
 
 abbrev tableBefore : List ℕ → Held → Held
-tableBefore qs K = held (lent (K .lent .lows) (K .lent .highs) (qs ++ K .lent .tables)) (K .ranged)
+tableBefore qs K = held (lent (K .lent .lows) (K .lent .highs) (qs ++ K .lent .tables)) (K .ranged) (K .marks)
+
+abbrev markBefore : Marked → Held → Held
+markBefore m K = held (K .lent) (K .ranged) (m ∷ K .marks)
 
 module _ {A : Type 0} (xs ys : List A) (n : ℕ) (e : length xs ≡ n) where
   take-front : take n (xs ++ ys) ≡ xs
@@ -129,7 +138,7 @@ one-channel c cs qs K e =
     let n = c .width * c .height / 64 in
     rw (take-front qs (K .lent .tables) 64 e, drop-front qs (K .lent .tables) 64 e)
     (ap (λ (l : List (List ℕ)). joined (channelFields c qs) ∷ l)
-    (append-assoc (blockLines (take n (K .ranged)) (K .lent .lows) (K .lent .highs)) (channelLines cs (dropHeld n 0 K)) (joined endFields ∷ [] ∷ [])))
+    (append-assoc (blockLines (take n (K .ranged)) (K .lent .lows) (K .lent .highs)) (channelLines cs (dropHeld n 0 K)) (lastRows (K .marks))))
 
 -- What is left of an accepted text: the lines ps say the rest of the contents C after the state s with what it holds
 record Rest (s : State) (H : Held) (ps : List (List ℕ)) (C : Contents) : Type 0 where
@@ -139,6 +148,10 @@ record Rest (s : State) (H : Held) (ps : List (List ℕ)) (C : Contents) : Type 
   sheet : placedAll (s .sheet) (s .read) cs ≡ C .sheet
   count : s .read + length cs ≡ s .sheet .header .channels
   held : joinHeld H K ≡ C .held
+
+no-more-channels : (cs : List Channel) → length cs ≡ 0 → cs ≡ []
+no-more-channels [] e = refl
+no-more-channels (c ∷ cs) e = let y : ⊥ = omega arith in absurd y
 
 record Under (s : State) : Type 0 where
   begun : s .begun ≡ true
@@ -166,14 +179,14 @@ module _ (limits : Limits) (p : List ℕ) (rest : List (List ℕ)) (C : Contents
             ∙ sym (one-block (s .left - 1) (r .cs) x (w .ls) (w .hs) K (w .block .low-count) (w .block .high-count)) ∙ ap (λ (m : ℕ). rows m (r .cs) (blockBefore x (w .ls) (w .hs) K)) n;
         sheet = r .sheet;
         count = r .count;
-        held = (λ i. held (lent (sym lows i) (sym highs i) (H .lent .tables ++ K .lent .tables)) (sym kinds i)) ∙ r .held;
+        held = (λ i. held (lent (sym lows i) (sym highs i) (H .lent .tables ++ K .lent .tables)) (sym kinds i) (H .marks ++ K .marks)) ∙ r .held;
       }
 
   channel-rest : s .left ≤ 0 → s .read < s .sheet .header .channels → lineTag s (split 9 p) ≡ 67 → readFrom limits s H k (p ∷ rest) ≡ Gives C → Rest s H (p ∷ rest) C
-  unfolding rulesOf takenOf recordOf fs
+  unfolding rulesOf takenIf recordOf fs
   channel-rest u v g e =
       let l = line-is channelRules k p rest _ C (rw g at e) in
-      covered (covers (s .sheet .header) (channelOf fs)) refl (l .count) (l .fault) (rw (holds-table H fs) at (l .more))
+      covered (covers (s .sheet .header) (channelOf fs)) refl (l .count) (l .fault) (rw (holds-table H (s .sheet) fs) at (l .more))
     where
       c : Channel
       c = channelOf (split 9 p)
@@ -200,7 +213,7 @@ module _ (limits : Limits) (p : List ℕ) (rest : List (List ℕ)) (C : Contents
                 ∙ ap (λ (m : ℕ). rows m (c ∷ r .cs) (tableBefore qs K)) z;
             sheet = r .sheet;
             count = omega (arith, r .count);
-            held = (λ i. held (lent (H .lent .lows ++ K .lent .lows) (H .lent .highs ++ K .lent .highs) (sym tables i)) (H .ranged ++ K .ranged)) ∙ r .held;
+            held = (λ i. held (lent (H .lent .lows ++ K .lent .lows) (H .lent .highs ++ K .lent .highs) (sym tables i)) (H .ranged ++ K .ranged) (H .marks ++ K .marks)) ∙ r .held;
           }
 
   end-rest : s .left ≤ 0 → s .sheet .header .channels ≤ s .read → lineTag s (split 9 p) ≡ 69 → readFrom limits s H k (p ∷ rest) ≡ Gives C → Rest s H (p ∷ rest) C
@@ -222,10 +235,28 @@ module _ (limits : Limits) (p : List ℕ) (rest : List (List ℕ)) (C : Contents
             lines = (λ i. sym f i ∷ q i) ∙ ap (λ (m : ℕ). rows m [] nothing) z;
             sheet = x;
             count = omega (arith, b .upto);
-            held = rw (append-nil (H .lent .lows), append-nil (H .lent .highs), append-nil (H .lent .tables), append-nil (H .ranged)) y;
+            held = rw (append-nil (H .lent .lows), append-nil (H .lent .highs), append-nil (H .lent .tables), append-nil (H .ranged), append-nil (H .marks)) y;
           }
       last ([] ∷ (r ∷ ps)) w o q f = refusal 7 (k + 1) C o
       last ((x ∷ r) ∷ ps) w o q f = refusal 7 (k + 1) C o
+
+  mark-rest : 0 < s .read → s .left ≤ 0 → s .sheet .header .channels ≤ s .read → lineTag s (split 9 p) ≡ 78 → readFrom limits s H k (p ∷ rest) ≡ Gives C → Rest s H (p ∷ rest) C
+  mark-rest z u v g e =
+      let w = mark-read limits s H k p rest C g e in
+      let m = marked (w .m) (blockOf (s .sheet) (w .m)) in
+      let r = ih s (withMark H m) (k + 1) b z (w .more) in
+      let none : r .cs ≡ [] = no-more-channels (r .cs) (omega (arith, r .count)) in
+      let zero-left : s .left ≡ 0 = omega arith in
+      let K = r .K in
+      let marks = append-assoc (H .marks) (m ∷ []) (K .marks) in
+      record {
+        cs = r .cs;
+        K = markBefore m K;
+        lines = (λ i. sym (w .row) i ∷ (r .lines ∙ (λ i. rows (zero-left i) (none i) K)) i) ∙ sym (λ i. rows (zero-left i) (none i) (markBefore m K));
+        sheet = r .sheet;
+        count = r .count;
+        held = (λ i. held (lent (H .lent .lows ++ K .lent .lows) (H .lent .highs ++ K .lent .highs) (H .lent .tables ++ K .lent .tables)) (H .ranged ++ K .ranged) (sym marks i)) ∙ r .held;
+      }
 
   any-rest : 0 < s .read → readFrom limits s H k (p ∷ rest) ≡ Gives C → Rest s H (p ∷ rest) C
   any-rest m e = by (stands s (split 9 p) (lineTag s (split 9 p)) refl)
@@ -238,6 +269,7 @@ module _ (limits : Limits) (p : List ℕ) (rest : List (List ℕ)) (C : Contents
       by (Block-line r q u g) = block-rest r m u g e
       by (Channel-line q u v g) = channel-rest u v g e
       by (End-line q u v g) = end-rest u v g e
+      by (Mark-line q u v g) = mark-rest m u v g e
 
 rest-from : (limits : Limits) (ps : List (List ℕ)) (C : Contents) (s : State) (H : Held) (k : ℕ) → Under s → 0 < s .read → readFrom limits s H k ps ≡ Gives C → Rest s H ps C
 rest-from limits [] C s H k b m e = refusal 7 k C e
@@ -252,7 +284,7 @@ record Opening (t : Sheet) (ps : List (List ℕ)) (C : Contents) : Type 0 where
   rest : Rest (during (settled t y) 0 0) nothing later C
 
 module _ (limits : Limits) (p : List ℕ) (rest : List (List ℕ)) (C : Contents)
-    (ih : (t : Sheet) (k : ℕ) → readFrom limits (during t 0 0) nothing k rest ≡ Gives C → Opening t rest C) (t : Sheet) (k : ℕ)
+    (ih : (t : Sheet) (k : ℕ) → 1 ≤ t .header .channels → readFrom limits (during t 0 0) nothing k rest ≡ Gives C → Opening t rest C) (t : Sheet) (k : ℕ)
     (e : readFrom limits (during t 0 0) nothing k (p ∷ rest) ≡ Gives C) where
   no-setting : Rest (during t 0 0) nothing (p ∷ rest) C → Opening t (p ∷ rest) C
   no-setting r =
@@ -264,13 +296,13 @@ module _ (limits : Limits) (p : List ℕ) (rest : List (List ℕ)) (C : Contents
         rest = r;
       }
 
-  one-setting : (i : ℕ) → lastSaid (t .settings) < i → SettingTag i (lineTag (during t 0 0) (split 9 p)) → Opening t (p ∷ rest) C
-  one-setting i h g =
+  one-setting : (i : ℕ) → 1 ≤ t .header .channels → lastSaid (t .settings) < i → SettingTag i (lineTag (during t 0 0) (split 9 p)) → Opening t (p ∷ rest) C
+  one-setting i few h g =
       let x : Settings = t .settings in
       let r = setting-read limits (during t 0 0) nothing k i p rest C g e in
       let z = r .x in
       let u : lastSaid x < placeOf z = omega (arith, h, r .place) in
-      let o = ih (settled t (withSetting x z)) (k + 1) (r .more) in
+      let o = ih (settled t (withSetting x z)) (k + 1) few (r .more) in
       let n = now-said x z p u (r .row) in
       let a : Agree (placeOf z) (withSetting x z) (o .y) = rw n at (o .agree) in
       record {
@@ -283,18 +315,19 @@ module _ (limits : Limits) (p : List ℕ) (rest : List (List ℕ)) (C : Contents
         rest = o .rest;
       }
 
-  opening-line : Stands (during t 0 0) (lineTag (during t 0 0) (split 9 p)) → Opening t (p ∷ rest) C
-  opening-line (Header-line q g) = unbegun (during t 0 0) refl q
-  opening-line (Setting-line i q g) = one-setting i (ltb-true (lastSaid (t .settings)) i q) g
-  opening-line (Block-line r q v g) = let y : ⊥ = omega arith in absurd y
-  opening-line (Channel-line q v w g) =
+  opening-line : 1 ≤ t .header .channels → Stands (during t 0 0) (lineTag (during t 0 0) (split 9 p)) → Opening t (p ∷ rest) C
+  opening-line few (Header-line q g) = unbegun (during t 0 0) refl q
+  opening-line few (Setting-line i q g) = one-setting i few (ltb-true (lastSaid (t .settings)) i q) g
+  opening-line few (Block-line r q v g) = let y : ⊥ = omega arith in absurd y
+  opening-line few (Channel-line q v w g) =
       no-setting (channel-rest limits p rest C (rest-from limits rest C) (during t 0 0) nothing k (record { begun = refl; upto = omega arith }) v w g e)
-  opening-line (End-line q v w g) =
+  opening-line few (Mark-line q v w g) = let y : ⊥ = omega arith in absurd y
+  opening-line few (End-line q v w g) =
       no-setting (end-rest limits p rest C (rest-from limits rest C) (during t 0 0) nothing k (record { begun = refl; upto = omega arith }) v w g e)
 
-opening : (limits : Limits) (ps : List (List ℕ)) (C : Contents) (t : Sheet) (k : ℕ) → readFrom limits (during t 0 0) nothing k ps ≡ Gives C → Opening t ps C
-opening limits [] C t k e = refusal 7 k C e
-opening limits (p ∷ rest) C t k e = opening-line limits p rest C (opening limits rest C) t k e (stands (during t 0 0) (split 9 p) (lineTag (during t 0 0) (split 9 p)) refl)
+opening : (limits : Limits) (ps : List (List ℕ)) (C : Contents) (t : Sheet) (k : ℕ) → 1 ≤ t .header .channels → readFrom limits (during t 0 0) nothing k ps ≡ Gives C → Opening t ps C
+opening limits [] C t k few e = refusal 7 k C e
+opening limits (p ∷ rest) C t k few e = opening-line limits p rest C (opening limits rest C) t k e few (stands (during t 0 0) (split 9 p) (lineTag (during t 0 0) (split 9 p)) refl)
 
 -- The header's line, and the whole text
 
@@ -313,26 +346,31 @@ in-use h r (a ∷ (b ∷ [])) e k = rw (← e)
 in-use h r (a ∷ (b ∷ (c ∷ []))) e k = rw (← e)
 in-use h r (a ∷ (b ∷ (c ∷ (d ∷ cs)))) e k = let y : ⊥ = omega arith in absurd y
 
+-- the channels' lines know no mark
+bare-lines : (cs : List Channel) (K : Held) → channelLines cs (dropHeld 0 0 K) ≡ channelLines cs K
+bare-lines [] K = refl
+bare-lines (c ∷ cs) K = refl
+
 -- the pieces of a text with these contents
 abbrev Pieces : Contents → List (List ℕ) → Type 0
-Pieces C ps = ps ≡ joined (headerFields (C .sheet .header)) ∷ (settingLines (C .sheet .settings) ++ (channelLines (channelsOf (C .sheet)) (C .held) ++ joined endFields ∷ [] ∷ []))
+Pieces C ps = ps ≡ joined (headerFields (C .sheet .header)) ∷ (settingLines (C .sheet .settings) ++ (channelLines (channelsOf (C .sheet)) (C .held) ++ lastRows (C .held .marks)))
 
 pieces-are : (limits : Limits) (ps : List (List ℕ)) (C : Contents) → readFrom limits blank nothing 1 ps ≡ Gives C → Pieces C ps
-unfolding rulesOf takenOf recordOf
+unfolding rulesOf takenIf recordOf
 pieces-are limits [] C e = refusal 7 1 C e
 pieces-are limits (p ∷ rest) C e =
     let l = line-is (headerRules limits (split 9 p)) 1 p rest _ C (rw (first-tag (split 9 p)) at e) in
     let fs = split 9 p in
     let h = headerOf fs in
-    let o = opening limits rest C (headed h) 2 (rw (holds-none nothing 83 (headerRules limits fs) fs refl refl refl) at (l .more)) in
+    let o = opening limits rest C (headed h) 2 (some-channel limits h (header-is-legal limits fs (l .count) (l .fault))) (rw (holds-none nothing (blank .sheet) 83 (headerRules limits fs) fs refl refl refl refl) at (l .more)) in
     let r = o .rest in
     let t = settled (headed h) (o .y) in
     let same : C .sheet .header ≡ h = ap (λ (s : Sheet). s .header) (sym (r .sheet)) ∙ header-kept t 0 (r .cs) in
     let set : C .sheet .settings ≡ o .y = ap (λ (s : Sheet). s .settings) (sym (r .sheet)) ∙ settings-kept t 0 (r .cs) in
     let used : channelsOf (C .sheet) ≡ r .cs = ap channelsOf (sym (r .sheet)) ∙ in-use h (o .y) (r .cs) (omega (arith, r .count)) (few limits h (header-is-legal limits fs (l .count) (l .fault))) in
     let kept : C .held ≡ r .K = sym (r .held) in
-    (λ i. sym (row-as p (headerFields h) (header-as limits fs (l .count) (l .fault))) i ∷ (o .lines ∙ ap (λ (q : List (List ℕ)). settingLines (o .y) ++ q) (r .lines)) i)
-    ∙ sym (λ i. joined (headerFields (same i)) ∷ (settingLines (set i) ++ (channelLines (used i) (kept i) ++ joined endFields ∷ [] ∷ [])))
+    (λ i. sym (row-as p (headerFields h) (header-as limits fs (l .count) (l .fault))) i ∷ (o .lines ∙ ap (λ (q : List (List ℕ)). settingLines (o .y) ++ q) (r .lines ∙ ap (λ (q : List (List ℕ)). q ++ lastRows (r .K .marks)) (bare-lines (r .cs) (r .K)))) i)
+    ∙ sym (λ i. joined (headerFields (same i)) ∷ (settingLines (set i) ++ (channelLines (used i) (kept i) ++ lastRows (kept i .marks))))
 
 -- An accepted text is the written text of its contents
 pub canonical : (limits : Limits) (text : List ℕ) (s : Sheet) (H : Held) → readText limits text ≡ contents s H → text ≡ written s H
@@ -342,10 +380,13 @@ canonical limits text s H e = two (allowed limits) e
     by : readFrom limits blank nothing 1 (split 10 text) ≡ contents s H → text ≡ written s H
     by o =
         let cs = channelLines (channelsOf s) H in
-        sym (ended-split text (joined (headerFields (s .header)) ∷ (settingLines (s .settings) ++ (cs ++ joined endFields ∷ [])))
+        let ms = markLines (H .marks) in
+        let end : List (List ℕ) = joined endFields ∷ [] in
+        sym (ended-split text (joined (headerFields (s .header)) ∷ (settingLines (s .settings) ++ (cs ++ (ms ++ end))))
         (pieces-are limits (split 10 text) (record { sheet = s; held = H }) o
         ∙ ap (λ (q : List (List ℕ)). joined (headerFields (s .header)) ∷ q)
-        (sym (append-assoc (settingLines (s .settings)) (cs ++ joined endFields ∷ []) ([] ∷ []) ∙ ap (λ (q : List (List ℕ)). settingLines (s .settings) ++ q) (append-assoc cs (joined endFields ∷ []) ([] ∷ []))))))
+        (sym (append-assoc (settingLines (s .settings)) (cs ++ (ms ++ end)) ([] ∷ [])
+        ∙ ap (λ (q : List (List ℕ)). settingLines (s .settings) ++ q) (append-assoc cs (ms ++ end) ([] ∷ []) ∙ ap (λ (q : List (List ℕ)). cs ++ q) (append-assoc ms end ([] ∷ [])))))))
 
     two : (b : Bool) → cond b (readFrom limits blank nothing 1 (split 10 text)) (Refused 2 0) ≡ contents s H → text ≡ written s H
     two true o = by o
@@ -355,10 +396,11 @@ canonical limits text s H e = two (allowed limits) e
 pub accepts : (limits : Limits) (text : List ℕ) (s : Sheet) (H : Held) → Accepts limits text s H
 accepts limits text s H =
     record {
-      only = λ e. record { as-written = canonical limits text s H e; legal = legal limits text s H e; blocks = legal-blocks limits text s H e };
-      all = λ t. ap (readText limits) (t .as-written) ∙ round-trip limits s H (t .legal) (t .blocks);
+      only = λ e. record { as-written = canonical limits text s H e; legal = legal limits text s H e; blocks = legal-blocks limits text s H e; marks = legal-marks limits text s H e };
+      all = λ t. ap (readText limits) (t .as-written) ∙ round-trip limits s H (t .legal) (t .blocks) (t .marks);
     }
 
 -- The kinds of its blocks' lines change nothing else of what a text gives
-pub equal-pairs : (limits : Limits) (text : List ℕ) (s : Sheet) (b : Lent) (one other : List Bool) → EqualPairs limits text s b one other
-equal-pairs limits text s b one other = record { same = λ e k. round-trip limits s (held b other) (legal limits text s (held b one) e) k }
+pub equal-pairs : (limits : Limits) (text : List ℕ) (s : Sheet) (b : Lent) (one other : List Bool) (ms : List Marked) → EqualPairs limits text s b one other ms
+equal-pairs limits text s b one other ms =
+    record { same = λ e k. round-trip limits s (held b other ms) (legal limits text s (held b one ms) e) k (legal-marks limits text s (held b one ms) e) }

@@ -14,13 +14,15 @@ use Rattle.text.specs.Numbers.{numberOf, numberAt}
 use Rattle.text.specs.Weights.{bitForm, weightOf, weightAt}
 use Rattle.text.specs.Levels.{levelOf}
 use Rattle.text.specs.Fields.{fieldOf}
-use Rattle.digits.specs.Written.{joined, ended}
+use Rattle.digits.specs.Written.{decimal, joined, ended}
+use Rattle.grammar.specs.Longest.{longest, decisive}
 use Rattle.contents.specs.declared.Limits.{Limits}
 use Rattle.contents.specs.declared.Sheet.{Sheet}
 use Rattle.contents.specs.Hold.{measured}
-use Rattle.sheet.specs.Lines.{rulesOf, fieldsFault, headerOf, channelOf, holdOf, recordOf}
+use Rattle.contents.specs.Marks.{blockOf, hasBlock}
+use Rattle.sheet.specs.Lines.{rulesOf, fieldsFault, headerOf, channelOf, holdOf, markOf, recordOf}
 use Rattle.contents.specs.Sheets.{lent, held, noSettings, noChannel}
-use Rattle.sheet.specs.Reading.{Outcome, Contents, contents, blank, lineTag, takenOf, lineFault, readText}
+use Rattle.sheet.specs.Reading.{Outcome, Contents, contents, blank, lineTag, exists, takenIf, lineFault, readText}
 use Rattle.sheet.specs.Calls.{Lengths, measuring, reading}
 use Rattle.sheet.specs.Reading.Outcome.{Gives, Refused}
 
@@ -73,7 +75,7 @@ abbrev at : ℕ → Limits
 at side = record { side = side; iterations = 1000 }
 
 unfoldable answer : ℕ → List ℕ → ℕ × ℕ
-unfolding readText blank lineTag takenOf recordOf headerOf channelOf holdOf measured lineFault fieldsFault rulesOf numberAt weightAt numberOf bitForm weightOf levelOf fieldOf
+unfolding readText blank lineTag takenIf recordOf headerOf channelOf holdOf markOf measured blockOf hasBlock exists lineFault fieldsFault rulesOf numberAt weightAt numberOf bitForm weightOf levelOf fieldOf
 answer side t = answerOf (readText (at side) t)
 
 abbrev answers : ℕ → List (List ℕ) → List (ℕ × ℕ)
@@ -110,8 +112,8 @@ whole-sheet =
 abbrev first : ℕ → List ℤ
 first n = pos n ∷ replicate 63 (pos 0)
 
-whole-reads : readText (at 32) (text whole) ≡ contents whole-sheet (held (lent (first 1) (first 1) (replicate 64 8)) (false ∷ []))
-unfolding readText blank lineTag takenOf recordOf headerOf channelOf lineFault fieldsFault rulesOf numberAt weightAt numberOf bitForm weightOf levelOf fieldOf
+whole-reads : readText (at 32) (text whole) ≡ contents whole-sheet (held (lent (first 1) (first 1) (replicate 64 8)) (false ∷ []) [])
+unfolding readText blank lineTag takenIf recordOf headerOf channelOf lineFault fieldsFault rulesOf numberAt weightAt numberOf bitForm weightOf levelOf fieldOf
 whole-reads = refl
 
 -- 1,024 bytes are allowed; a line that is both too long and unended is 1; the length comes before every field
@@ -273,10 +275,35 @@ holding-joint : answers 32 (
 unfolding answer
 holding-joint = refl
 
+-- the line `N` with these numbers, and the example with these lines before `E`
+abbrev mark-row : String → String → String → List (List ℕ)
+mark-row c r k = b "N" ∷ b c ∷ b r ∷ b k ∷ []
+
+abbrev before-E : List (List (List ℕ)) → List ℕ
+before-E rows = text (take 3 whole ++ rows ++ drop 3 whole)
+
+-- M-110: after the last block line, any number; all three spellings first, then 18: channel or block absent, or marked twice
+marking : answers 32 (
+    before-E (mark-row "0" "0" "0" ∷ [])
+    ∷ before-E (mark-row "9" "x" "0" ∷ [])
+    ∷ before-E (mark-row "1" "0" "0" ∷ [])
+    ∷ before-E (mark-row "0" "1" "0" ∷ [])
+    ∷ before-E (mark-row "0" "0" "1" ∷ [])
+    ∷ before-E (mark-row "-1" "0" "0" ∷ [])
+    ∷ before-E (mark-row "0" "0" "0" ∷ mark-row "0" "0" "0" ∷ [])
+    ∷ text (take 2 whole ++ mark-row "0" "0" "0" ∷ drop 2 whole)
+    ∷ after-S (mark-row "0" "0" "0" ∷ [])
+    ∷ text (take 3 whole ++ mark-row "0" "0" "0" ∷ [])
+    ∷ []
+    )
+    ≡ (0, 0) ∷ (1, 4) ∷ (18, 4) ∷ (18, 4) ∷ (18, 4) ∷ (1, 4) ∷ (18, 5) ∷ (1, 3) ∷ (1, 2) ∷ (7, 5) ∷ []
+unfolding answer
+marking = refl
+
 -- M-106: on a page of 50 iterations; spelling 1, above 1,000 2, above the limit 15, then the next field; spare counts too;
 -- a limit above 1,000 is 2 at line 0, before the text is read
 unfoldable paged : ℕ → List ℕ → ℕ × ℕ
-unfolding readText blank lineTag takenOf recordOf headerOf channelOf holdOf measured lineFault fieldsFault rulesOf numberAt weightAt numberOf bitForm weightOf levelOf fieldOf
+unfolding readText blank lineTag takenIf recordOf headerOf channelOf holdOf markOf measured blockOf hasBlock exists lineFault fieldsFault rulesOf numberAt weightAt numberOf bitForm weightOf levelOf fieldOf
 paged most t = answerOf (readText (record { side = 32; iterations = most }) t)
 
 page : (paged 50 (one 0 7 "50") ≡ (0, 0)) × (paged 50 (one 0 7 "51") ≡ (15, 1)) × (paged 50 (one 0 7 "1001") ≡ (2, 1)) × (paged 50 (two 0 7 "51" 0 8 "x") ≡ (15, 1)) × (paged 50 (one 0 9 "51") ≡ (15, 1)) × (paged 1001 (b "x") ≡ (2, 0))
@@ -307,12 +334,12 @@ unfolding answer
 ranges = refl
 
 -- lows and highs; equal pairs leave what the line `B` leaves
-range-reads : readText (at 32) (ranged ("1" ∷ "4" ∷ [])) ≡ contents whole-sheet (held (lent (first 1) (first 4) (replicate 64 8)) (true ∷ []))
-unfolding readText blank lineTag takenOf recordOf headerOf channelOf lineFault fieldsFault rulesOf numberAt weightAt numberOf bitForm weightOf levelOf fieldOf
+range-reads : readText (at 32) (ranged ("1" ∷ "4" ∷ [])) ≡ contents whole-sheet (held (lent (first 1) (first 4) (replicate 64 8)) (true ∷ []) [])
+unfolding readText blank lineTag takenIf recordOf headerOf channelOf lineFault fieldsFault rulesOf numberAt weightAt numberOf bitForm weightOf levelOf fieldOf
 range-reads = refl
 
-equal-reads : readText (at 32) (ranged ("1" ∷ "1" ∷ [])) ≡ contents whole-sheet (held (lent (first 1) (first 1) (replicate 64 8)) (true ∷ []))
-unfolding readText blank lineTag takenOf recordOf headerOf channelOf lineFault fieldsFault rulesOf numberAt weightAt numberOf bitForm weightOf levelOf fieldOf
+equal-reads : readText (at 32) (ranged ("1" ∷ "1" ∷ [])) ≡ contents whole-sheet (held (lent (first 1) (first 1) (replicate 64 8)) (true ∷ []) [])
+unfolding readText blank lineTag takenIf recordOf headerOf channelOf lineFault fieldsFault rulesOf numberAt weightAt numberOf bitForm weightOf levelOf fieldOf
 equal-reads = refl
 
 -- the tag decides the count; `G` nowhere but where `B` may stand
@@ -330,7 +357,7 @@ range-places = refl
 
 -- measuring gives both lengths; reading refuses other lengths, last
 unfoldable lengthsIn : ℕ → List ℕ → Outcome Lengths
-unfolding readText blank lineTag takenOf recordOf headerOf channelOf lineFault fieldsFault rulesOf numberAt weightAt numberOf bitForm weightOf levelOf fieldOf
+unfolding readText blank lineTag takenIf recordOf headerOf channelOf lineFault fieldsFault rulesOf numberAt weightAt numberOf bitForm weightOf levelOf fieldOf
 lengthsIn side t = measuring (at side) t
 
 lengths : lengthsIn 32 (text whole) ≡ Gives (record { levels = 64; tables = 64 })
@@ -338,9 +365,14 @@ unfolding lengthsIn
 lengths = refl
 
 unfoldable reads : ℕ → List ℕ → ℕ → ℕ → ℕ → ℕ × ℕ
-unfolding readText blank lineTag takenOf recordOf headerOf channelOf lineFault fieldsFault rulesOf numberAt weightAt numberOf bitForm weightOf levelOf fieldOf
+unfolding readText blank lineTag takenIf recordOf headerOf channelOf lineFault fieldsFault rulesOf numberAt weightAt numberOf bitForm weightOf levelOf fieldOf
 reads side t n h m = answerOf (reading (at side) t (lent (replicate n (pos 7)) (replicate h (pos 7)) (replicate m 7)))
 
 other-lengths : (reads 32 (text whole) 64 64 64 ≡ (0, 0)) × (reads 32 (text whole) 63 64 64 ≡ (8, 0)) × (reads 32 (text whole) 64 63 64 ≡ (8, 0)) × (reads 32 (text whole) 64 64 65 ≡ (8, 0)) × (reads 32 (text whole ++ 10 ∷ []) 63 64 64 ≡ (7, 5))
 unfolding reads
 other-lengths = (refl, refl, refl, refl, refl)
+
+-- so many bytes decide any text of `smooth`
+decides-at-32 : decisive 32 ≡ 39294
+unfolding decisive longest decimal
+decides-at-32 = refl

@@ -1,8 +1,8 @@
 -- Every sheet that is read is legal.
 use Prim.Native.Nat.{ℕ, zero, suc, _+_, _-_, _*_, _/_, _%_, _<_, _≤_}
-use mathlib.Core.Path.{_≡_, refl, sym, ap, _∙_, subst}
+use mathlib.Core.Path.{_≡_, refl, sym, ap, _∙_, subst, subst⁻¹}
 use mathlib.Core.List.{List, [], _∷_, _++_}
-use mathlib.Core.Bool.{Bool, true, false, cond}
+use mathlib.Core.Bool.{Bool, true, false, not, cond, _&&_}
 use mathlib.Core.Logic.{⊎-elim}
 use mathlib.Core.Option.{Option, none, some}
 use native.Mathlib.Numerals.{add-one}
@@ -18,7 +18,7 @@ use Rattle.text.specs.Pieces.{split}
 use Rattle.text.specs.Numbers.{numberAt}
 use Rattle.text.specs.Weights.{weightAt}
 use Rattle.text.specs.Fields.{isSide, fieldOf, faultIn, tablesIn}
-use Rattle.contents.specs.Legal.{Between, LegalSide, LegalLimits, LegalHeader, LegalChannel, LegalQuantisers, LegalLevels, LegalRanges, LegalSheet, LegalBlocks}
+use Rattle.contents.specs.Legal.{Between, LegalSide, LegalLimits, LegalHeader, LegalChannel, LegalQuantisers, LegalLevels, LegalRanges, LegalSheet, LegalBlocks, LegalMarks}
 use Rattle.digits.specs.Written.{joined}
 use Rattle.text.proofs.GoodLaws.{side-is, range-good, count-good, side-good, channels-good, weight-good}
 use Rattle.digits.proofs.Both.{both-left, both-right}
@@ -30,15 +30,18 @@ use Rattle.contents.specs.declared.Sheet.{Sheet}
 use Rattle.sheet.specs.declared.line.Setting.{Setting}
 use Rattle.sheet.specs.declared.state.State.{State}
 use Rattle.sheet.specs.declared.state.Taken.the-variants as taken
-use Rattle.sheet.specs.Lines.{headerRules, channelRules, endRules, rulesOf, firstFault, fieldsFault, lineAdds, holding, headerOf, channelOf, recordOf}
-use Rattle.contents.specs.Sheets.{Held, nothing, noChannel, channelAt, levelsTo}
-use Rattle.sheet.specs.Reading.{Outcome, Contents, contents, headed, blank, lineTag, withSetting, settled, placed, opened, covers, takenOf, isLast, lineFault, nothingLeft, onFault, onTaken, readFrom, allowed, readText}
+use Rattle.sheet.specs.Lines.{headerRules, channelRules, markRules, markOf, endRules, rulesOf, firstFault, fieldsFault, lineAdds, holding, headerOf, channelOf, recordOf}
+use Rattle.contents.specs.declared.Mark.{Mark}
+use Rattle.contents.specs.Marks.{blockOf, among}
+use Rattle.contents.specs.Sheets.{Marked, marked, Held, nothing, noChannel, channelAt, levelsTo}
+use Rattle.sheet.specs.Reading.{Outcome, Contents, contents, headed, blank, lastSaid, mayStand, lineTag, withSetting, settled, placed, opened, covers, exists, takenIf, takenOf, isLast, lineFault, nothingLeft, onFault, onTaken, readFrom, allowed, readText}
 use Rattle.sheet.specs.Reading.Outcome.{Gives, Refused}
-use Rattle.grammar.specs.Written.{settingLine, blockFields}
+use Rattle.grammar.specs.Written.{settingLine, blockFields, markFields}
 use Rattle.sheet.proofs.StateLaws.{SettingTag, BlockTag, Stands, stands, unbegun, first-tag}
-use Rattle.sheet.proofs.StateLaws.Stands.{Header-line, Setting-line, Block-line, Channel-line, End-line}
-use Rattle.sheet.proofs.GoodLines.{fault-at, fault-drop, holds-none, withTable, holds-table, all-quantisers}
+use Rattle.sheet.proofs.StateLaws.Stands.{Header-line, Setting-line, Block-line, Channel-line, End-line, Mark-line}
+use Rattle.sheet.proofs.GoodLines.{fault-at, fault-drop, holds-none, withTable, holds-table, all-quantisers, row-as}
 use Rattle.grammar.proofs.SettingLaws.{placeOf, LegalSetting, with-legal, Said, said-line, no-end}
+use Rattle.grammar.proofs.MarkLaws.{withMark, mark-as, holds-mark, exists-has, more-marks}
 use Rattle.grammar.proofs.BlockLaws.{Block, withBlock, BlockSaid, said-block, block-no-end, block-record, more-levels, more-ranges, more-kinds}
 
 -- Good lines
@@ -121,6 +124,14 @@ record Begun (limits : Limits) (s : State) (H : Held) : Type 0 where
   ranges : LegalRanges (H .lent .lows) (H .lent .highs)
   tables : LegalQuantisers (H .lent .tables)
   kinds : LegalBlocks H
+  marks : LegalMarks (s .sheet) [] (H .marks)
+  early : s .read < s .sheet .header .channels → H .marks ≡ []
+
+pub some-channel : (limits : Limits) (h : Header) → LegalHeader limits h → 1 ≤ h .channels
+some-channel limits h l = ⊎-elim (λ e. omega arith) (λ e. omega arith) (l .channels)
+
+no-marks : (s : Sheet) (ms : List Marked) → ms ≡ [] → LegalMarks s [] ms
+no-marks s ms e = subst⁻¹ (λ (x : List Marked). LegalMarks s [] x) e tt
 
 pub few : (limits : Limits) (h : Header) → LegalHeader limits h → h .channels ≤ 3
 few limits h l = ⊎-elim (λ e. omega arith) (λ e. omega arith) (l .channels)
@@ -196,7 +207,7 @@ pub record SettingRead (limits : Limits) (s : State) (H : Held) (k i : ℕ) (p :
 
 pub setting-read : (limits : Limits) (s : State) (H : Held) (k i : ℕ) (p : List ℕ) (rest : List (List ℕ)) (C : Contents)
     → SettingTag i (lineTag s (split 9 p)) → readFrom limits s H k (p ∷ rest) ≡ Gives C → SettingRead limits s H k i p rest C
-unfolding takenOf
+unfolding takenIf
 setting-read limits s H k i p rest C g e =
     let l = line-is rs k p rest _ C e in
     by (said-line i (lineTag s (split 9 p)) limits (s .sheet .header) p g (l .count) (l .fault)) (l .more)
@@ -206,7 +217,7 @@ setting-read limits s H k i p rest C g e =
 
     by : Said (s .sheet .header) i (lineTag s (split 9 p)) rs p (recordOf (lineTag s (split 9 p)) (split 9 p))
         → cond (eqb (lineTag s (split 9 p)) 69) (cond (nothingLeft rest) (contents (s .sheet) H) (Refused 7 (k + 1)))
-        (onTaken (takenOf s (recordOf (lineTag s (split 9 p)) (split 9 p))) k (λ t. readFrom limits t (holding H (lineTag s (split 9 p)) rs (split 9 p)) (k + 1) rest)) ≡ Gives C
+        (onTaken (takenOf s (H .marks) (recordOf (lineTag s (split 9 p)) (split 9 p))) k (λ t. readFrom limits t (holding H (s .sheet) (lineTag s (split 9 p)) rs (split 9 p)) (k + 1) rest)) ≡ Gives C
         → SettingRead limits s H k i p rest C
     by w o =
         record {
@@ -214,7 +225,7 @@ setting-read limits s H k i p rest C g e =
           place = w .place;
           legal = w .legal;
           row = w .row;
-          more = rw (no-end i (lineTag s (split 9 p)) g, w .says, w .holds H) at o;
+          more = rw (no-end i (lineTag s (split 9 p)) g, w .says, w .holds H (s .sheet)) at o;
         }
 
 -- A block's line that is no refusal, likewise
@@ -231,7 +242,7 @@ pub record BlockRead (limits : Limits) (s : State) (H : Held) (k : ℕ) (r : Boo
 
 pub block-read : (limits : Limits) (s : State) (H : Held) (k : ℕ) (r : Bool) (p : List ℕ) (rest : List (List ℕ)) (C : Contents)
     → BlockTag r (lineTag s (split 9 p)) → readFrom limits s H k (p ∷ rest) ≡ Gives C → BlockRead limits s H k r p rest C
-unfolding takenOf
+unfolding takenIf
 block-read limits s H k r p rest C g e =
     let l = line-is rs k p rest _ C e in
     by (said-block r (lineTag s (split 9 p)) limits (s .sheet .header) p g (l .count) (l .fault)) (l .more)
@@ -241,7 +252,7 @@ block-read limits s H k r p rest C g e =
 
     by : BlockSaid r (lineTag s (split 9 p)) rs p
         → cond (eqb (lineTag s (split 9 p)) 69) (cond (nothingLeft rest) (contents (s .sheet) H) (Refused 7 (k + 1)))
-        (onTaken (takenOf s (recordOf (lineTag s (split 9 p)) (split 9 p))) k (λ t. readFrom limits t (holding H (lineTag s (split 9 p)) rs (split 9 p)) (k + 1) rest)) ≡ Gives C
+        (onTaken (takenOf s (H .marks) (recordOf (lineTag s (split 9 p)) (split 9 p))) k (λ t. readFrom limits t (holding H (s .sheet) (lineTag s (split 9 p)) rs (split 9 p)) (k + 1) rest)) ≡ Gives C
         → BlockRead limits s H k r p rest C
     by w o =
         record {
@@ -249,18 +260,44 @@ block-read limits s H k r p rest C g e =
           hs = w .hs;
           block = w .block;
           row = w .row;
-          more = rw (block-no-end r (lineTag s (split 9 p)) g, block-record r (lineTag s (split 9 p)) (split 9 p) g, w .holds H) at o;
+          more = rw (block-no-end r (lineTag s (split 9 p)) g, block-record r (lineTag s (split 9 p)) (split 9 p) g, w .holds H (s .sheet)) at o;
         }
+
+-- A mark's line, likewise
+
+pub record MarkRead (limits : Limits) (s : State) (H : Held) (k : ℕ) (p : List ℕ) (rest : List (List ℕ)) (C : Contents) : Type 0 where
+  pub m : Mark
+  pub row : joined (markFields m) ≡ p
+  pub has : exists (s .sheet) m ≡ true
+  pub once : among (blockOf (s .sheet) m) (H .marks) ≡ false
+  pub more : readFrom limits s (withMark H (marked m (blockOf (s .sheet) m))) (k + 1) rest ≡ Gives C
+
+pub mark-read : (limits : Limits) (s : State) (H : Held) (k : ℕ) (p : List ℕ) (rest : List (List ℕ)) (C : Contents)
+    → lineTag s (split 9 p) ≡ 78 → readFrom limits s H k (p ∷ rest) ≡ Gives C → MarkRead limits s H k p rest C
+unfolding rulesOf recordOf takenIf
+mark-read limits s H k p rest C g e =
+    let l = line-is markRules k p rest _ C (rw g at e) in
+    by (exists (s .sheet) (markOf (split 9 p))) (among (blockOf (s .sheet) (markOf (split 9 p))) (H .marks)) refl refl (l .count) (l .fault)
+    (rw (holds-mark H (s .sheet) (split 9 p)) at (l .more))
+  where
+    m : Mark
+    m = markOf (split 9 p)
+
+    by : (x y : Bool) → exists (s .sheet) m ≡ x → among (blockOf (s .sheet) m) (H .marks) ≡ y → length (split 9 p) ≡ 4 → firstFault markRules (split 9 p) ≡ none
+        → onTaken (cond (x && not y) (taken.Good s) (taken.Bad 18)) k (λ t. readFrom limits t (withMark H (marked m (blockOf (s .sheet) m))) (k + 1) rest) ≡ Gives C → MarkRead limits s H k p rest C
+    by true false q r n f o = record { m = m; row = row-as p (markFields m) (mark-as (split 9 p) n f); has = q; once = r; more = o }
+    by true true q r n f o = let z : _≡_ {A = ℕ} 0 1 = cc in let y : ⊥ = omega arith in absurd y
+    by false y q r n f o = let z : _≡_ {A = ℕ} 0 1 = cc in let y : ⊥ = omega arith in absurd y
 
 -- One line, then the others
 
 abbrev LegalContents : Limits → Contents → Type 0
-LegalContents limits c = LegalSheet limits (c .sheet) (c .held .lent) × LegalBlocks (c .held)
+LegalContents limits c = LegalSheet limits (c .sheet) (c .held .lent) × LegalBlocks (c .held) × LegalMarks (c .sheet) [] (c .held .marks)
 
 module _ (limits : Limits) (most : LegalLimits limits) (p : List ℕ) (rest : List (List ℕ)) (C : Contents)
     (ih : (s : State) (H : Held) (k : ℕ) → Begun limits s H → readFrom limits s H k rest ≡ Gives C → LegalContents limits C) where
   first-line : (k : ℕ) → readFrom limits blank nothing k (p ∷ rest) ≡ Gives C → LegalContents limits C
-  unfolding rulesOf takenOf recordOf
+  unfolding rulesOf takenIf recordOf
   first-line k e =
       let l = line-is (headerRules limits (split 9 p)) k p rest _ C (rw (first-tag (split 9 p)) at e) in
       let fs = split 9 p in
@@ -280,8 +317,10 @@ module _ (limits : Limits) (most : LegalLimits limits) (p : List ℕ) (rest : Li
         ranges = tt;
         tables = tt;
         kinds = record { kinds-count = refl; kinds = tt };
+        marks = tt;
+        early = λ q. refl;
       })
-      (rw (holds-none nothing 83 (headerRules limits fs) fs refl refl refl) at (l .more))
+      (rw (holds-none nothing (blank .sheet) 83 (headerRules limits fs) fs refl refl refl refl) at (l .more))
     where
       none-yet : (j : ℕ) (h : Header) → j < 3 → channelAt (headed h) j ≡ noChannel
       none-yet zero h k = refl
@@ -319,13 +358,17 @@ module _ (limits : Limits) (most : LegalLimits limits) (p : List ℕ) (rest : Li
                 kinds-count = rw (length-append ls (w .ls), length-append rs (r ∷ [])) (omega (arith, x .low-count, b .kinds .kinds-count));
                 kinds = more-kinds rs ls hs r (w .ls) (w .hs) n m (b .kinds .kinds) (x .alike);
               };
+          marks = b .marks;
+          early = b .early;
         })
         (w .more)
 
-    setting-line : (i : ℕ) → SettingTag i (lineTag s (split 9 p)) → readFrom limits s H k (p ∷ rest) ≡ Gives C → LegalContents limits C
-    setting-line i g e =
+    setting-line : (i : ℕ) → mayStand i s ≡ true → SettingTag i (lineTag s (split 9 p)) → readFrom limits s H k (p ∷ rest) ≡ Gives C → LegalContents limits C
+    setting-line i q g e =
         let r = setting-read limits s H k i p rest C g e in
         let t : Sheet = settled (s .sheet) (withSetting (s .sheet .settings) (r .x)) in
+        let z : s .read ≡ 0 = eqb-true (s .read) 0 (both-left (eqb (s .read) 0) (ltb (lastSaid (s .sheet .settings)) i) (both-right (s .begun) (eqb (s .read) 0 && ltb (lastSaid (s .sheet .settings)) i) q)) in
+        let none : H .marks ≡ [] = b .early (omega (arith, some-channel limits (s .sheet .header) (b .header))) in
         ih (withSet s (r .x)) H (k + 1)
         (record {
           begun = b .begun;
@@ -342,15 +385,17 @@ module _ (limits : Limits) (most : LegalLimits limits) (p : List ℕ) (rest : Li
           ranges = b .ranges;
           tables = b .tables;
           kinds = b .kinds;
+          marks = no-marks t (H .marks) none;
+          early = b .early;
         })
         (r .more)
 
     channel-line : s .left ≤ 0 → s .read < s .sheet .header .channels → lineTag s (split 9 p) ≡ 67 → readFrom limits s H k (p ∷ rest) ≡ Gives C → LegalContents limits C
-    unfolding rulesOf takenOf recordOf
+    unfolding rulesOf takenIf recordOf
     channel-line u v g e =
         let l = line-is channelRules k p rest _ C (rw g at e) in
         let fs = split 9 p in
-        covered (covers (s .sheet .header) (channelOf fs)) refl (l .count) (l .fault) (rw (holds-table H fs) at (l .more))
+        covered (covers (s .sheet .header) (channelOf fs)) refl (l .count) (l .fault) (rw (holds-table H (s .sheet) fs) at (l .more))
       where
         fs : List (List ℕ)
         fs = split 9 p
@@ -395,6 +440,8 @@ module _ (limits : Limits) (most : LegalLimits limits) (p : List ℕ) (rest : Li
               ranges = b .ranges;
               tables = more-quantisers (H .lent .tables) qs (b .tables) (a .0);
               kinds = record { kinds-count = b .kinds .kinds-count; kinds = b .kinds .kinds };
+              marks = no-marks (t .sheet) (H .marks) (b .early v);
+              early = λ q. b .early v;
             })
             o
           where
@@ -432,20 +479,46 @@ module _ (limits : Limits) (most : LegalLimits limits) (p : List ℕ) (rest : Li
               ranges = b .ranges;
               tables = b .tables;
             } in
-            subst (LegalContents limits) (same (record { sheet = s .sheet; held = H }) C o) (r, b .kinds)
+            subst (LegalContents limits) (same (record { sheet = s .sheet; held = H }) C o) (r, b .kinds, b .marks)
           where
             same : (A B : Contents) → Gives A ≡ Gives B → A ≡ B
             same A B q = cc
+
+    mark-line : s .left ≤ 0 → s .sheet .header .channels ≤ s .read → lineTag s (split 9 p) ≡ 78 → readFrom limits s H k (p ∷ rest) ≡ Gives C → LegalContents limits C
+    mark-line u v g e =
+        let w = mark-read limits s H k p rest C g e in
+        let m = marked (w .m) (blockOf (s .sheet) (w .m)) in
+        ih s (withMark H m) (k + 1)
+        (record {
+          begun = b .begun;
+          header = b .header;
+          hold = b .hold;
+          upto = b .upto;
+          channel = b .channel;
+          spare = b .spare;
+          lows-count = b .lows-count;
+          highs-count = b .highs-count;
+          tables-count = b .tables-count;
+          lows = b .lows;
+          highs = b .highs;
+          ranges = b .ranges;
+          tables = b .tables;
+          kinds = record { kinds-count = b .kinds .kinds-count; kinds = b .kinds .kinds };
+          marks = more-marks (s .sheet) [] (H .marks) m (b .marks) (record { block = refl; has = exists-has (s .sheet) (w .m) (w .has); once = w .once });
+          early = λ q. let y : ⊥ = omega arith in absurd y;
+        })
+        (w .more)
 
     any-line : readFrom limits s H k (p ∷ rest) ≡ Gives C → LegalContents limits C
     any-line e = by (stands s (split 9 p) (lineTag s (split 9 p)) refl)
       where
         by : Stands s (lineTag s (split 9 p)) → LegalContents limits C
         by (Header-line q g) = unbegun s (b .begun) q
-        by (Setting-line i q g) = setting-line i g e
+        by (Setting-line i q g) = setting-line i q g e
         by (Block-line r q u g) = block-line r u g e
         by (Channel-line q u v g) = channel-line u v g e
         by (End-line q u v g) = end-line u v g e
+        by (Mark-line q u v g) = mark-line u v g e
 
 pub refusal : (k j : ℕ) (C : Contents) {A : Type 0} → Refused k j ≡ Gives C → A
 refusal k j C e = let z : _≡_ {A = ℕ} 0 1 = cc in let y : ⊥ = omega arith in absurd y
@@ -455,7 +528,7 @@ legal-from : (limits : Limits) → LegalLimits limits → (ps : List (List ℕ))
 legal-from limits m [] C s H k b e = refusal 7 k C e
 legal-from limits m (p ∷ rest) C s H k b e = any-line limits m p rest C (legal-from limits m rest C) s H k b e
 
-both-legal : (limits : Limits) (text : List ℕ) (s : Sheet) (H : Held) → readText limits text ≡ contents s H → LegalSheet limits s (H .lent) × LegalBlocks H
+both-legal : (limits : Limits) (text : List ℕ) (s : Sheet) (H : Held) → readText limits text ≡ contents s H → LegalSheet limits s (H .lent) × LegalBlocks H × LegalMarks s [] (H .marks)
 unfolding readText
 both-legal limits text s H e = two (allowed limits) refl e
   where
@@ -476,3 +549,6 @@ legal limits text s H e = both-legal limits text s H e .0
 
 pub legal-blocks : (limits : Limits) (text : List ℕ) (s : Sheet) (H : Held) → readText limits text ≡ contents s H → LegalBlocks H
 legal-blocks limits text s H e = both-legal limits text s H e .1
+
+pub legal-marks : (limits : Limits) (text : List ℕ) (s : Sheet) (H : Held) → readText limits text ≡ contents s H → LegalMarks s [] (H .marks)
+legal-marks limits text s H e = both-legal limits text s H e .2

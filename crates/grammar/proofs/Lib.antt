@@ -9,3 +9,5 @@ pub mod BoundLaws
 pub mod CanonicalLaws
 pub mod PageLaws
 pub mod Examples
+pub mod MarkLaws
+pub mod PartnerLaws

@@ -2,7 +2,7 @@
 use Prim.Native.Nat.{ℕ, _+_, _≤_}
 use mathlib.Core.Path.{_≡_, refl, sym, ap, _∙_}
 use mathlib.Core.List.{List, [], _∷_, _++_}
-use mathlib.Core.Bool.{Bool, true, false, cond, _&&_}
+use mathlib.Core.Bool.{Bool, true, false, not, cond, _&&_}
 use mathlib.Core.Logic.{_⊎_, inl, inr}
 use mathlib.Core.Option.{Option, none, some}
 use native.Mathlib.Nat.{le-trans}
@@ -20,18 +20,19 @@ use Rattle.text.specs.Numbers.{numberOf, numberAt}
 use Rattle.text.specs.Fields.{isSide, countField, fieldOf, faultIn}
 use Rattle.contents.specs.declared.Limits.{Limits}
 use Rattle.contents.specs.Legal.{Between}
-use Rattle.contents.specs.Sheets.{Held, nothing}
+use Rattle.contents.specs.Sheets.{Marked, Held, nothing}
+use Rattle.contents.specs.Marks.{blockOf, among}
 use Rattle.sheet.specs.declared.line.Record.{Record}
 use Rattle.sheet.specs.declared.line.Record.the-variants as line
 use Rattle.sheet.specs.declared.state.State.{State}
 use Rattle.sheet.specs.declared.state.Taken.{Taken}
 use Rattle.sheet.specs.declared.state.Taken.the-variants as taken
 use Rattle.sheet.specs.Lines.{mode, headerRules, rulesOf, orElse, firstFault, fieldsFault, holding, headerOf, recordOf}
-use Rattle.sheet.specs.Reading.{Outcome, Contents, contents, headed, blank, lineTag, opened, covers, takenOf, isLast, lineFault, nothingLeft, onFault, onTaken, readFrom, allowed, readText}
+use Rattle.sheet.specs.Reading.{Outcome, Contents, contents, headed, blank, lineTag, opened, covers, exists, takenIf, takenOf, isLast, lineFault, nothingLeft, onFault, onTaken, readFrom, allowed, readText}
 use Rattle.sheet.specs.Reading.Outcome.{Gives, Refused}
 use Rattle.grammar.specs.Page.{BothCallers, raisedTo, Raised}
 use Rattle.sheet.proofs.StateLaws.{Stands, stands, unbegun, first-tag}
-use Rattle.sheet.proofs.StateLaws.Stands.{Header-line, Setting-line, Block-line, Channel-line, End-line}
+use Rattle.sheet.proofs.StateLaws.Stands.{Header-line, Setting-line, Block-line, Channel-line, End-line, Mark-line}
 use Rattle.sheet.proofs.StateLaws.SettingTag.{F-tag, A-tag, H-tag}
 use Rattle.sheet.proofs.StateLaws.BlockTag.{B-tag, G-tag}
 use Rattle.sheet.proofs.GoodLines.{holds-none}
@@ -50,22 +51,28 @@ rules-later one other s fs b tag (Block-line r p l (B-tag n o)) = rw o
 rules-later one other s fs b tag (Block-line r p l (G-tag n o)) = rw o
 rules-later one other s fs b tag (Channel-line p l r o) = rw o
 rules-later one other s fs b tag (End-line p l r o) = rw o
+rules-later one other s fs b tag (Mark-line p l r o) = rw o
 
 -- a header stays read
 abbrev begunIn : Taken → Bool
 begunIn (taken.Good t) = t .begun
 begunIn (taken.Bad k) = true
 
-begun-kept : (s : State) (r : Record) → s .begun ≡ true → begunIn (takenOf s r) ≡ true
-unfolding takenOf
-begun-kept s (line.Header h) b = refl
-begun-kept s (line.Channel c) b = two (covers (s .sheet .header) c)
+begun-kept : (s : State) (ms : List Marked) (r : Record) → s .begun ≡ true → begunIn (takenOf s ms r) ≡ true
+unfolding takenIf
+begun-kept s ms (line.Header h) b = refl
+begun-kept s ms (line.Channel c) b = two (covers (s .sheet .header) c)
   where
     two : (x : Bool) → begunIn (cond x (taken.Good (opened s c)) (taken.Bad 2)) ≡ true
     two true = refl
     two false = refl
-begun-kept s (line.Setting x) b = b
-begun-kept s line.Block b = b
+begun-kept s ms (line.Setting x) b = b
+begun-kept s ms line.Block b = b
+begun-kept s ms (line.Mark m) b = two (exists (s .sheet) m && not (among (blockOf (s .sheet) m) ms))
+  where
+    two : (x : Bool) → begunIn (cond x (taken.Good s) (taken.Bad 18)) ≡ true
+    two true = b
+    two false = refl
 
 taken-same : (r : Taken) → begunIn r ≡ true → (k : ℕ) (f g : State → Outcome Contents) → ((t : State) → t .begun ≡ true → f t ≡ g t) → onTaken r k f ≡ onTaken r k g
 taken-same (taken.Good t) b k f g h = h t b
@@ -81,14 +88,14 @@ after-header one other (p ∷ rest) s H k b =
     (λ (rs : List Rule). onFault (lineFault rs p rest) k
     (cond (eqb tag 69)
     (cond (nothingLeft rest) (contents (s .sheet) H) (Refused 7 (k + 1)))
-    (onTaken (takenOf s (recordOf tag fs)) k (λ t. readFrom one t (holding H tag rs fs) (k + 1) rest))))
+    (onTaken (takenOf s (H .marks) (recordOf tag fs)) k (λ t. readFrom one t (holding H (s .sheet) tag rs fs) (k + 1) rest))))
     (rules-later one other s fs b tag (stands s fs tag refl))
     ∙ ap
     (λ (o : Outcome Contents). onFault (lineFault rules p rest) k (cond (eqb tag 69) (cond (nothingLeft rest) (contents (s .sheet) H) (Refused 7 (k + 1))) o))
-    (taken-same (takenOf s (recordOf tag fs)) (begun-kept s (recordOf tag fs) b) k
-    (λ t. readFrom one t (holding H tag rules fs) (k + 1) rest)
-    (λ t. readFrom other t (holding H tag rules fs) (k + 1) rest)
-    (λ t c. after-header one other rest t (holding H tag rules fs) (k + 1) c))
+    (taken-same (takenOf s (H .marks) (recordOf tag fs)) (begun-kept s (H .marks) (recordOf tag fs) b) k
+    (λ t. readFrom one t (holding H (s .sheet) tag rules fs) (k + 1) rest)
+    (λ t. readFrom other t (holding H (s .sheet) tag rules fs) (k + 1) rest)
+    (λ t c. after-header one other rest t (holding H (s .sheet) tag rules fs) (k + 1) c))
 
 -- what the header's line leads to
 abbrev begin : List ℕ → State
@@ -96,10 +103,10 @@ begin p = record { begun = true; sheet = headed (headerOf (split 9 p)); read = 0
 
 first-line : (limits : Limits) (p : List ℕ) (rest : List (List ℕ))
     → readFrom limits blank nothing 1 (p ∷ rest) ≡ onFault (lineFault (headerRules limits (split 9 p)) p rest) 1 (readFrom limits (begin p) nothing 2 rest)
-unfolding rulesOf takenOf recordOf
+unfolding rulesOf takenIf recordOf
 first-line limits p rest =
     let fs = split 9 p in
-    rw (first-tag fs, holds-none nothing 83 (headerRules limits fs) fs refl refl refl)
+    rw (first-tag fs, holds-none nothing (blank .sheet) 83 (headerRules limits fs) fs refl refl refl refl)
 
 -- The same contents
 

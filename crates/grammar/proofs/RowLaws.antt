@@ -32,9 +32,11 @@ use Rattle.contents.specs.Hold.{measured, LegalHold}
 use Rattle.contents.specs.declared.Limits.{Limits}
 use Rattle.contents.specs.declared.Header.{Header}
 use Rattle.contents.specs.declared.Channel.{Channel}
+use Rattle.contents.specs.declared.Mark.{Mark}
+use Rattle.contents.specs.declared.Sheet.{Sheet}
 use Rattle.contents.specs.Sheets.{Held}
-use Rattle.sheet.specs.Lines.{count, mode, headerRules, holdRules, holdOf, channelRules, blockRules, pairRules, rangeRules, fieldCount, firstFault, lineAdds, holding, headerOf, channelOf}
-use Rattle.grammar.specs.Written.{headerFields, holdFields, channelFields, pairTexts, blockFields, endFields}
+use Rattle.sheet.specs.Lines.{count, mode, headerRules, holdRules, holdOf, markRules, markOf, channelRules, blockRules, pairRules, rangeRules, fieldCount, firstFault, lineAdds, holding, headerOf, channelOf}
+use Rattle.grammar.specs.Written.{headerFields, holdFields, markFields, channelFields, pairTexts, blockFields, endFields}
 use Rattle.sheet.proofs.GoodLines.{lows-skip, highs-skip, tables-skip}
 use Rattle.grammar.proofs.BlockLaws.{Block, withBlock, block-bytes}
 
@@ -207,6 +209,25 @@ module _ (h : Header) (six : (c : ℕ) → measured h c ≤ 999999) (k l m : ℕ
   unfolding holdOf numberAt
   hold-back = rw (number-back k first-six, number-back l second-six, number-back m third-six)
 
+-- Marks
+
+pub record SmallMark (m : Mark) : Type 0 where
+  pub channel : m .channel ≤ 2
+  pub row : m .row ≤ 63
+  pub column : m .column ≤ 63
+
+module _ (m : Mark) (g : SmallMark m) where
+  any-written : (n : ℕ) → n ≤ 999999 → faultIn (fieldOf (rule.Range 1 0 999999) (decimal n)) ≡ none
+  any-written n h = range-written 1 0 999999 n (record { low = omega arith; top = h }) h
+
+  pub mark-good : firstFault markRules (markFields m) ≡ none
+  mark-good =
+      rw (tag-written 78, any-written (m .channel) (omega (arith, g .channel)), any-written (m .row) (omega (arith, g .row)), any-written (m .column) (omega (arith, g .column)))
+
+  pub mark-back : markOf (markFields m) ≡ m
+  unfolding markOf numberAt
+  mark-back = rw (number-back (m .channel) (omega (arith, g .channel)), number-back (m .row) (omega (arith, g .row)), number-back (m .column) (omega (arith, g .column)))
+
 -- Channels
 
 all-decimal : (qs : List ℕ) → LegalQuantisers qs → (firstFault (replicate (length qs) rule.Quantiser) (map decimal qs) ≡ none) × (lineAdds tablesIn (replicate (length qs) rule.Quantiser) (map decimal qs) ≡ qs)
@@ -299,8 +320,8 @@ module _ (ls hs : List ℤ) where
   block-good false b = rw (tag-written 66) (levels-in b .good)
   block-good true b = rw (tag-written 71) (pairs-in b .good)
 
-  pub block-holds : (r : Bool) → Block r ls hs → (H : Held) → holding H (tagIn r) (rulesIn r (blockFields r ls hs)) (blockFields r ls hs) ≡ withBlock H r ls hs
-  block-holds false b H =
+  pub block-holds : (r : Bool) → Block r ls hs → (H : Held) (s : Sheet) → holding H s (tagIn r) (rulesIn r (blockFields r ls hs)) (blockFields r ls hs) ≡ withBlock H r ls hs
+  block-holds false b H s =
       let a = levels-in b in
       rw (
         lows-skip (rule.Tag 66 ∷ []) (replicate 64 rule.Level) (blockFields false ls hs) refl,
@@ -310,9 +331,10 @@ module _ (ls hs : List ℤ) where
         a .highs,
         a .tables,
         append-nil (H .lent .tables),
+        append-nil (H .marks),
         b .alike refl,
       )
-  block-holds true b H =
+  block-holds true b H s =
       let a = pairs-in b in
       rw (
         lows-skip (rule.Tag 71 ∷ []) (pairRules 64 (pairTexts ls hs)) (blockFields true ls hs) refl,
@@ -322,6 +344,7 @@ module _ (ls hs : List ℤ) where
         a .highs,
         a .tables,
         append-nil (H .lent .tables),
+        append-nil (H .marks),
       )
 
 pairs-many : (ls hs : List ℤ) → length ls ≡ length hs → length (pairTexts ls hs) ≡ 2 * length ls
@@ -398,6 +421,9 @@ header-free b k h =
 
 pub hold-free : (b : ℕ) → b < 45 → (k l m : ℕ) → allFree b (holdFields k l m) ≡ true
 hold-free b h k l m = cleans-free b h (holdFields k l m) (refl, (clean-decimal k, (clean-decimal l, (clean-decimal m, tt))))
+
+pub mark-free : (b : ℕ) → b < 45 → (m : Mark) → allFree b (markFields m) ≡ true
+mark-free b h m = cleans-free b h (markFields m) (refl, (clean-decimal (m .channel), (clean-decimal (m .row), (clean-decimal (m .column), tt))))
 
 pub channel-free : (b : ℕ) → b < 45 → (c : Channel) (qs : List ℕ) → allFree b (channelFields c qs) ≡ true
 channel-free b k c qs =
@@ -488,3 +514,13 @@ channel-short h x c l qs n g =
 
 pub block-short : (r : Bool) (ls hs : List ℤ) → Block r ls hs → length (joined (blockFields r ls hs)) ≤ 1024
 block-short r ls hs b = omega (arith, block-bytes r ls hs b)
+
+pub mark-short : (m : Mark) → SmallMark m → length (joined (markFields m)) ≤ 1024
+mark-short m g =
+    omega (
+      arith,
+      joined-length (markFields m) (1 ∷ replicate 3 6) (omega arith) (
+        omega arith,
+        (short-decimal (m .channel) (omega (arith, g .channel)), (short-decimal (m .row) (omega (arith, g .row)), (short-decimal (m .column) (omega (arith, g .column)), tt))),
+      ),
+    )

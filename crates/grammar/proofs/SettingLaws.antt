@@ -26,6 +26,7 @@ use Rattle.contents.specs.declared.Hold.the-variants as hold
 use Rattle.contents.specs.Hold.{measured, LegalHold}
 use Rattle.contents.specs.declared.Header.{Header}
 use Rattle.contents.specs.declared.Settings.{Settings}
+use Rattle.contents.specs.declared.Sheet.{Sheet}
 use Rattle.contents.specs.Sheets.{Held}
 use Rattle.sheet.specs.declared.line.Setting.{Setting}
 use Rattle.sheet.specs.declared.line.Setting.the-variants as setting
@@ -139,7 +140,7 @@ pub record Said (top : Header) (i g : ℕ) (rs : List Rule) (p : List ℕ) (rec 
   pub place : placeOf x ≡ i
   pub legal : LegalSetting top x
   pub row : settingLine x ≡ p ∷ []
-  pub holds : (H : Held) → holding H g rs (split 9 p) ≡ H
+  pub holds : (H : Held) (s : Sheet) → holding H s g rs (split 9 p) ≡ H
 
 pub said-line : (i g : ℕ) (limits : Limits) (top : Header) (p : List ℕ) → SettingTag i g
     → length (split 9 p) ≡ length (rulesOf g limits top (split 9 p)) → firstFault (rulesOf g limits top (split 9 p)) (split 9 p) ≡ none
@@ -153,7 +154,7 @@ said-line i g limits top p (F-tag q r) n e =
       place = sym q;
       legal = tt;
       row = choice-row 70 116 110 p (rw r at n) (rw r at e);
-      holds = λ H. holds-none H 70 roundingRules (split 9 p) refl refl refl;
+      holds = λ H s. holds-none H s 70 roundingRules (split 9 p) refl refl refl refl;
     })
 said-line i g limits top p (A-tag q r) n e =
     subst⁻¹ (λ (g : ℕ). Said top i g (rulesOf g limits top (split 9 p)) p (recordOf g (split 9 p))) r
@@ -163,7 +164,7 @@ said-line i g limits top p (A-tag q r) n e =
       place = sym q;
       legal = tt;
       row = choice-row 65 109 111 p (rw r at n) (rw r at e);
-      holds = λ H. holds-none H 65 startRules (split 9 p) refl refl refl;
+      holds = λ H s. holds-none H s 65 startRules (split 9 p) refl refl refl refl;
     })
 said-line i g limits top p (H-tag q r) n e =
     subst⁻¹ (λ (g : ℕ). Said top i g (rulesOf g limits top (split 9 p)) p (recordOf g (split 9 p))) r
@@ -173,7 +174,7 @@ said-line i g limits top p (H-tag q r) n e =
       place = sym q;
       legal = hold-legal top (split 9 p) (rw r at n) (rw r at e);
       row = hold-row top p (rw r at n) (rw r at e);
-      holds = λ H. holds-none H 72 (holdRules top) (split 9 p) refl refl refl;
+      holds = λ H s. holds-none H s 72 (holdRules top) (split 9 p) refl refl refl refl;
     })
 
 pub no-end : (i g : ℕ) → SettingTag i g → eqb g 69 ≡ false

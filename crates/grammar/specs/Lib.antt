@@ -4,3 +4,4 @@ pub mod Longest
 pub mod Accepts
 pub mod Page
 pub mod Equal
+pub mod Partner

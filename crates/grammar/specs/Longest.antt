@@ -22,15 +22,19 @@ channelSizes d = 1 ∷ d ∷ d ∷ 1 ∷ 1 ∷ replicate 64 3
 abbrev pub blockSizes : List ℕ
 blockSizes = 1 ∷ replicate 128 5
 
--- a channel with as many blocks as the full sides hold
+-- a mark: a channel is 0 to 2, and there are limit / 8 rows and columns of blocks at most
+abbrev pub markSizes : ℕ → List ℕ
+markSizes limit = let e = length (decimal (limit / 8)) in 1 ∷ 1 ∷ e ∷ e ∷ []
+
+-- a channel with as many blocks as the full sides hold, each marked once
 abbrev pub channelBytes : ℕ → ℕ → ℕ
-channelBytes limit d = rowBytes (channelSizes d) + limit * limit / 64 * rowBytes blockSizes
+channelBytes limit d = rowBytes (channelSizes d) + limit * limit / 64 * rowBytes blockSizes + limit * limit / 64 * rowBytes (markSizes limit)
 
 -- the lines of all settings, F, A and H
 abbrev pub settingsBytes : ℕ
 settingsBytes = rowBytes choiceSizes + rowBytes choiceSizes + rowBytes holdSizes
 
--- No legal text has more bytes: a header, the settings, three channels and E
+-- No legal text has more bytes: a header, the settings, three channels with their marks and E
 unfoldable pub longest : ℕ → ℕ
 longest limit = let d = length (decimal limit) in rowBytes (headerSizes d) + settingsBytes + 3 * channelBytes limit d + 2
 

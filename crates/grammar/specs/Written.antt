@@ -13,8 +13,9 @@ use Rattle.contents.specs.declared.Hold.the-variants as hold
 use Rattle.contents.specs.declared.Header.{Header}
 use Rattle.contents.specs.declared.Settings.{Settings}
 use Rattle.contents.specs.declared.Channel.{Channel}
+use Rattle.contents.specs.declared.Mark.{Mark}
 use Rattle.contents.specs.declared.Sheet.{Sheet}
-use Rattle.contents.specs.Sheets.{lent, Held, held, channelsOf}
+use Rattle.contents.specs.Sheets.{lent, Marked, Held, held, channelsOf}
 use Rattle.sheet.specs.declared.line.Setting.{Setting}
 use Rattle.sheet.specs.declared.line.Setting.the-variants as setting
 
@@ -43,6 +44,10 @@ pairTexts (l ∷ ls) (h ∷ hs) = levelText l ∷ levelText h ∷ pairTexts ls h
 abbrev pub blockFields : Bool → List ℤ → List ℤ → List (List ℕ)
 blockFields false ls hs = (66 ∷ []) ∷ map levelText ls
 blockFields true ls hs = (71 ∷ []) ∷ pairTexts ls hs
+
+-- "channel, block row and block column"
+abbrev pub markFields : Mark → List (List ℕ)
+markFields m = (78 ∷ []) ∷ decimal (m .channel) ∷ decimal (m .row) ∷ decimal (m .column) ∷ []
 
 abbrev pub endFields : List (List ℕ)
 endFields = (69 ∷ []) ∷ []
@@ -78,7 +83,7 @@ blockLines (r ∷ rs) ls hs = joined (blockFields r (take 64 ls) (take 64 hs)) �
 -- what is left after n blocks and m quantisers
 abbrev pub dropHeld : ℕ → ℕ → Held → Held
 dropHeld n m h =
-    held (lent (drop (64 * n) (h .lent .lows)) (drop (64 * n) (h .lent .highs)) (drop m (h .lent .tables))) (drop n (h .ranged))
+    held (lent (drop (64 * n) (h .lent .lows)) (drop (64 * n) (h .lent .highs)) (drop m (h .lent .tables))) (drop n (h .ranged)) []
 
 -- the channels with their tables and levels, one after the other
 abbrev pub channelLines : List Channel → Held → List (List ℕ)
@@ -88,6 +93,11 @@ channelLines (c ∷ cs) h =
     joined (channelFields c (take 64 (h .lent .tables)))
     ∷ (blockLines (take n (h .ranged)) (h .lent .lows) (h .lent .highs) ++ channelLines cs (dropHeld n 64 h))
 
+-- the marks, one after the other
+abbrev pub markLines : List Marked → List (List ℕ)
+markLines [] = []
+markLines (m ∷ ms) = joined (markFields (m .at)) ∷ markLines ms
+
 unfoldable pub written : Sheet → Held → List ℕ
 unfolding decimal weightText levelText
-written s h = ended (joined (headerFields (s .header)) ∷ (settingLines (s .settings) ++ (channelLines (channelsOf s) h ++ joined endFields ∷ [])))
+written s h = ended (joined (headerFields (s .header)) ∷ (settingLines (s .settings) ++ (channelLines (channelsOf s) h ++ (markLines (h .marks) ++ joined endFields ∷ []))))
