@@ -5,16 +5,16 @@ use mathlib.Core.List.{List}
 use mathlib.Core.Bool.{Bool}
 use Rattle.contents.specs.declared.Limits.{Limits}
 use Rattle.contents.specs.declared.Sheet.{Sheet}
-use Rattle.contents.specs.Sheets.{Lent, held}
+use Rattle.contents.specs.Sheets.{Lent, Marked, held}
 use Rattle.sheet.specs.Reading.{contents}
 use Rattle.grammar.proofs.CanonicalLaws.{equal-pairs}
 use Rattle.program.specs.Printed.{says}
 use Rattle.program.specs.Equal.{EqualShown}
 
-same : (s : Sheet) (b : Lent) (one other : List Bool) → says (contents s (held b other)) ≡ says (contents s (held b one))
+same : (s : Sheet) (b : Lent) (one other : List Bool) (ms : List Marked) → says (contents s (held b other ms)) ≡ says (contents s (held b one ms))
 unfolding says
-same s b one other = refl
+same s b one other ms = refl
 
-pub equal-shown : (limits : Limits) (text : List ℕ) (s : Sheet) (b : Lent) (one other : List Bool) → EqualShown limits text s b one other
-equal-shown limits text s b one other =
-    record { shown = λ e k. ap says (equal-pairs limits text s b one other .same e k) ∙ same s b one other ∙ sym (ap says e) }
+pub equal-shown : (limits : Limits) (text : List ℕ) (s : Sheet) (b : Lent) (one other : List Bool) (ms : List Marked) → EqualShown limits text s b one other ms
+equal-shown limits text s b one other ms =
+    record { shown = λ e k. ap says (equal-pairs limits text s b one other ms .same e k) ∙ same s b one other ms ∙ sym (ap says e) }

@@ -28,7 +28,7 @@ use Rattle.digits.specs.Written.{decimal}
 use Rattle.contents.specs.declared.Sheet.{Sheet}
 use Rattle.sheet.specs.Lines.{rulesOf, fieldsFault, headerOf, channelOf, recordOf}
 use Rattle.contents.specs.Sheets.{lent, held, noChannel, noSettings}
-use Rattle.sheet.specs.Reading.{contents, blank, lineTag, takenOf, lineFault, readText}
+use Rattle.sheet.specs.Reading.{contents, blank, lineTag, takenIf, lineFault, readText}
 use Rattle.rounds.specs.Whole.{runBlows, last, runOf}
 use Rattle.solve.specs.Solve.{joint, alone, separately, wholeOf, planes, blows, totalsOf, clippedAt}
 use Rattle.calls.specs.Buffers.{joined}
@@ -90,8 +90,8 @@ levels = pairs ones ones
 abbrev tables : List ℕ
 tables = replicate 64 8
 
-reads : readText limits example ≡ contents sheet (held (lent ones ones tables) (false ∷ []))
-unfolding readText blank lineTag takenOf recordOf headerOf channelOf lineFault fieldsFault rulesOf numberAt weightAt numberOf bitForm weightOf levelOf fieldOf
+reads : readText limits example ≡ contents sheet (held (lent ones ones tables) (false ∷ []) [])
+unfolding readText blank lineTag takenIf recordOf headerOf channelOf lineFault fieldsFault rulesOf numberAt weightAt numberOf bitForm weightOf levelOf fieldOf
 reads = refl
 
 -- N = 0: the unprojected start, "all 64 are v = 1 − 2⁻²⁴, not 1"
@@ -128,5 +128,5 @@ whole-example =
 
 -- "For 7 it is the unended line, the one after the last when `E` is missing": no line at all
 pub empty-text : printed [] ≡ b "X\t7\t1\n"
-unfolding printed says readText blank lineTag takenOf recordOf headerOf channelOf lineFault fieldsFault rulesOf numberAt weightAt numberOf bitForm weightOf levelOf fieldOf refusalText decimal
+unfolding printed says readText blank lineTag takenIf recordOf headerOf channelOf lineFault fieldsFault rulesOf numberAt weightAt numberOf bitForm weightOf levelOf fieldOf refusalText decimal
 empty-text = refl

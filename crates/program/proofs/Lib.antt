@@ -6,4 +6,5 @@ pub mod Sizes
 pub mod Printing
 pub mod Callers
 pub mod Equal
+pub mod Partner
 pub mod Examples

@@ -21,7 +21,8 @@ use Rattle.sheet.specs.declared.Measured.the-variants as measured
 use Rattle.sheet.specs.declared.Answer as Read
 use Rattle.sheet.specs.declared.Answer.the-variants as read
 use Rattle.contents.specs.Legal.{LegalHeader, LegalSheet}
-use Rattle.contents.specs.Sheets.{channelAt, levelsTo, Lent, held}
+use Rattle.contents.specs.Sheets.{channelAt, levelsTo, Lent, Marked, held}
+use Rattle.contents.specs.declared.Reader.the-variants as reader
 use Rattle.sheet.specs.Reading.{Outcome, Contents, contents, readText}
 use Rattle.sheet.specs.Reading.Outcome.{Gives, Refused}
 use Rattle.sheet.specs.Calls.{Lengths, measuredSays, answerSays, lengthsOf, measuring, fitted, sheetIn, lentAfter, Reads}
@@ -145,7 +146,7 @@ given a b e = cc
 
 module _ (text : List ℕ) (into after : Lent) (r : Read.Answer)
     (room : measuring limits text ≡ Gives (record { levels = length (into .lows); tables = length (into .tables) })) (even : length (into .highs) ≡ length (into .lows))
-    (said : Reads limits text into after r) where
+    (said : Reads limits reader.Staff text into after r) where
   -- what is read has as many highs as lows
   whole : fitted into (readText limits text) ≡ readText limits text
   whole = by (readText limits text) refl room
@@ -160,21 +161,21 @@ module _ (text : List ℕ) (into after : Lent) (r : Read.Answer)
           rw (eq-eqb (length (b .lows)) (length (into .lows)) l, eq-eqb (length (b .highs)) (length (into .highs)) h, eq-eqb (length (b .tables)) (length (into .tables)) t) refl
       by (Refused k at) q e = refl
 
-  -- the sheet and the buffers are what was read, with some kinds of its blocks
-  sheet-read : (s : Sheet) → r ≡ read.Sheet s → (rs : List Bool) × (readText limits text ≡ contents s (held after rs))
+  -- the sheet and the buffers are what was read, with some kinds of its blocks and some marks
+  sheet-read : (s : Sheet) → r ≡ read.Sheet s → (rs : List Bool) × (ms : List Marked) × (readText limits text ≡ contents s (held after rs ms))
   sheet-read s p =
-      by (readText limits text) (sym (ap answerSays p) ∙ said .answer ∙ ap sheetIn whole) (said .lent ∙ ap (λ (o : Outcome Contents). lentAfter o into) whole)
+      by (readText limits text) (sym (ap answerSays p) ∙ said .answer ∙ ap sheetIn whole) (said .lent ∙ ap (λ (o : Outcome Contents). lentAfter reader.Staff o into) whole)
     where
-      by : (T : Outcome Contents) → Gives s ≡ sheetIn T → after ≡ lentAfter T into → (rs : List Bool) × (T ≡ contents s (held after rs))
-      by (Gives c) e p = let same : c .sheet ≡ s = cc in (c .held .ranged, λ i. Gives (record { sheet = same i; held = held (sym p i) (c .held .ranged) }))
+      by : (T : Outcome Contents) → Gives s ≡ sheetIn T → after ≡ lentAfter reader.Staff T into → (rs : List Bool) × (ms : List Marked) × (T ≡ contents s (held after rs ms))
+      by (Gives c) e p = let same : c .sheet ≡ s = cc in (c .held .ranged, c .held .marks, λ i. Gives (record { sheet = same i; held = held (sym p i) (c .held .ranged) (c .held .marks) }))
       by (Refused k at) e p = absurd (let z : _≡_ {A = ℕ} 0 1 = cc in omega arith)
 
   pub sheet-legal : (s : Sheet) → r ≡ read.Sheet s → LegalSheet limits s after
-  sheet-legal s p = let q = sheet-read s p in legal limits text s (held after (q .0)) (q .1)
+  sheet-legal s p = let q = sheet-read s p in legal limits text s (held after (q .0) (q .1)) (q .2)
 
   pub sheet-text : (s : Sheet) → r ≡ read.Sheet s → (out : List ℕ) (n : ℕ) (out′ : List ℕ) → Wrote 0 (sheetText s (levelsOf after) (after .tables)) out n out′ → Wrote 0 (printed text) out n out′
   unfolding printed says
-  sheet-text s p out n out′ w = wrote-as (ap says (sym (sheet-read s p .1))) w
+  sheet-text s p out n out′ w = wrote-as (ap says (sym (sheet-read s p .2))) w
 
   -- a refusal was measured before
   pub not-refused : (k line : ℕ) → r ≡ read.Refused k line → ⊥
@@ -222,7 +223,7 @@ same-room o n m n′ m′ e p q = e ∙ (λ i. Gives (record { levels = sym p i;
 
 -- the code's constant
 abbrev decided : ℕ
-decided = 38910
+decided = 39294
 
 pub decisive-32 : decisive 32 ≡ decided
 unfolding decisive longest decimal

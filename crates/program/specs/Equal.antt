@@ -6,7 +6,7 @@ use mathlib.Core.List.{List}
 use mathlib.Core.Bool.{Bool}
 use Rattle.contents.specs.declared.Limits.{Limits}
 use Rattle.contents.specs.declared.Sheet.{Sheet}
-use Rattle.contents.specs.Sheets.{Lent, held}
+use Rattle.contents.specs.Sheets.{Lent, Marked, held}
 use Rattle.contents.specs.Legal.{LegalBlocks}
 use Rattle.sheet.specs.Reading.{contents, readText}
 use Rattle.grammar.specs.Written.{written}
@@ -14,6 +14,6 @@ use Rattle.program.specs.Printed.{says}
 
 -- Of an accepted text with the lines `one` for its blocks: written with any other lines that may stand for them, `B` or `G` where the pairs are
 -- equal, it prints the same totals, numbers and picture, or the same 10
-pub record EqualShown (limits : Limits) (text : List ℕ) (s : Sheet) (b : Lent) (one other : List Bool) : Type 0 where
-  pub shown : readText limits text ≡ contents s (held b one) → LegalBlocks (held b other)
-      → says (readText limits (written s (held b other))) ≡ says (readText limits text)
+pub record EqualShown (limits : Limits) (text : List ℕ) (s : Sheet) (b : Lent) (one other : List Bool) (ms : List Marked) : Type 0 where
+  pub shown : readText limits text ≡ contents s (held b one ms) → LegalBlocks (held b other ms)
+      → says (readText limits (written s (held b other ms))) ≡ says (readText limits text)

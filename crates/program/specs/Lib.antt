@@ -2,3 +2,4 @@
 pub mod Printed
 pub mod Callers
 pub mod Equal
+pub mod Partner

@@ -2,6 +2,7 @@
 use contents::Choice;
 use contents::Header;
 use contents::Limits;
+use contents::Reader;
 use contents::Sheet;
 use picture::Rounding;
 use record::Answer;
@@ -26,7 +27,7 @@ ghost use Rattle.output.specs.Output.{Wrote};
 ghost use Rattle.program.specs.Printed.{limits, roundingOf, painted, runLines, totalsLines, clippedLines, sheetText, printed, mostPicture, mostTotals, mostPrinted, printedInto, SixLong};
 
 // So many bytes of a text decide what is printed for it: `decisive 32`.
-const DECISIVE: usize = 38910;
+const DECISIVE: usize = 39294;
 // No text that is printed takes more bytes: `mostPrinted`.
 const MOST_PRINTED: usize = 136269;
 
@@ -195,7 +196,7 @@ fn solved(s: Sheet, lows: &[i16], highs: &[i16], tables: &[u16], out: &mut [u8])
     )
 }
 
-// The text of a sheet; lows, highs and tables are room for its levels and tables.
+// The text of a sheet, read as staff: lines N change nothing. Lows, highs and tables are room for its levels and tables.
 fn read_with(
     text: &[u8],
     lows: &mut [i16],
@@ -212,6 +213,7 @@ fn read_with(
             side: 32,
             iterations: 1000,
         },
+        Reader::Staff,
         lows,
         highs,
         tables,
