@@ -8,13 +8,15 @@ use lib.Ieee.Fits.{and-i, eq→eqb}
 use Rattle.float.specs.Names.{f0}
 use Rattle.start.specs.Buffers.{Buffers}
 use Rattle.calls.specs.Calls.{all, allSix, lengths}
+use Rattle.contents.specs.Marks.{seenBy}
 use Rattle.grammar.proofs.LegalLaws.{legal}
 use Rattle.rounds.specs.Whole.{six, loan}
 use Rattle.solve.specs.Solve.{blendCount}
 use Rattle.program.specs.Printed.{levelsOf, limits, printed, says, sheetText, solvedText}
 use Rattle.program.proofs.Accepts.{accepts}
+use Rattle.program.proofs.Partner.{seen-legal}
 use Rattle.output.specs.Output.{refusalText}
-use Rattle.unblown.specs.Calls.{ContentsNeverBlow, SmoothPaints}
+use Rattle.unblown.specs.Calls.{ContentsNeverBlow, ReadNeverBlows, SmoothPaints}
 use Rattle.unblown.proofs.Unblown.{taken-never}
 
 -- room for a sheet's run: six of n values
@@ -36,6 +38,9 @@ contents-never limits S b l m =
     let totals = replicate (blendCount S * 2) f0 in
     taken-never S m (levelsOf b) (b .tables) (loan (room n) totals)
     (accepts limits S b l (lengths allSix (room n)) (room-long n) (length totals) (length-replicate (blendCount S * 2) f0))
+
+pub read-never : ReadNeverBlows
+read-never limits text c who read m = contents-never limits (c .sheet) (seenBy who (c .held)) (seen-legal limits text c .legal read who) m
 
 -- the program's text is that of the solved sheet
 pub smooth-paints : SmoothPaints

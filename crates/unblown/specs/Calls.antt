@@ -9,7 +9,9 @@ use Rattle.start.specs.Buffers.{Buffers}
 use Rattle.start.specs.Coef.{Levels}
 use Rattle.contents.specs.declared.Limits.{Limits}
 use Rattle.contents.specs.declared.Sheet.{Sheet}
+use Rattle.contents.specs.declared.Reader.{Reader}
 use Rattle.contents.specs.Sheets.{Lent}
+use Rattle.contents.specs.Marks.{seenBy}
 use Rattle.contents.specs.Legal.{LegalSheet}
 use Rattle.sheet.specs.Reading.{Contents, readText}
 use Rattle.sheet.specs.Reading.Outcome.{Gives}
@@ -48,6 +50,11 @@ SolveNeverBlown = (S : Sheet) → MildSheet S → (levels : Levels) (tables : Li
 -- a sheet with legal levels and tables, whoever read them, does not blow
 abbrev pub ContentsNeverBlow : Type 0
 ContentsNeverBlow = (limits : Limits) (S : Sheet) (b : Lent) → LegalSheet limits S b → MildSheet S → blows S (levelsOf b) (b .tables) ≡ false
+
+-- so it is of every text, whoever reads it, staff or partner
+abbrev pub ReadNeverBlows : Type 0
+ReadNeverBlows = (limits : Limits) (text : List ℕ) (c : Contents) (who : Reader) → readText limits text ≡ Gives c → MildSheet (c .sheet)
+    → blows (c .sheet) (levelsOf (seenBy who (c .held))) (seenBy who (c .held) .tables) ≡ false
 
 -- `smooth` never prints `X`, 10 and 0 for a text that is read as a mild sheet: it prints the lines `T` and `K` and the picture
 abbrev pub SmoothPaints : Type 0
