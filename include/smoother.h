@@ -31,7 +31,7 @@ extern "C" {
 enum smoother_answer {
     SMOOTHER_OK = 0,
     SMOOTHER_FORM = 1,     /* a line with a wrong tag, number of fields or spelling, over 1,024 bytes, or in the wrong place */
-    SMOOTHER_SIZE = 2,     /* a side, channel count or iteration count out of range, or a channel larger than the picture; also a limit that is none */
+    SMOOTHER_SIZE = 2,     /* a side, channel count or iteration count out of range, or a channel larger than the picture; also a limit or a reader that is none */
     SMOOTHER_FACTOR = 3,   /* an across or down factor that is not 1 to 4 */
     SMOOTHER_TABLE = 4,    /* a quantiser that is not 1 to 255 */
     SMOOTHER_LEVEL = 5,    /* a level beyond +-2,047 */
@@ -46,6 +46,7 @@ enum smoother_answer {
     SMOOTHER_RANGE = 14,   /* a lowest level above the highest of its place */
     SMOOTHER_PAGE = 15,    /* an iteration count within 1,000 but above the caller's limit */
     SMOOTHER_HOLD = 17,    /* a count of line H above the iterations that it is measured against */
+    SMOOTHER_MARK = 18,    /* a mark of line N whose channel or block the sheet has not, or whose block is marked already */
     SMOOTHER_SEGMENT = 19,   /* a DQT segment with a wrong marker or stated length, or with fewer than 64 bytes left for a table */
     SMOOTHER_PRECISION = 20, /* a table of a DQT segment with a precision other than 0 or a destination above 3 */
     SMOOTHER_NOW_BLOWN = 255 /* project: done, and the channel is now marked blown; smoother_solve: a channel blew */
@@ -60,7 +61,7 @@ enum smoother_answer {
 /* Measures a text of `text_len` bytes. `side` is the largest full side that is accepted, a multiple of 8, 8 to 512; `iterations` the largest
  * iteration count, 0 to 1,000, of spare ones too. Another limit is 2 at line 0, before the text is looked at.
  * 0: *levels (of lows, and of highs) and *tables are the lengths that smoother_read needs, *line is 0. Whatever the limits, a text that is accepted reads as the same sheet.
- * 1 to 7, 14, 15, 17: *line is the line at fault, counted from 1; *levels and *tables are unchanged. 15 is a count above `iterations`, at its field;
+ * 1 to 7, 14, 15, 17, 18: *line is the line at fault, counted from 1; *levels and *tables are unchanged. 15 is a count above `iterations`, at its field;
  * one above 1,000 is 2. */
 uint32_t smoother_measure(const uint8_t *text, size_t text_len, uint32_t side, uint32_t iterations, size_t *levels, size_t *tables, size_t *line);
 
@@ -83,12 +84,19 @@ enum smoother_header {
     SMOOTHER_NUMBERS = 32
 };
 
-/* Reads a text. `lows` and `highs` have the measured length of levels, `tables` that of tables, `header` has SMOOTHER_NUMBERS places.
+/* Who reads, for smoother_read. */
+enum smoother_reader {
+    SMOOTHER_STAFF = 0,  /* gets all levels */
+    SMOOTHER_PARTNER = 1 /* gets the same but for 0 in place of all levels, or pairs, after the first of a block that a line N marks */
+};
+
+/* Reads a text. `partner` is SMOOTHER_STAFF or SMOOTHER_PARTNER; another number is 2 at line 0, before the text is looked at. Whether and how a text is
+ * refused is the same for both. `lows` and `highs` have the measured length of levels, `tables` that of tables, `header` has SMOOTHER_NUMBERS places.
  * 0: all four are filled, *line is 0. Lows and highs are w x h values a channel: the pairs of the G lines, and each level of a B line in both;
  * tables are 64 quantisers a channel.
- * 1 to 7, 14, 15, 17: as measure answers for this text. 8, with *line 0: the text is legal, a length is wrong. A refusal leaves the four as they were. */
-uint32_t smoother_read(const uint8_t *text, size_t text_len, uint32_t side, uint32_t iterations, int16_t *lows, size_t lows_len,
-                       int16_t *highs, size_t highs_len, uint16_t *tables, size_t tables_len, uint32_t *header, size_t header_len, size_t *line);
+ * 1 to 7, 14, 15, 17, 18: as measure answers for this text. 8, with *line 0: the text is legal, a length is wrong. A refusal leaves the four as they were. */
+uint32_t smoother_read(const uint8_t *text, size_t text_len, uint32_t side, uint32_t iterations, uint32_t partner, int16_t *lows,
+                       size_t lows_len, int16_t *highs, size_t highs_len, uint16_t *tables, size_t tables_len, uint32_t *header, size_t header_len, size_t *line);
 
 /* ---- A run ---- */
 

@@ -122,7 +122,7 @@ int main(int argc, char **argv)
     int16_t *lows = space(n, sizeof *lows), *highs = space(n, sizeof *highs);
     uint16_t *tables = space(m, sizeof *tables);
     uint32_t sheet[SMOOTHER_NUMBERS];
-    done("read", smoother_read(text, text_len, SMOOTHER_MOST_SIDE, SMOOTHER_MOST_ITERATIONS, lows, n, highs, n, tables, m, sheet, SMOOTHER_NUMBERS, &line));
+    done("read", smoother_read(text, text_len, SMOOTHER_MOST_SIDE, SMOOTHER_MOST_ITERATIONS, SMOOTHER_STAFF, lows, n, highs, n, tables, m, sheet, SMOOTHER_NUMBERS, &line));
 
     struct smoother_run run = run_of(sheet);
     n = 0;

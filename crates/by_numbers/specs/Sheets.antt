@@ -4,9 +4,11 @@ use mathlib.Core.Path.{_≡_}
 use mathlib.Core.List.{List, [], _∷_, _++_}
 use mathlib.Core.Bool.{cond}
 use lib.ListN.{length}
-use lib.Dec.{eqb}
+use lib.Dec.{eqb, leb}
 use lib.Ieee.{binary32, toBits}
 use Rattle.contents.specs.declared.Weight.{Weight}
+use Rattle.contents.specs.declared.Reader.{Reader}
+use Rattle.contents.specs.declared.Reader.the-variants as reader
 use Rattle.contents.specs.Weights.{valueOf}
 use Rattle.contents.specs.declared.Sheet.{Sheet}
 use Rattle.contents.specs.declared.Choice.{Choice}
@@ -86,12 +88,20 @@ abbrev pub withRecord : ℕ → Outcome Contents → Outcome Contents
 withRecord n (Gives c) = cond (eqb n recordCount) (Gives c) (Refused 8 0)
 withRecord n (Refused k line) = Refused k line
 
+-- who reads, by a number: 0 is staff, 1 is a partner
+abbrev pub readerFrom : ℕ → Reader
+readerFrom n = cond (eqb n 1) reader.Partner reader.Staff
+
+-- the call by a reader's number: 2 at line 0 where it is neither 0 nor 1, before the text is looked at
+abbrev pub byReader : ℕ → Outcome Contents → Outcome Contents
+byReader n o = cond (leb n 1) o (Refused 2 0)
+
 abbrev pub numbersAfter : Outcome Contents → List ℕ → List ℕ
 numbersAfter (Gives c) old = numbersOf (c .sheet)
 numbersAfter (Refused k line) old = old
 
-pub record ReadsNumbers (o : Outcome Contents) (into after : Lent) (n₀ n : List ℕ) (at r : ℕ) : Type 0 where
+pub record ReadsNumbers (who : Reader) (o : Outcome Contents) (into after : Lent) (n₀ n : List ℕ) (at r : ℕ) : Type 0 where
   pub number : r ≡ numberIn o
   pub line : at ≡ lineIn o
-  pub lent-after : after ≡ lentAfter o into
+  pub lent-after : after ≡ lentAfter who o into
   pub numbers : n ≡ numbersAfter o n₀

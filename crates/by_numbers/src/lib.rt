@@ -1,4 +1,5 @@
 // A sheet's record as numbers, in the order of `numbersOf`: what reading lends out, and what the whole run and the picture take back.
+pub mod reading;
 pub mod sheets;
 
 use contents::Choice;

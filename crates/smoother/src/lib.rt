@@ -5,16 +5,14 @@ pub mod sheets;
 pub mod sizes;
 pub mod tapes;
 
-use by_numbers::NUMBERS;
 use contents::Limits;
 use record::Channel;
-use sheet::Answer;
 use sheet::Measured;
 ghost use mathlib.Core.Path.{_≡_};
 ghost use lib.ListN.{length};
 ghost use Rattle.contents.specs.Sheets.{lent};
 ghost use Rattle.sheet.specs.Calls.{measuring, reading};
-ghost use Rattle.by_numbers.specs.Sheets.{Measures, ReadsNumbers, withRecord};
+ghost use Rattle.by_numbers.specs.Sheets.{Measures, ReadsNumbers, withRecord, readerFrom, byReader};
 
 // The run's record as C has it: that of `record`, but for the letter of line A, which is a number here: 0 for m, 1 for o.
 #[repr(C)]
@@ -64,47 +62,26 @@ pub extern "C" fn smoother_measure(
     }
 }
 
-// Reads a text into the lent buffers: lows, highs, tables and the record's numbers. A refusal leaves all four as they are.
-// Ruled out: levels of a text whose last line is bad; highs in the lows; 8 for a text that is itself refused.
+// Reads a text into the lent buffers: lows, highs, tables and the record's numbers. Partner is 0 for the staff and 1 for a partner, to whom all levels of a marked
+// block but the first are 0; another number is 2 at line 0, before the text is looked at. A refusal leaves all four as they are.
+// Ruled out: levels of a text whose last line is bad; highs in the lows; 8 for a text that is itself refused; a level of a marked block, but the first, for a partner.
 #[no_mangle]
 pub extern "C" fn smoother_read(
     text: &[u8],
     side: u32,
     iterations: u32,
+    partner: u32,
     lows: &mut [i16],
     highs: &mut [i16],
     tables: &mut [u16],
     header: &mut [u32],
     line: &mut usize,
 ) -> u32
-    ensures { λ r. ⌜ ReadsNumbers (withRecord (length (now (header .entry))) (reading (record { side = side; iterations = iterations }) (now (text .entry)) (lent (now (lows .entry)) (now (highs .entry)) (now (tables .entry)))))
+    ensures { λ r. ⌜ ReadsNumbers (readerFrom partner) (byReader partner (withRecord (length (now (header .entry))) (reading (record { side = side; iterations = iterations }) (now (text .entry)) (lent (now (lows .entry)) (now (highs .entry)) (now (tables .entry))))))
         (lent (now (lows .entry)) (now (highs .entry)) (now (tables .entry))) (lent (now (lows .exit)) (now (highs .exit)) (now (tables .exit))) (now (header .entry)) (now (header .exit)) (now (line .exit)) r ⌝ }
 {
-    if header.len() == NUMBERS {
-        match sheet::read(text, Limits { side, iterations }, lows, highs, tables) {
-            Answer::Sheet(s) => {
-                by_numbers::put(by_numbers::numbers(s), header);
-                *line = 0;
-                0
-            }
-            Answer::Refused { number, line: l } => {
-                *line = l;
-                number as u32
-            }
-        }
-    } else {
-        match sheet::measure(text, Limits { side, iterations }) {
-            Measured::Lengths {
-                levels: _,
-                tables: _,
-            } => {
-                *line = 0;
-                8
-            }
-            Measured::Refused { number, line: l } => {
-                *line = l;
-                number as u32
-            }
-        }
-    }
+    let limits = Limits { side, iterations };
+    let told = by_numbers::reading::read(text, limits, partner, lows, highs, tables, header);
+    *line = told.line;
+    told.number
 }

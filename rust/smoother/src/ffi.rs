@@ -17,6 +17,7 @@ exports! {
         text_len: usize,
         side: u32,
         iterations: u32,
+        partner: u32,
         lows: *mut i16,
         lows_len: usize,
         highs: *mut i16,

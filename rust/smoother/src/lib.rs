@@ -31,6 +31,7 @@ pub use run::{
 };
 pub use segments::{QUANTISERS, SEGMENT, dqt_export, dqt_export_into, dqt_import};
 pub use sheet::{
-    Lengths, Levels, Limits, NUMBERS, Own, Rounding, Sheet, Solved, finish_into, measure, read, read_into, solve_into,
+    Lengths, Levels, Limits, NUMBERS, Own, Reader, Rounding, Sheet, Solved, finish_into, measure, read, read_as,
+    read_into, solve_into,
 };
 pub use tapes::{rearrange, rearrange_into, restore, restore_into};

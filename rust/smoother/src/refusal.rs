@@ -21,16 +21,17 @@ pub enum Refusal {
     Range,
     Page,
     Hold = 17,
-    Segment = 19,
+    Mark,
+    Segment,
     Precision,
 }
 
 use Refusal::*;
 
 impl Refusal {
-    pub const ALL: [Self; 18] = [
+    pub const ALL: [Self; 19] = [
         Form, Size, Factor, Table, Level, Weight, Cut, Length, Turn, Blown, Done, Channel, Record, Range, Page, Hold,
-        Segment, Precision,
+        Mark, Segment, Precision,
     ];
 
     pub const fn number(self) -> u32 {
@@ -66,6 +67,7 @@ impl Refusal {
             Range => "range",
             Page => "page",
             Hold => "hold",
+            Mark => "mark",
             Segment => "segment",
             Precision => "precision",
         }
@@ -75,7 +77,7 @@ impl Refusal {
         match self {
             Form => "a line with a wrong tag, number of fields or spelling, over 1,024 bytes, or in the wrong place",
             Size => {
-                "a side, channel count or iteration count out of range, or a channel larger than the picture; also a limit that is none"
+                "a side, channel count or iteration count out of range, or a channel larger than the picture; also a limit or a reader that is none"
             }
             Factor => "an across or down factor that isn't 1 to 4",
             Table => "a quantiser that isn't 1 to 255",
@@ -93,6 +95,7 @@ impl Refusal {
             Range => "a lowest level above the highest of its place",
             Page => "an iteration count within 1,000 but above the caller's limit",
             Hold => "a count of line `H` above the iterations that it is measured against",
+            Mark => "a mark of line `N` whose channel or block the sheet has not, or whose block is marked already",
             Segment => {
                 "a DQT segment with a wrong marker or stated length, or with fewer than 64 bytes left for a table"
             }

@@ -92,6 +92,16 @@ impl Default for Limits {
 /// Numbers of a sheet's record.
 pub const NUMBERS: usize = 32;
 
+/// Who reads a text (document 02, M-110).
+#[derive(Clone, Copy, Debug, Default, PartialEq, Eq)]
+pub enum Reader {
+    /// Gets all levels.
+    #[default]
+    Staff = 0,
+    /// Gets the same but for 0 in place of all levels, or pairs, after the first of a block that a line `N` marks.
+    Partner = 1,
+}
+
 fn at(line: usize) -> impl FnOnce(Error) -> Fault {
     move |error| Fault { error, line }
 }
@@ -108,10 +118,11 @@ pub fn measure(text: &[u8], limits: Limits) -> Result<Lengths, Fault> {
 
 /// Reads a text into lent buffers: `lows`, `highs` and `tables` of the measured lengths, and `header` of `NUMBERS` places, for the fields of line `S` (mode 1
 /// joint, 0 separate; weights as f32 bits), own sides and factors of three channels, then the rounding (0 truncated, 1 nearest), the reordering (0 after each
-/// block, 1 once) and the three held steps.
+/// block, 1 once) and the three held steps. Whether and how a text is refused is the same for both readers.
 pub fn read_into(
     text: &[u8],
     limits: Limits,
+    reader: Reader,
     lows: &mut [i16],
     highs: &mut [i16],
     tables: &mut [u16],
@@ -121,18 +132,23 @@ pub fn read_into(
     // SAFETY: each pointer and length are of one slice, and the slices do not overlap.
     let number = unsafe {
         lend!(smoother_read(
-            read text, limits.side, limits.iterations, write lows, write highs, write tables, write header, &mut line
+            read text, limits.side, limits.iterations, reader as u32, write lows, write highs, write tables, write header, &mut line
         ))
     };
     done(number).map_err(at(line))
 }
 
-/// Reads a text.
+/// Reads a text as staff.
 pub fn read(text: &[u8], limits: Limits) -> Result<Sheet, Fault> {
+    read_as(text, limits, Reader::Staff)
+}
+
+/// Reads a text for this reader.
+pub fn read_as(text: &[u8], limits: Limits, reader: Reader) -> Result<Sheet, Fault> {
     let lengths = measure(text, limits)?;
     let (mut lows, mut highs) = (vec![0; lengths.levels], vec![0; lengths.levels]);
     let (mut tables, mut n) = (vec![0; lengths.tables], [0; NUMBERS]);
-    read_into(text, limits, &mut lows, &mut highs, &mut tables, &mut n)?;
+    read_into(text, limits, reader, &mut lows, &mut highs, &mut tables, &mut n)?;
     let three = |at: usize| [n[at], n[at + 1], n[at + 2]];
     let own = |at: usize| Own { width: n[at], height: n[at + 1], across: n[at + 2], down: n[at + 3] };
     Ok(Sheet {

@@ -225,7 +225,7 @@ fn iteration_counts_above_the_callers_limit() {
         assert_eq!(read(text.as_bytes(), limits).err(), due, "{text}");
         assert_eq!(measure(text.as_bytes(), limits).err(), due, "{text}");
         assert_eq!(
-            read_into(text.as_bytes(), limits, &mut [], &mut [], &mut [], &mut []).err(),
+            read_into(text.as_bytes(), limits, Reader::Staff, &mut [], &mut [], &mut [], &mut []).err(),
             due.or(fault(Refusal::Length, 0))
         );
     }
@@ -240,7 +240,16 @@ fn reading_into_wrong_lengths() {
         let (mut lows, mut highs, mut tables, mut header) = (vec![7; n], vec![7; o], vec![7; m], vec![7; k]);
         let due = Err(Fault { error: Refusal::Length.into(), line: 0 });
         let text = whole();
-        assert_eq!(read_into(text.as_bytes(), Limits::default(), &mut lows, &mut highs, &mut tables, &mut header), due);
+        let said = read_into(
+            text.as_bytes(),
+            Limits::default(),
+            Reader::Staff,
+            &mut lows,
+            &mut highs,
+            &mut tables,
+            &mut header,
+        );
+        assert_eq!(said, due);
         assert!(lows.iter().chain(&highs).all(|x| *x == 7));
         assert!(tables.iter().all(|x| *x == 7) && header.iter().all(|x| *x == 7));
     }
@@ -248,7 +257,7 @@ fn reading_into_wrong_lengths() {
 
 #[test]
 fn table_of_refusals() {
-    let numbers: Vec<u32> = (1..=15).chain([17, 19, 20]).collect();
+    let numbers: Vec<u32> = (1..=15).chain(17..=20).collect();
     assert_eq!(Refusal::ALL.map(Refusal::number).to_vec(), numbers);
     for refusal in Refusal::ALL {
         assert_eq!(Refusal::of_number(refusal.number()), Some(refusal));
@@ -271,6 +280,7 @@ fn table_of_refusals() {
         "range",
         "page",
         "hold",
+        "mark",
         "segment",
         "precision",
     ];
@@ -529,6 +539,37 @@ fn clipped_numbers() {
         if due.is_ok() {
             assert!(damaged.channels.iter().all(|c| c.clipped == 0));
         }
+    }
+}
+
+/// Document 02, M-110: a partner gets the first level of a marked block and 63 zeros, whatever the others are; the staff gets all. 18 for both.
+#[test]
+fn marked_blocks() {
+    let text = |levels: &str, lines: &str| {
+        let block = format!("B 9 {levels}") + &" 0".repeat(61);
+        whole().lines().map(|line| line.to_owned() + "\n").fold(String::new(), |text, line| match line.as_bytes()[0] {
+            b'B' => text + &tabs(&block),
+            b'E' => text + lines + &line,
+            _ => text + &line,
+        })
+    };
+    let mark = tabs("N 0 0 0");
+    let read_by = |text: &str, reader| read_as(text.as_bytes(), Limits::default(), reader);
+    let (one, other) = (text("3 -2047", &mark), text("0 5", &mark));
+    let staff = read_by(&one, Reader::Staff).expect("legal");
+    assert_eq!(staff.lows[..4], [9, 3, -2047, 0]);
+    assert_eq!(Ok(staff), read_by(&text("3 -2047", ""), Reader::Partner));
+    let partner = read_by(&one, Reader::Partner).expect("legal");
+    assert_eq!((&partner.lows[..4], &partner.highs[..4]), ([9, 0, 0, 0].as_slice(), [9, 0, 0, 0].as_slice()));
+    let alike = read_by(&other, Reader::Partner).expect("legal");
+    assert_eq!((partner.solve(), partner), (alike.solve(), alike));
+    for (text, error, line) in [
+        (text("2048 0", &mark), Refusal::Level, 3),
+        (text("0 0", &(mark.clone() + &mark)), Refusal::Mark, 5),
+        (text("0 0", &tabs("N 1 0 0")), Refusal::Mark, 4),
+    ] {
+        let due = Some(Fault { error: error.into(), line });
+        assert_eq!([Reader::Staff, Reader::Partner].map(|reader| read_by(&text, reader).err()), [due, due]);
     }
 }
 
