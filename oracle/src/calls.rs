@@ -381,6 +381,7 @@ impl Lent {
             rounding: None,
             reorder: Some(if r.reorder == 1 { Reorder::Once } else { Reorder::Each }),
             hold: None,
+            marks: vec![],
             channels: self.coefficients(),
         };
         let run = crate::run::runs(&sheet).remove(0);

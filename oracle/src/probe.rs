@@ -178,9 +178,11 @@ pub fn measure(text: &[u8], limits: Limits, levels: &mut usize, tables: &mut usi
     unsafe { lend!(smoother_measure(read text, limits.side, limits.iterations, levels, tables, line)) }
 }
 
+/// `reader` is 0 for the staff and 1 for a partner (M-110).
 pub fn read(
     text: &[u8],
     limits: Limits,
+    reader: u32,
     lows: &mut [i16],
     highs: &mut [i16],
     tables: &mut [u16],
@@ -188,7 +190,7 @@ pub fn read(
     line: &mut usize,
 ) -> u32 {
     unsafe {
-        lend!(smoother_read(read text, limits.side, limits.iterations, write lows, write highs, write tables, write header, line))
+        lend!(smoother_read(read text, limits.side, limits.iterations, reader, write lows, write highs, write tables, write header, line))
     }
 }
 

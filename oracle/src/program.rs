@@ -94,7 +94,7 @@ pub fn well_formed(printed: &[u8]) -> bool {
     let lines: Vec<Vec<&str>> = text.split('\n').map(|line| line.split('\t').collect()).collect();
     if let ["X", refusal, line] = lines[0][..] {
         return match (number(refusal), number(line)) {
-            (Some(1..=7 | 14 | 17), Some(line)) => line > 0 && lines.len() == 1,
+            (Some(1..=7 | 14 | 17 | 18), Some(line)) => line > 0 && lines.len() == 1,
             (Some(10), Some(0)) => lines.len() == 1,
             _ => false,
         };

@@ -1,4 +1,5 @@
 //! The sheet text, read and written as document 01, "Sheet records", and document 02 say. Nothing here is taken from the proved reader.
+use std::collections::HashSet;
 
 /// The number of a refusal in document 01's table, and the line.
 pub type Refusal = (u32, usize);
@@ -14,6 +15,7 @@ const CUT: Fault = 7;
 const RANGE: Fault = 14;
 const PAGE: Fault = 15;
 const HOLD: Fault = 17;
+const MARK: Fault = 18;
 
 #[derive(Clone, Copy, Debug, PartialEq)]
 pub enum Weight {
@@ -123,6 +125,15 @@ pub struct Sheet {
     /// The step counts of line `H` (M-108); None where there is none.
     pub hold: Option<[u32; 3]>,
     pub channels: Vec<Channel>,
+    /// The channel, block row and block column of each line `N`, in their order (M-110).
+    pub marks: Vec<[u32; 3]>,
+}
+
+/// Who reads: "The staff reader gets all levels; the partner reader gets the same but for 63 zeros after the first level of a marked block" (M-110).
+#[derive(Clone, Copy, Debug, PartialEq)]
+pub enum Reader {
+    Staff,
+    Partner,
 }
 
 /// What a caller allows: the largest full side, and the largest iteration count (M-106).
@@ -231,13 +242,43 @@ impl<'a> Lines<'a> {
         let rounding = self.setting(b"F", [(b"t", Rounding::Truncate), (b"n", Rounding::Nearest)])?;
         let reorder = self.setting(b"A", [(b"m", Reorder::Each), (b"o", Reorder::Once)])?;
         let hold = self.hold(measures(channels, joint, counts))?;
-        let channels = (0..channels).map(|_| self.channel(w, h)).collect::<Result<_, _>>()?;
+        let channels: Vec<Channel> = (0..channels).map(|_| self.channel(w, h)).collect::<Result<_, _>>()?;
+        let marks = self.marks(&channels)?;
         self.next(b"E", 1)?;
         if !self.rest.is_empty() {
             self.line += 1;
             return Err(CUT);
         }
-        Ok(Sheet { w, h, picture_w, picture_h, joint, counts, smoothing, data, rounding, reorder, hold, channels })
+        Ok(Sheet {
+            w,
+            h,
+            picture_w,
+            picture_h,
+            joint,
+            counts,
+            smoothing,
+            data,
+            rounding,
+            reorder,
+            hold,
+            channels,
+            marks,
+        })
+    }
+
+    /// "18 "mark", channel or block absent or marked twice, after the whole line's form".
+    fn marks(&mut self, channels: &[Channel]) -> Result<Vec<[u32; 3]>, Fault> {
+        let (mut marks, mut met) = (vec![], HashSet::new());
+        while self.is_next(b"N") {
+            let numbers = self.next(b"N", 4)?.map(number).collect::<Result<Vec<u32>, _>>()?;
+            let mark = [numbers[0], numbers[1], numbers[2]];
+            let there = |c: &Channel| mark[1] < c.h / 8 && mark[2] < c.w / 8;
+            if !channels.get(mark[0] as usize).is_some_and(there) || !met.insert(mark) {
+                return Err(MARK);
+            }
+            marks.push(mark);
+        }
+        Ok(marks)
     }
 
     /// "17 "hold", a count above the iterations, at its field", its spelling first.
@@ -396,6 +437,20 @@ impl Sheet {
         })
     }
 
+    /// What a reader gets: for a partner "A marked `G` block keeps its first pair, and the other pairs read as 0 and 0".
+    pub fn seen_by(&self, reader: Reader) -> Self {
+        let mut seen = self.clone();
+        if reader == Reader::Partner {
+            for [c, row, column] in self.marks.iter().map(|mark| mark.map(|n| n as usize)) {
+                let own = &mut seen.channels[c];
+                let first = 64 * (row * (own.w as usize / 8) + column);
+                own.levels.lows[first + 1..first + 64].fill(0);
+                own.levels.highs[first + 1..first + 64].fill(0);
+            }
+        }
+        seen
+    }
+
     pub fn text(&self) -> Vec<u8> {
         let spelled = self.weights().map(|weight| match weight {
             Weight::Bits(bits) => format!("h{bits:08x}"),
@@ -426,6 +481,7 @@ impl Sheet {
                 };
             }
         }
+        text += &self.marks.iter().map(|mark| format!("N\t{}\n", joined(mark, "\t"))).collect::<String>();
         (text + "E\n").into_bytes()
     }
 }

@@ -21,6 +21,7 @@ pub fn legal(r: &mut Random, limit: u32, steps: u32) -> Sheet {
         rounding: None,
         reorder: None,
         hold: None,
+        marks: vec![],
         channels: (0..channels).map(|_| channel(r, w, h, ranges)).collect(),
     };
     // of two sheets in five none, of two in five `n`
@@ -29,17 +30,51 @@ pub fn legal(r: &mut Random, limit: u32, steps: u32) -> Sheet {
     // of two sheets in five none, of two in five `o`
     let letters = [None, Some(Reorder::Once), None, Some(Reorder::Each), Some(Reorder::Once)];
     let reorder = letters[(2 * sheet.picture_w + sheet.picture_h + sheet.counts[1]) as usize % 5];
-    let hold = hold(&sheet);
-    Sheet { rounding, reorder, hold, ..sheet }
+    let (hold, marks) = (hold(&sheet), marks(&sheet));
+    Sheet { rounding, reorder, hold, marks, ..sheet }
+}
+
+/// A generator by numbers of the sheet's own.
+fn own_random(sheet: &Sheet) -> Random {
+    let [a, b, c] = sheet.counts.map(u64::from);
+    let first = sheet.channels[0].levels.lows.iter().fold(0, |sum, level| 31 * sum % 65_537 + (level & 255) as u64);
+    Random::new(first ^ u64::from(sheet.picture_w * sheet.picture_h) << 17 ^ (a + 1001 * (b + 1001 * c)) << 32)
+}
+
+/// Lines `N`, by numbers of the sheet's own too: none of two sheets in five, else one, some or all blocks, in any order.
+fn marks(sheet: &Sheet) -> Vec<[u32; 3]> {
+    let mut r = Random::new(own_random(sheet).word());
+    let blocks =
+        sheet.channels.iter().zip(0..).flat_map(|(own, c)| {
+            (0..own.h / 8).flat_map(move |row| (0..own.w / 8).map(move |column| [c, row, column]))
+        });
+    let mut blocks: Vec<[u32; 3]> = blocks.collect();
+    (0..blocks.len()).for_each(|i| blocks.swap(i, r.below(i + 1)));
+    let count = [0, 0, 1, 1 + r.below(4), r.below(blocks.len() + 1)][r.below(5)];
+    blocks.truncate(count);
+    blocks
+}
+
+/// The same sheet with other levels in its marked blocks, but for each first level or pair: what a partner may not see.
+pub fn hidden(r: &mut Random, sheet: &Sheet) -> Sheet {
+    let mut other = sheet.clone();
+    let most = r.pick(&[0, 9, 99, 2047]);
+    for [c, row, column] in sheet.marks.iter().map(|mark| mark.map(|n| n as usize)) {
+        let own = &mut other.channels[c];
+        let block = row * (own.w as usize / 8) + column;
+        for k in 64 * block + 1..64 * (block + 1) {
+            let level = r.between(-most, most) as i32;
+            let reach = if own.levels.ranged[block] && r.one_in(2) { r.between(0, 60) as i32 } else { 0 };
+            (own.levels.lows[k], own.levels.highs[k]) = (level, (level + reach).min(2047));
+        }
+    }
+    other
 }
 
 /// By numbers of the sheet's own, so that the other fields are those of a sheet without the line. Of seven sheets two have no line `H`, one has the iterations' counts; in the others every
 /// count is any, or all are 0, or one channel alone is held, or one alone is not.
 fn hold(sheet: &Sheet) -> Option<[u32; 3]> {
-    let [a, b, c] = sheet.counts.map(u64::from);
-    let first = sheet.channels[0].levels.lows.iter().fold(0, |sum, level| 31 * sum % 65_537 + (level & 255) as u64);
-    let mut r =
-        Random::new(first ^ u64::from(sheet.picture_w * sheet.picture_h) << 17 ^ (a + 1001 * (b + 1001 * c)) << 32);
+    let mut r = own_random(sheet);
     let most = Sheet { hold: None, ..sheet.clone() }.holds();
     let one = r.below(3);
     let mut any = || most.map(|n| r.between(0, n.into()) as u32);
@@ -128,7 +163,7 @@ type Lines = Vec<Vec<Vec<u8>>>;
 type Damage = (&'static str, fn(&mut Random, &mut Vec<u8>));
 
 /// Each changes a text; the result may still be legal.
-pub const DAMAGES: [Damage; 12] = [
+pub const DAMAGES: [Damage; 13] = [
     ("range", |r, text| fields(r, text, |r, line, at, full| line[at] = edge(r, line, at, full))),
     ("spelling", |r, text| fields(r, text, |r, line, at, _| line[at] = misspelt(r, &line[at]))),
     ("two fields", |r, text| {
@@ -140,6 +175,7 @@ pub const DAMAGES: [Damage; 12] = [
     }),
     ("cover", covered),
     ("pair", paired),
+    ("marks", marked),
     ("tag", |r, text| {
         fields(r, text, |r, line, _, _| {
             line[0] = r.pick(&["S", "C", "B", "E", "", "b", "BB", "F", "A", "H", "G", "N"]).into()
@@ -163,7 +199,8 @@ fn join(lines: &Lines) -> Vec<u8> {
 }
 
 fn tagged(r: &mut Random, lines: &Lines) -> usize {
-    let tag = r.pick(&["S", "S", "S", "S", "F", "A", "H", "H", "C", "C", "C", "B", "B", "G", "G", "E"]).as_bytes();
+    let tag =
+        r.pick(&["S", "S", "S", "S", "F", "A", "H", "H", "C", "C", "C", "B", "B", "G", "G", "N", "N", "E"]).as_bytes();
     let found: Vec<usize> = (0..lines.len()).filter(|i| lines[*i][0] == tag).collect();
     if found.is_empty() { r.below(lines.len()) } else { r.pick(&found) }
 }
@@ -197,6 +234,7 @@ fn edge(r: &mut Random, line: &[Vec<u8>], at: usize, [w, h]: [u32; 2]) -> Vec<u8
         (b"F", 1) => r.pick(&["t", "n", "T", "N", "tn", "", "x", "0", "1"]).into(),
         (b"A", 1) => r.pick(&["m", "o", "M", "O", "mo", "", "t", "n", "0", "1"]).into(),
         (b"H", 1..) => n(r, &[0, 1, 2, 3, 6, 999, 1_000, 1_001, 65_536, 999_999, 1_000_000]),
+        (b"N", 1..) => n(r, &[0, 1, 2, 3, w / 8, h / 8, (w / 8).saturating_sub(1), 64, 65_536, 999_999, 1_000_000]),
         (b"C", 1 | 2) => n(r, &[0, 4, 8, 12, full, full + 8, 512, 520, 65_544, 999_992, 999_999]),
         (b"C", 3 | 4) => n(r, &[0, 1, 2, 3, 4, 5, 257, 999_999]),
         (b"C", 5..) => n(r, &[0, 1, 254, 255, 256, 257, 511, 65_537, 999_999]),
@@ -325,6 +363,59 @@ fn paired(r: &mut Random, text: &mut Vec<u8>) {
     *text = join(&lines);
 }
 
+/// The line of the block that a line `N` marks, where there is one.
+fn marked_block(lines: &Lines, mark: &[Vec<u8>]) -> Option<usize> {
+    let number = |field: &[u8]| std::str::from_utf8(field).ok()?.parse::<usize>().ok();
+    let [c, row, column] = [1, 2, 3].map(|i| mark.get(i).and_then(|field| number(field)));
+    let own = (0..lines.len()).filter(|i| lines[*i][0] == b"C").nth(c?)?;
+    let at = own + 1 + row? * (number(lines[own].get(1)?)? / 8) + column?;
+    lines.get(at).filter(|line| line.len() > 64).map(|_| at)
+}
+
+/// Adds lines `N`, right ones and wrong ones, moves or misspells one, or damages a block that is marked.
+fn marked(r: &mut Random, text: &mut Vec<u8>) {
+    let mut lines = split(text);
+    let end = lines.iter().rposition(|line| line[0] == b"E").unwrap_or(lines.len());
+    let line = |numbers: [String; 3]| [&["N".to_string()], &numbers[..]].concat().into_iter().map(Vec::from).collect();
+    if !lines.iter().any(|line| line[0] == b"N") {
+        lines.insert(end, line([0; 3].map(|n: u32| n.to_string())));
+    }
+    let found: Vec<usize> = (0..lines.len()).filter(|i| lines[*i][0] == b"N").collect();
+    let mark = r.pick(&found);
+    let block = marked_block(&lines, &lines[mark]);
+    let at = |r: &mut Random| if r.one_in(2) { r.pick(&[1, 2, 3, 64]) } else { r.between(2, 64) as usize };
+    match (r.below(10), block) {
+        (0, _) => lines.insert(mark, line([2, 4, 4].map(|most| r.between(0, most).to_string()))),
+        (1, _) => lines.insert(mark, line([0; 3].map(|_| r.pick(&["0", "1", "3", "4", "64", "x", "00", "-1"]).into()))),
+        (2, _) => lines.insert(r.pick(&found), lines[mark].clone()),
+        (3, _) => {
+            let moved = lines.remove(mark);
+            lines.insert(r.below(lines.len() + 1), moved);
+        }
+        (4, _) => {
+            let field = r.below(lines[mark].len());
+            lines[mark][field] = misspelt(r, &lines[mark][field]);
+        }
+        (5, _) if lines[mark].len() > 3 => lines[mark].swap(2, 3),
+        (6 | 7, Some(block)) if lines[block][0] == b"B" => {
+            lines[block][at(r)] = r.pick(&["2048", "-2048", "2047", "-0", "x", "999999"]).into();
+        }
+        (6 | 7, Some(block)) if lines[block].len() == 129 => {
+            let pair = at(r);
+            let words =
+                [["2", "1"], ["2047", "-2047"], ["2048", "2048"], ["-2048", "0"], ["5", "-0"], ["-2047", "2047"]];
+            let [low, high] = r.pick(&words);
+            (lines[block][2 * pair - 1], lines[block][2 * pair]) = (low.into(), high.into());
+        }
+        (8, Some(block)) => lines[block][1] = r.pick(&["7", "2047", "2048"]).into(),
+        _ => {
+            let last = lines.len() - 1;
+            lines.swap(mark, last.min(mark + 1));
+        }
+    }
+    *text = join(&lines);
+}
+
 fn field_count(r: &mut Random, text: &mut Vec<u8>) {
     fields(r, text, |r, line, at, _| match r.below(4) {
         0 => drop(line.remove(at)),
@@ -366,7 +457,7 @@ fn cut(r: &mut Random, text: &mut Vec<u8>) {
 
 fn bytes(r: &mut Random, text: &mut Vec<u8>) {
     let at = r.below(text.len().max(1));
-    let byte = r.pick(b"\t\n\r\0 -+0189wxhjsSFAHCBGE\xff\xc3");
+    let byte = r.pick(b"\t\n\r\0 -+0189wxhjsSFAHCBGNE\xff\xc3");
     match r.below(6) {
         0 => *text = String::from_utf8_lossy(text).replace('\n', r.pick(&["\r\n", "\r", "\n\n"])).into_bytes(),
         1 | 2 => text.insert(at.min(text.len()), byte),
@@ -666,7 +757,67 @@ pub fn fixed() -> Vec<(&'static str, Vec<u8>, Option<Refusal>)> {
         ("G unended", [lines[0], lines[1], &ranged("1 1")[..257]].concat(), Some((7, 3))),
         ("G and no more", [lines[0], lines[1], &ranged("1 1")].concat(), Some((7, 4))),
         ("G, long", in_place(&ranged(&format!("2 1 {}", "0".repeat(900)))), Some((1, 3))),
-        ("N", before(3, b"N\t0\t0\t0\n"), Some((1, 4))),
+    ]);
+    // lines `N`: after the last block line, each block of the sheet at most once
+    let wide = |line: &[u8]| {
+        let text = edited(&[(S, 1, "16"), (C, 1, "16")]);
+        let text = String::from_utf8(text).expect("text").replacen("\nE", &format!("\nB{}\nE", "\t0".repeat(64)), 1);
+        [&text.as_bytes()[..text.len() - 2], line, b"E\n"].concat()
+    };
+    // the block marked, its levels 1 but for some from a field on
+    let hiding = |tag: u8, from: usize, words: &[&str]| {
+        let mut block = vec!["1"; if tag == b'G' { 128 } else { 64 }];
+        block[from - 1..][..words.len()].copy_from_slice(words);
+        [lines[0], lines[1], &[tag], b"\t", block.join("\t").as_bytes(), b"\nN\t0\t0\t0\nE\n"].concat()
+    };
+    let channel = [lines[1], lines[2]].concat();
+    let header = edited(&[(S, 5, "3")])[..lines[0].len()].to_vec();
+    all.extend([
+        ("N", before(3, b"N\t0\t0\t0\n"), None),
+        ("N, the second block", wide(b"N\t0\t0\t1\n"), None),
+        ("N, both blocks, in any order", wide(b"N\t0\t0\t1\nN\t0\t0\t0\n"), None),
+        ("N, row and column exchanged", wide(b"N\t0\t1\t0\n"), Some((18, 5))),
+        ("N twice", before(3, b"N\t0\t0\t0\nN\t0\t0\t0\n"), Some((18, 5))),
+        ("N twice, another between", wide(b"N\t0\t0\t1\nN\t0\t0\t0\nN\t0\t0\t1\n"), Some((18, 7))),
+        ("N, no such channel", before(3, b"N\t1\t0\t0\n"), Some((18, 4))),
+        ("N, no such row", before(3, b"N\t0\t1\t0\n"), Some((18, 4))),
+        ("N, no such column", before(3, b"N\t0\t0\t1\n"), Some((18, 4))),
+        ("N, no such channel, then a spelling", before(3, b"N\t9\tx\t0\n"), Some((1, 4))),
+        ("N, no such block, then a spelling", before(3, b"N\t0\t9\t-1\n"), Some((1, 4))),
+        ("N, below 0", before(3, b"N\t-1\t0\t0\n"), Some((1, 4))),
+        ("N, a zero before", before(3, b"N\t0\t00\t0\n"), Some((1, 4))),
+        ("N, six digits", before(3, b"N\t999999\t0\t0\n"), Some((18, 4))),
+        ("N, seven digits", before(3, b"N\t1000000\t0\t0\n"), Some((1, 4))),
+        ("N, 65536", before(3, b"N\t65536\t0\t0\n"), Some((18, 4))),
+        ("N, two numbers", before(3, b"N\t0\t0\n"), Some((1, 4))),
+        ("N, four numbers", before(3, b"N\t0\t0\t0\t0\n"), Some((1, 4))),
+        ("N, an empty number", before(3, b"N\t0\t\t0\n"), Some((1, 4))),
+        ("N before B", before(2, b"N\t0\t0\t0\n"), Some((1, 3))),
+        ("N before C", before(1, b"N\t0\t0\t0\n"), Some((1, 2))),
+        ("N first", before(0, b"N\t0\t0\t0\n"), Some((1, 1))),
+        ("N after E", before(4, b"N\t0\t0\t0\n"), Some((7, 5))),
+        ("N, then B", before(3, &[b"N\t0\t0\t0\n", lines[2]].concat()), Some((1, 5))),
+        ("N, then C", before(3, &[b"N\t0\t0\t0\n", lines[1]].concat()), Some((1, 5))),
+        ("N, then F", before(3, b"N\t0\t0\t0\nF\tn\n"), Some((1, 5))),
+        (
+            "N between channels",
+            [&header, &channel[..], b"N\t0\t0\t0\n", &channel, &channel, b"E\n"].concat(),
+            Some((1, 4)),
+        ),
+        ("N of the third channel", [&header, &channel.repeat(3)[..], b"N\t2\t0\t0\nE\n"].concat(), None),
+        ("N and no more", [&lines[..3].concat(), &b"N\t0\t0\t0\n"[..]].concat(), Some((7, 5))),
+        ("N unended", [&lines[..3].concat(), &b"N\t9\t0\t0"[..]].concat(), Some((7, 4))),
+        ("N, long", before(3, &[b"N\t0\t0\t".as_slice(), &[b'0'; 1023], b"\n"].concat()), Some((1, 4))),
+        ("n", before(3, b"n\t0\t0\t0\n"), Some((1, 4))),
+        ("N, hidden levels at both ends", hiding(b'B', 2, &["2047", "-2047"]), None),
+        ("N, a hidden level beyond", hiding(b'B', 2, &["2048"]), Some((5, 3))),
+        ("N, the last hidden level beyond", hiding(b'B', 64, &["-2048"]), Some((5, 3))),
+        ("N, a hidden level misspelt", hiding(b'B', 3, &["-0"]), Some((1, 3))),
+        ("N, a hidden range", hiding(b'G', 3, &["-2047", "2047"]), None),
+        ("N, a hidden low above its high", hiding(b'G', 3, &["2", "1"]), Some((14, 3))),
+        ("N, the last hidden low above its high", hiding(b'G', 127, &["0", "-1"]), Some((14, 3))),
+        ("N, a hidden high beyond", hiding(b'G', 4, &["2048"]), Some((5, 3))),
+        ("N, the first pair a range", hiding(b'G', 1, &["-3", "9"]), None),
     ]);
     all.extend(edits.iter().map(|(edits, answer)| ("an edited field", edited(edits), *answer)));
     all
@@ -784,19 +935,20 @@ pub fn long() -> Vec<(Vec<u8>, Option<Refusal>)> {
         reorder: Some(Reorder::Once),
         hold: Some([0, 1, 1]),
         channels: vec![channel; 3],
+        marks: (0..48).map(|i| [i / 16, i / 4 % 4, i % 4]).collect(),
     };
     let whole = sheet.text();
     let no_end = &whole[..whole.len() - 2];
     let then = |start: &[u8], bytes: usize, end: &str| [start, &vec![b'a'; bytes], end.as_bytes()].concat();
     vec![
-        (then(&whole, 1, ""), Some((7, 57))),
-        (then(&whole, 30_000, "\n"), Some((7, 57))),
-        (then(no_end, 0, ""), Some((7, 56))),
-        (then(no_end, 1024, ""), Some((7, 56))),
-        (then(no_end, 1025, ""), Some((1, 56))),
-        (then(no_end, 1024, "\n"), Some((1, 56))),
-        (then(no_end, 1025, "\n"), Some((1, 56))),
-        (then(no_end, 30_000, "\n"), Some((1, 56))),
+        (then(&whole, 1, ""), Some((7, 105))),
+        (then(&whole, 30_000, "\n"), Some((7, 105))),
+        (then(no_end, 0, ""), Some((7, 104))),
+        (then(no_end, 1024, ""), Some((7, 104))),
+        (then(no_end, 1025, ""), Some((1, 104))),
+        (then(no_end, 1024, "\n"), Some((1, 104))),
+        (then(no_end, 1025, "\n"), Some((1, 104))),
+        (then(no_end, 30_000, "\n"), Some((1, 104))),
         (then(b"", 30_000, ""), Some((1, 1))),
         (vec![b'\n'; 30_000], Some((1, 1))),
         (whole, None),
@@ -827,6 +979,7 @@ pub fn largest() -> Sheet {
         rounding: None,
         reorder: None,
         hold: None,
+        marks: vec![],
         channels: [0; 3].map(&mut channel).into(),
     }
 }
@@ -897,7 +1050,7 @@ pub fn pack<T>(folder: &Path, texts: &[(T, Vec<u8>)], answers: impl Iterator<Ite
 #[cfg(test)]
 mod tests {
     use super::*;
-    use crate::sheet::{Limits, MOST};
+    use crate::sheet::{Limits, MOST, Reader};
 
     #[test]
     fn fixed_texts() {
@@ -933,6 +1086,30 @@ mod tests {
         assert_eq!(read(&edited(&[(0, 1, "512")]), MOST).err(), None);
         assert_eq!(read(&edited(&[(0, 1, "520")]), MOST).err(), Some((2, 1)));
         assert_eq!(read(&edited(&[(0, 1, "40"), (0, 6, "k")]), MOST).err(), Some((1, 1)));
+    }
+
+    /// A partner sees neither hidden levels nor whether they are other ones; a block that isn't marked stays.
+    #[test]
+    fn hidden_levels() {
+        let mut r = Random::new(4);
+        for _ in 0..300 {
+            let sheet = legal(&mut r, 32, 3);
+            let other = hidden(&mut r, &sheet);
+            let (read, others) = (read(&sheet.text(), SMOOTH), read(&other.text(), SMOOTH));
+            assert_eq!((read.as_ref(), others.as_ref()), (Ok(&sheet), Ok(&other)));
+            assert_eq!(sheet.seen_by(Reader::Partner), other.seen_by(Reader::Partner));
+            assert_eq!(sheet.seen_by(Reader::Staff), sheet);
+            assert!(!sheet.marks.is_empty() || sheet.seen_by(Reader::Partner) == sheet);
+        }
+        let marked = |levels: &[i32], ranged: bool| {
+            let mut sheet = read(&example(), SMOOTH).expect("legal");
+            sheet.channels[0].levels.lows[..levels.len()].copy_from_slice(levels);
+            sheet.channels[0].levels.highs.fill(9);
+            (sheet.marks, sheet.channels[0].levels.ranged) = (vec![[0, 0, 0]], vec![ranged]);
+            let seen = sheet.seen_by(Reader::Partner).channels.remove(0).levels;
+            (seen.lows[..4].to_vec(), seen.highs[..4].to_vec())
+        };
+        assert_eq!(marked(&[5, 6, 7], true), (vec![5, 0, 0, 0], vec![9, 0, 0, 0]));
     }
 
     #[test]

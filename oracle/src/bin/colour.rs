@@ -112,6 +112,7 @@ fn main() {
         rounding: None,
         reorder: None,
         hold: None,
+        marks: vec![],
         channels: vec![channel(luma, 1, &LUMA), channel(blue, 2, &CHROMA), channel(red, 2, &CHROMA)],
     };
     stdout().write_all(&sheet.text()).expect("standard output");

@@ -30,11 +30,11 @@ fn bytes(r: &mut Random) -> Vec<u8> {
     let most = r.pick(&[4, 40, 400, 4_000]);
     let length = r.below(most + 1);
     let alphabet: &[u8] =
-        r.pick(&[b"".as_slice(), b"\t\n", b"0123456789\t\n-", b"SFAHCBGEtnmojswh0123456789abcdef\t\n- \r"]);
+        r.pick(&[b"".as_slice(), b"\t\n", b"0123456789\t\n-", b"SFAHCBGNEtnmojswh0123456789abcdef\t\n- \r"]);
     (0..length).map(|_| if alphabet.is_empty() { r.word() as u8 } else { r.pick(alphabet) }).collect()
 }
 
-const TOKENS: [&str; 52] = [
+const TOKENS: [&str; 54] = [
     "S",
     "F",
     "A",
@@ -42,6 +42,7 @@ const TOKENS: [&str; 52] = [
     "C",
     "B",
     "G",
+    "N",
     "E",
     "\t",
     "\t",
@@ -56,6 +57,7 @@ const TOKENS: [&str; 52] = [
     "C\t",
     "B\t",
     "G\t",
+    "N\t",
     "j",
     "s",
     "t",
@@ -97,7 +99,7 @@ fn tokens(r: &mut Random) -> Vec<u8> {
 /// Lines with the right tags and field counts, and fields that are mostly right, in an order that is mostly right.
 fn lines(r: &mut Random) -> Vec<u8> {
     let odd = r.pick(&[20, 100, 1_000]);
-    let mut field = |words: &[&'static str]| if r.one_in(odd) { r.pick(&TOKENS[21..]) } else { r.pick(words) };
+    let mut field = |words: &[&'static str]| if r.one_in(odd) { r.pick(&TOKENS[23..]) } else { r.pick(words) };
     let (full, sides) = (["16", "16", "32"], ["8", "8", "16"]);
     let factors = ["1", "1", "2"];
     let channels = field(&["1", "3"]);
@@ -126,6 +128,9 @@ fn lines(r: &mut Random) -> Vec<u8> {
                 text.extend([0; 64].map(|_| field(&["0", "0", "0", "1", "-1", "12", "-2047", "2047"])));
             }
         }
+    }
+    for _ in 0..field(&["0", "0", "1", "2"]).parse::<u32>().unwrap_or(0).min(3) {
+        text.extend(["\n", "N", field(&["0", "0", "0", "1", "2"]), field(&["0"]), field(&["0", "0", "1"])]);
     }
     text.extend(["\n", "E", "\n"]);
     text.join("\t").replace("\t\n", "\n").replace("\n\t", "\n").into_bytes()

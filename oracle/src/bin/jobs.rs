@@ -54,7 +54,7 @@ const KINDS: [(&str, fn(&mut Random, usize) -> Sheet); 4] = [
 ];
 
 fn free(r: &mut Random, side: u32) -> Sheet {
-    Sheet { hold: None, ..legal(r, side, 30) }
+    Sheet { hold: None, marks: vec![], ..legal(r, side, 30) }
 }
 
 /// Three channels, all pairs of factors in turn, whose own sides cover as much as they can or a part; levels as pictures have them.
@@ -321,6 +321,7 @@ fn large(r: &mut Random, (owns, joint, count, weight, reorder): Large) -> Sheet 
         rounding: None,
         reorder: Some(reorder),
         hold: None,
+        marks: vec![],
         channels,
     }
 }

@@ -87,7 +87,7 @@ fn solved(text: &[u8]) -> u32 {
     let measured = probe::measure(text, MOST, &mut n, &mut m, &mut line);
     let ([mut lows, mut highs], mut tables, mut numbers) =
         ([0; 2].map(|_| vec![0; n]), vec![0; m], vec![0; probe::NUMBERS]);
-    let read = probe::read(text, MOST, &mut lows, &mut highs, &mut tables, &mut numbers, &mut line);
+    let read = probe::read(text, MOST, 0, &mut lows, &mut highs, &mut tables, &mut numbers, &mut line);
     assert_eq!((measured, read), (0, 0), "a legal text");
     let all = (numbers[4] * numbers[0] * numbers[1]) as usize;
     let counts = if numbers[5] == 1 { &numbers[6..7] } else { &numbers[6..][..numbers[4] as usize] };

@@ -12,9 +12,9 @@ use oracle::{
     picture::{drawn, ended, nearest, solved},
     probe,
     random::Random,
-    sheet::{Channel, Levels, MOST, Reorder, Rounding, Sheet, Weight},
+    sheet::{Channel, Levels, MOST, Reader, Reorder, Rounding, Sheet, Weight},
     tally::Tally,
-    texts::{fixed_runs, legal},
+    texts::{fixed_runs, hidden, legal},
 };
 use std::{collections::BTreeMap, process::ExitCode};
 
@@ -49,12 +49,12 @@ struct Lent {
 
 impl Lent {
     /// By the proved reader. The six hold values left over from something else.
-    fn read(r: &mut Random, text: &[u8]) -> Self {
+    fn read(r: &mut Random, text: &[u8], reader: Reader) -> Self {
         let (mut n, mut m, mut line) = (0, 0, 0);
         let measured = probe::measure(text, MOST, &mut n, &mut m, &mut line);
         let ([mut lows, mut highs], mut tables, mut numbers) =
             ([0; 2].map(|_| vec![0; n]), vec![0; m], vec![0; probe::NUMBERS]);
-        let read = probe::read(text, MOST, &mut lows, &mut highs, &mut tables, &mut numbers, &mut line);
+        let read = probe::read(text, MOST, reader as u32, &mut lows, &mut highs, &mut tables, &mut numbers, &mut line);
         assert_eq!((measured, read), (0, 0), "a legal text");
         let all = (numbers[4] * numbers[0] * numbers[1]) as usize;
         let left = any(r);
@@ -145,6 +145,7 @@ impl Lent {
             rounding: Some(if n[27] == 1 { Rounding::Nearest } else { Rounding::Truncate }),
             reorder: Some(if n[28] == 1 { Reorder::Once } else { Reorder::Each }),
             hold: Some([n[29], n[30], n[31]]),
+            marks: vec![],
             channels: (0..n[4] as usize).map(channel).collect(),
         }
     }
@@ -261,15 +262,18 @@ fn full(r: &mut Random, side: u32, joint: bool, steps: u32) -> Sheet {
         rounding: Some(Rounding::Nearest),
         reorder: None,
         hold: None,
+        marks: vec![],
         channels,
     }
 }
 
-const FAULTS: [&str; 19] = [
+const FAULTS: [&str; 21] = [
     "the other mode",
     "the other start",
     "the lows for both",
     "the highs for both",
+    "a hidden level let through",
+    "another hidden level",
     "the second data weight for the first",
     "one step less",
     "held one step later",
@@ -291,10 +295,16 @@ const FAULTS: [&str; 19] = [
 fn compare(count: u64, seed: u64, fault: &str) -> (Tally, BTreeMap<u32, u64>) {
     let (mut r, mut tally, mut answers) = (Random::new(seed), Tally::default(), BTreeMap::new());
     let mut made = Random::new(seed ^ 0x5eed);
-    for (kind, sheet) in sheets(&mut made, count, fault.is_empty()) {
-        let whole = Lent::read(&mut r, &sheet.text());
-        if let Some(plain) = sheet.plain() {
-            let other = Lent::read(&mut r, &plain.text());
+    for (kind, written) in sheets(&mut made, count, fault.is_empty()) {
+        let reader = if r.one_in(2) { Reader::Partner } else { Reader::Staff };
+        let sheet = written.seen_by(reader);
+        let whole = Lent::read(&mut r, &written.text(), reader);
+        if reader == Reader::Partner && !written.marks.is_empty() {
+            let other = hidden(&mut r, &written).text();
+            hides(&mut tally, whole.clone(), Lent::read(&mut r, &other, reader), fault);
+        }
+        if let Some(plain) = written.plain() {
+            let other = Lent::read(&mut r, &plain.text(), reader);
             let levels = whole.lows == whole.highs && (&whole.lows, &whole.highs) == (&other.lows, &other.highs);
             let equal = levels && whole.tables == other.tables && whole.numbers == other.numbers;
             tally.count_in("equal pairs, beside lines B", equal, || String::from_utf8_lossy(&sheet.text()).into());
@@ -328,18 +338,42 @@ fn compare(count: u64, seed: u64, fault: &str) -> (Tally, BTreeMap<u32, u64>) {
             Some(Reorder::Once) => ", A o",
         };
         let held = if sheet.is_held() { ", held" } else { "" };
+        let marked = if sheet != written { ", partner" } else { "" };
         let lines = match (sheet.is_ranged(), sheet.plain()) {
             (false, _) => "",
             (true, Some(_)) => ", G with equal pairs",
             (true, None) => ", G",
         };
-        let plane = solved_as(&mut tally, &mut answers, &format!("{kind}{letter}{lines}{held}"), &sheet, whole, fault);
+        let plane =
+            solved_as(&mut tally, &mut answers, &format!("{kind}{letter}{lines}{held}{marked}"), &sheet, whole, fault);
         finished(&mut tally, &mut r, &sheet, plane, fault);
     }
     if fault.is_empty() {
         ties(&mut tally);
     }
     (tally, answers)
+}
+
+/// Two texts that differ in hidden levels alone, as a partner read them: "the same levels, planes, totals, clipped numbers and picture" (M-110).
+fn hides(tally: &mut Tally, mut one: Lent, mut other: Lent, fault: &str) {
+    let read = |x: &Lent| (x.lows.clone(), x.highs.clone(), x.tables.clone(), x.numbers.clone());
+    if fault == "another hidden level" {
+        let last = one.highs.len() - 1;
+        one.highs[last] = if one.highs[last] < 2047 { one.highs[last] + 1 } else { 2046.max(one.lows[last]) };
+    }
+    let numbers = one.numbers.clone();
+    tally.count_in("other hidden levels: levels", read(&one) == read(&other), || format!("{numbers:?}"));
+    let answers = (one.solve(), other.solve());
+    let bits = |x: &Lent| x.totals.iter().copied().map(bits64).collect::<Vec<_>>();
+    let alike = equal(&one.six[0], &other.six[0]) && one.clipped == other.clipped && bits(&one) == bits(&other);
+    tally.count_in("other hidden levels: solved", answers.0 == answers.1 && (answers.0 != 0 || alike), || {
+        format!("{answers:?}, {numbers:?}")
+    });
+    if answers == (0, 0) {
+        let sizes = [0, 1, 2, 3, 4].map(|i| numbers[i]);
+        let drawn = |x: &Lent| finish(numbers[27], sizes, &x.six[0], (3 * sizes[2] * sizes[3]) as usize);
+        tally.count_in("other hidden levels: pictures", drawn(&one) == drawn(&other), || format!("{numbers:?}"));
+    }
 }
 
 /// Every k + 0.5 and both neighbours, as the clamped red, green or blue of a pixel: by luma alone, or luma is -128 and one product is the value.
@@ -386,6 +420,9 @@ fn solved_as(
         "the other start" => x.numbers[28] ^= 1,
         "the lows for both" => x.highs.clone_from(&x.lows),
         "the highs for both" => x.lows.clone_from(&x.highs),
+        "a hidden level let through" => {
+            x.highs.iter_mut().skip(63).step_by(64).for_each(|level| *level = (*level + 1).min(2047))
+        }
         "the second data weight for the first" => x.numbers[12] = x.numbers[13],
         "one step less" => x.numbers[6] = x.numbers[6].saturating_sub(1),
         "held one step later" => {
@@ -495,7 +532,7 @@ fn bench(steps: u32) -> ExitCode {
     let mut r = Random::new(1);
     for joint in [true, false] {
         let sheet = full(&mut r, 32, joint, steps);
-        let mut x = Lent::read(&mut r, &sheet.text());
+        let mut x = Lent::read(&mut r, &sheet.text(), Reader::Staff);
         let rust = best(3, 1, || solved(&sheet)) / 1e9;
         let proved = best(3, 1, || x.solve()) / 1e9;
         assert!(equal(&x.six[0], &solved(&sheet).concat()), "the planes differ");

@@ -91,6 +91,7 @@ fn sheet(r: &mut Random, ([w, h], steps, joint, smoothing, data, owns): &Form) -
         rounding: None,
         reorder: None,
         hold: None,
+        marks: vec![],
         channels: owns.iter().map(channel).collect(),
     }
 }
@@ -297,6 +298,7 @@ fn block(r: &mut Random, i: usize) -> Sheet {
         rounding: None,
         reorder: None,
         hold: None,
+        marks: vec![],
         channels: vec![Channel { w: 8, h: 8, across: 1, down: 1, table, levels }],
     }
 }

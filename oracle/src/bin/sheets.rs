@@ -10,7 +10,9 @@ use oracle::{
     bench::best,
     probe,
     random::Random,
-    sheet::{Channel, Limits, MOST, Refusal, Reorder, Rounding, SMOOTH, Sheet, Weight, joined, lent_levels, read},
+    sheet::{
+        Channel, Limits, MOST, Reader, Refusal, Reorder, Rounding, SMOOTH, Sheet, Weight, joined, lent_levels, read,
+    },
     tally::Tally,
     texts,
 };
@@ -38,6 +40,10 @@ fn main() -> ExitCode {
     ExitCode::SUCCESS
 }
 
+const READERS: [Reader; 2] = [Reader::Staff, Reader::Partner];
+const STAFF: u32 = 0;
+const PARTNER: u32 = 1;
+
 /// What a reader gives: the refusal, or lows and highs, tables and the record's numbers.
 #[derive(Debug, PartialEq)]
 enum Given {
@@ -45,10 +51,14 @@ enum Given {
     Sheet((Vec<i16>, Vec<i16>), Vec<u16>, Vec<u32>),
 }
 
-fn expected(text: &[u8], limits: Limits) -> Given {
+/// By the reader's number: one that is neither 0 nor 1 is 2 at line 0, as a limit that is none.
+fn expected(text: &[u8], limits: Limits, reader: u32) -> Given {
+    let Some(reader) = READERS.into_iter().find(|known| *known as u32 == reader) else {
+        return Given::Refused(2, 0);
+    };
     let sheet = match read(text, limits) {
         Err((number, line)) => return Given::Refused(number, line),
-        Ok(sheet) => sheet,
+        Ok(sheet) => sheet.seen_by(reader),
     };
     let c = &sheet.channels;
     let sides = [sheet.w, sheet.h, sheet.picture_w, sheet.picture_h, c.len() as u32, u32::from(sheet.joint)];
@@ -65,7 +75,7 @@ fn expected(text: &[u8], limits: Limits) -> Given {
 
 /// The proved reader: measuring, then reading into buffers of `spare` more values than it asks for. Buffers start as 7s, and a
 /// refusal must leave them so.
-fn proved(text: &[u8], limits: Limits, spare: (usize, usize, usize, usize)) -> Given {
+fn proved(text: &[u8], limits: Limits, reader: u32, spare: (usize, usize, usize, usize)) -> Given {
     let (mut n, mut m, mut line) = (7, 7, 7);
     let measured = probe::measure(text, limits, &mut n, &mut m, &mut line);
     let measured_line = line;
@@ -75,12 +85,12 @@ fn proved(text: &[u8], limits: Limits, spare: (usize, usize, usize, usize)) -> G
     let [mut lows, mut highs] = [spare.0, spare.1].map(|more| vec![7i16; n + more]);
     let mut tables = vec![7u16; m + spare.2];
     let mut header = vec![7u32; probe::NUMBERS + spare.3];
-    let number = probe::read(text, limits, &mut lows, &mut highs, &mut tables, &mut header, &mut line);
+    let number = probe::read(text, limits, reader, &mut lows, &mut highs, &mut tables, &mut header, &mut line);
     if number == 0 {
         assert_eq!((measured, line), (0, 0), "measuring accepts what reading accepts");
         return Given::Sheet((lows, highs), tables, header);
     }
-    if measured != 0 {
+    if measured != 0 && reader <= PARTNER {
         assert_eq!((measured, measured_line), (number, line), "measuring refuses as reading does");
     }
     let untouched =
@@ -89,7 +99,8 @@ fn proved(text: &[u8], limits: Limits, spare: (usize, usize, usize, usize)) -> G
     Given::Refused(number, line)
 }
 
-/// `read`, the limits of sides and of iterations, the refusal's number and line, a digest of what was read, all in hexadecimal, and the text's bytes.
+/// `read`, the limits of sides and of iterations, the reader's number, the refusal's number and line, a digest of what was read, all in hexadecimal, and the
+/// text's bytes.
 fn list(count: u64, seed: u64) {
     let texts = texts::all(seed, 8 * count, 32, 1000);
     let fixed = texts.iter().filter(|(kind, _)| kind.starts_with("fixed"));
@@ -100,13 +111,43 @@ fn list(count: u64, seed: u64) {
     let pages =
         texts::pages(seed, 8 * count, 32).into_iter().filter(|(_, text)| text.len() < 1000).take(count as usize);
     for (iterations, text) in wide.chain(paged).chain(pages) {
-        let (number, line, digest) = match expected(&text, Limits { iterations, ..SMOOTH }) {
-            Given::Refused(number, line) => (number, line, 0),
-            Given::Sheet(levels, tables, header) => (0, 0, digest(&levels, &tables, &header)),
-        };
-        let bytes: String = text.iter().map(|byte| format!("{byte:02x}")).collect();
-        println!("read 20 {iterations:x} {number:x} {line:x} {digest:x} {bytes}");
+        line(&text, iterations, STAFF);
+        if has_marks(&text) {
+            line(&text, iterations, PARTNER);
+        }
     }
+    pairs(count as usize, seed);
+    [texts::example(), b"x".into()]
+        .iter()
+        .for_each(|text| [2, 257, u32::MAX].iter().for_each(|who| line(text, 1000, *who)));
+}
+
+/// Whether a line begins as lines `N` do.
+fn has_marks(text: &[u8]) -> bool {
+    text.windows(2).any(|two| two == b"\nN")
+}
+
+/// Pairs of texts that differ in hidden levels alone, each by both readers.
+fn pairs(count: usize, seed: u64) {
+    let mut r = Random::new(seed ^ 0x4e);
+    let sheets = std::iter::repeat_with(move || {
+        let sheet = texts::legal(&mut r, 16, 1000);
+        let other = texts::hidden(&mut r, &sheet);
+        [sheet, other]
+    });
+    let unlike = |pair: &[Sheet; 2]| pair[0] != pair[1] && pair.iter().all(|sheet| sheet.text().len() < 2000);
+    for sheet in sheets.filter(unlike).take(count / 12).flatten() {
+        [STAFF, PARTNER].iter().for_each(|who| line(&sheet.text(), 1000, *who));
+    }
+}
+
+fn line(text: &[u8], iterations: u32, reader: u32) {
+    let (number, line, digest) = match expected(text, Limits { iterations, ..SMOOTH }, reader) {
+        Given::Refused(number, line) => (number, line, 0),
+        Given::Sheet(levels, tables, header) => (0, 0, digest(&levels, &tables, &header)),
+    };
+    let bytes: String = text.iter().map(|byte| format!("{byte:02x}")).collect();
+    println!("read 20 {iterations:x} {reader:x} {number:x} {line:x} {digest:x} {bytes}");
 }
 
 /// Of the record's numbers, the bits of the lows and of the highs as f32, and the tables: each is added to 31 times what was there, modulo 2^32.
@@ -124,7 +165,7 @@ struct Faults {
     planted: u64,
 }
 
-const FAULTS: [&str; 18] = [
+const FAULTS: [&str; 23] = [
     "another refusal",
     "another line",
     "the last low",
@@ -137,6 +178,11 @@ const FAULTS: [&str; 18] = [
     "the last held count",
     "17 as 2",
     "17 left out",
+    "18 as 12",
+    "18 left out",
+    "the staff's levels for a partner",
+    "a hidden level let through",
+    "a reader that is none taken",
     "a sheet refused",
     "another length taken",
     "15 left out",
@@ -193,6 +239,14 @@ impl Faults {
                 *number = 2;
                 true
             }
+            (Given::Refused(number @ 18, _), "18 as 12") => {
+                *number = 12;
+                true
+            }
+            (Given::Refused(18, _), "18 left out") => {
+                given = Given::Sheet((vec![], vec![]), vec![], vec![]);
+                true
+            }
             (Given::Refused(17, _), "17 left out") => {
                 given = Given::Sheet((vec![], vec![]), vec![], vec![]);
                 true
@@ -241,37 +295,91 @@ fn faults() -> ExitCode {
 }
 
 fn compare(count: u64, seed: u64, faults: &mut Faults) -> Tally {
-    let mut tally = Tally::default();
+    let (mut tally, mut marked) = (Tally::default(), [0; 2]);
     for limits in [SMOOTH, MOST] {
         for (kind, text) in texts::all(seed, count, limits.side, 1000) {
-            tally.start(&format!("{kind}, limit {}", limits.side));
-            let rust = expected(&text, limits);
-            let answer = faults.plant(proved(&text, limits, (0, 0, 0, 0)));
-            tally.count(rust == answer, || String::from_utf8_lossy(&text).into_owned());
-            for spare in [(1, 0, 0, 0), (0, 1, 0, 0), (0, 0, 1, 0), (0, 0, 0, 1)] {
-                if let Given::Sheet(..) = rust {
-                    let answer = faults.plant(proved(&text, limits, spare));
-                    tally.count(answer == Given::Refused(8, 0), || format!("a buffer too long: {spare:?}"));
-                }
+            let kind = format!("{kind}, limit {}", limits.side);
+            let rust = expected(&text, limits, STAFF);
+            let legal = matches!(rust, Given::Sheet(..));
+            marked[usize::from(legal)] += u64::from(has_marks(&text));
+            let answer = faults.plant(proved(&text, limits, STAFF, (0, 0, 0, 0)));
+            tally.count_in(&kind, rust == answer, || String::from_utf8_lossy(&text).into_owned());
+            partner(&text, limits, faults, &mut tally);
+            for spare in [(1, 0, 0, 0), (0, 1, 0, 0), (0, 0, 1, 0), (0, 0, 0, 1)].into_iter().filter(|_| legal) {
+                let answer = faults.plant(proved(&text, limits, STAFF, spare));
+                let right = answer == Given::Refused(8, 0);
+                tally.count_in(&kind, right, || format!("a buffer too long: {spare:?}"));
             }
         }
     }
+    if faults.kind.is_empty() {
+        println!("texts with lines N, each by both readers: {} legal, {} refused", marked[1], marked[0]);
+    }
     tally.kind("limits that are no side");
     for side in [0, 1, 4, 7, 9, 31, 33, 513, 520, 1024, u32::MAX] {
-        let answer = faults.plant(proved(&texts::example(), Limits { side, ..MOST }, (0, 0, 0, 0)));
+        let answer = faults.plant(proved(&texts::example(), Limits { side, ..MOST }, STAFF, (0, 0, 0, 0)));
         tally.count(answer == Given::Refused(2, 0), || format!("{side}: {answer:?}"));
     }
     tally.kind("fixed texts, answers as written down");
     for (name, text, refusal) in texts::fixed() {
-        let answer = proved(&text, SMOOTH, (0, 0, 0, 0));
+        let answer = proved(&text, SMOOTH, STAFF, (0, 0, 0, 0));
         let right = match refusal {
             Some((number, line)) => answer == Given::Refused(number, line),
             None => matches!(answer, Given::Sheet(..)),
         };
         tally.count(right, || format!("{name}: {answer:?}"));
     }
+    tally.kind("readers that are none");
+    for reader in [2, 3, 112, 255, 256, 65_537, u32::MAX] {
+        for (name, text, _) in texts::fixed() {
+            let mut answer = proved(&text, SMOOTH, reader, (0, 0, 0, 0));
+            if faults.kind == "a reader that is none taken" {
+                answer = proved(&text, SMOOTH, reader & 1, (0, 0, 0, 0));
+                faults.planted += u64::from(answer != Given::Refused(2, 0));
+            }
+            tally.count(answer == expected(&text, SMOOTH, reader), || format!("{reader}, {name}: {answer:?}"));
+        }
+    }
     compare_pages(count, seed, faults, &mut tally);
     tally
+}
+
+/// What a partner gets of a text (M-110): a refused text is refused as for the staff. And of the same text with other hidden levels: what it gets of the text.
+fn partner(text: &[u8], limits: Limits, faults: &mut Faults, tally: &mut Tally) {
+    let mut answer = proved(text, limits, PARTNER, (0, 0, 0, 0));
+    if faults.kind == "the staff's levels for a partner" {
+        let staff = proved(text, limits, STAFF, (0, 0, 0, 0));
+        faults.planted += u64::from(staff != answer);
+        answer = staff;
+    }
+    let due = expected(text, limits, PARTNER);
+    tally.count_in("by the partner", due == answer, || String::from_utf8_lossy(text).into_owned());
+    let Some(sheet) = read(text, limits).ok().filter(|sheet| !sheet.marks.is_empty()) else {
+        return;
+    };
+    let other = texts::hidden(&mut Random::new(text.len() as u64), &sheet).text();
+    let mut answer = proved(&other, limits, PARTNER, (0, 0, 0, 0));
+    if let (Given::Sheet((_, highs), ..), "a hidden level let through") = (&mut answer, faults.kind) {
+        highs[last_hidden(&sheet)] += 1;
+        faults.planted += 1;
+    }
+    let shown = || String::from_utf8_lossy(&other).into_owned();
+    tally.count_in("other hidden levels, by the partner", due == answer, shown);
+    let staff = proved(&other, limits, STAFF, (0, 0, 0, 0));
+    let right = staff == expected(&other, limits, STAFF);
+    let kind = match (expected(text, limits, STAFF) == staff, text.len() == other.len()) {
+        (true, _) => "the same hidden levels, by the staff",
+        (_, true) => "other hidden levels, by the staff",
+        _ => "of other widths, by the staff",
+    };
+    tally.count_in(kind, right, || String::from_utf8_lossy(&other).into_owned());
+}
+
+/// Where the last level of the last marked block stands among all levels.
+fn last_hidden(sheet: &Sheet) -> usize {
+    let [c, row, column] = sheet.marks[sheet.marks.len() - 1].map(|n| n as usize);
+    let before: u32 = sheet.channels[..c].iter().map(|own| own.w * own.h).sum();
+    before as usize + 64 * (row * (sheet.channels[c].w as usize / 8) + column) + 63
 }
 
 /// M-106: fixed texts at their limits of iterations, each fixed text at each limit where something changes, and at each side limit half of `count` texts at a
@@ -279,8 +387,8 @@ fn compare(count: u64, seed: u64, faults: &mut Faults) -> Tally {
 fn compare_pages(count: u64, seed: u64, faults: &mut Faults, tally: &mut Tally) {
     let mut met = BTreeMap::<u32, u64>::new();
     let mut one = |tally: &mut Tally, kind: &str, text: &[u8], limits: Limits, due: Given| {
-        let wide = || proved(text, Limits { iterations: 1000, ..limits }, (0, 0, 0, 0));
-        let answer = faults.plant_page(proved(text, limits, (0, 0, 0, 0)), wide);
+        let wide = || proved(text, Limits { iterations: 1000, ..limits }, STAFF, (0, 0, 0, 0));
+        let answer = faults.plant_page(proved(text, limits, STAFF, (0, 0, 0, 0)), wide);
         *met.entry(if let Given::Refused(number, _) = due { number } else { 0 }).or_default() += 1;
         tally.count_in(kind, answer == due, || format!("{limits:?}: {}", String::from_utf8_lossy(text)));
     };
@@ -288,7 +396,7 @@ fn compare_pages(count: u64, seed: u64, faults: &mut Faults, tally: &mut Tally) 
         let limits = Limits { iterations, ..SMOOTH };
         let due = match refusal {
             Some((number, line)) => Given::Refused(number, line),
-            None => expected(&text, limits),
+            None => expected(&text, limits, STAFF),
         };
         one(tally, "pages, answers as written down", &text, limits, due);
     }
@@ -302,13 +410,13 @@ fn compare_pages(count: u64, seed: u64, faults: &mut Faults, tally: &mut Tally) 
     for iterations in texts::LIMITS {
         for text in &fixed {
             let limits = Limits { iterations, ..SMOOTH };
-            one(tally, &named(iterations), text, limits, expected(text, limits));
+            one(tally, &named(iterations), text, limits, expected(text, limits, STAFF));
         }
     }
     for side in [32, 512] {
         for (iterations, text) in texts::pages(seed, count / 2, side) {
             let limits = Limits { side, iterations };
-            one(tally, &named(iterations), &text, limits, expected(&text, limits));
+            one(tally, &named(iterations), &text, limits, expected(&text, limits, STAFF));
         }
     }
     if faults.kind.is_empty() {
@@ -389,6 +497,7 @@ fn bench(rounds: usize) {
         rounding: None,
         reorder: None,
         hold: None,
+        marks: vec![],
         channels,
     };
     let text = sheet.text();
@@ -398,6 +507,7 @@ fn bench(rounds: usize) {
     println!("{} bytes read in {} by the oracle", text.len(), each(time));
     let ([mut lows, mut highs], mut tables) = ([0; 2].map(|_| vec![0i16; 3 * 512 * 512]), vec![0u16; 192]);
     let (mut header, mut line) = ([0u32; probe::NUMBERS], 0);
-    let time = best(rounds, 1, || probe::read(&text, MOST, &mut lows, &mut highs, &mut tables, &mut header, &mut line));
+    let time =
+        best(rounds, 1, || probe::read(&text, MOST, STAFF, &mut lows, &mut highs, &mut tables, &mut header, &mut line));
     println!("{} by the proved reader", each(time));
 }
