@@ -1,9 +1,10 @@
-// The reading of a sheet text: `read`, the limits of sides and of iterations, the refusal's number and line, a digest of what was read (the record's numbers, lows, highs,
-// tables), and the text's bytes.
+// The reading of a sheet text: `read`, the limits of sides and of iterations, the reader's number, the refusal's number and line, a digest of what was read (the record's
+// numbers, lows, highs, tables), and the text's bytes.
+use by_numbers::NUMBERS;
+use by_numbers::reading;
 use contents::Limits;
 use float::bits::to_bits;
 use interval::whole;
-use sheet::Answer;
 use sheet::Measured;
 use words::bytes;
 use words::number;
@@ -73,7 +74,7 @@ struct Given {
     digest: u64,
 }
 
-fn refused(number: u8, line: usize) -> Given {
+fn refused(number: u32, line: usize) -> Given {
     Given {
         number: number as u64,
         line: line as u64,
@@ -81,33 +82,53 @@ fn refused(number: u8, line: usize) -> Given {
     }
 }
 
-// Reads into the front of the buffers, where there is room.
+// Reads for the reader of this number.
 fn read_text(
     text: &[u8],
     limits: Limits,
+    reader: u32,
     lows: &mut [i16],
     highs: &mut [i16],
     tables: &mut [u16],
 ) -> Given {
-    match sheet::read(text, limits, lows, highs, tables) {
-        Answer::Sheet(s) => {
-            let header = by_numbers::numbers(s);
-            let d = with_header(0, &header);
-            let e = with_levels(d, &lows[..]);
-            let f = with_levels(e, &highs[..]);
-            Given {
-                number: 0,
-                line: 0,
-                digest: with_tables(f, &tables[..]),
-            }
-        }
-        Answer::Refused { number, line } => refused(number, line),
+    let mut header = [0u32; NUMBERS];
+    let told = reading::read(text, limits, reader, lows, highs, tables, &mut header);
+    if told.number != 0 {
+        return refused(told.number, told.line);
+    }
+    let d = with_header(0, &header);
+    let e = with_levels(d, &lows[..]);
+    let f = with_levels(e, &highs[..]);
+    Given {
+        number: 0,
+        line: 0,
+        digest: with_tables(f, &tables[..]),
     }
 }
 
+// What reading gives for a text that measuring refuses: the same refusal, unless there is no such reader.
+fn read_refused(text: &[u8], limits: Limits, reader: u32, number: u8, line: usize) -> Given {
+    let mut lows = [0i16; 1];
+    let mut highs = [0i16; 1];
+    let mut tables = [0u16; 1];
+    let g = read_text(text, limits, reader, &mut lows, &mut highs, &mut tables);
+    if 1 < reader {
+        return g;
+    }
+    if g.number != number as u64 {
+        return refused(254, line);
+    }
+    if g.line != line as u64 {
+        return refused(254, line);
+    }
+    g
+}
+
+// Reads into the front of the buffers, where there is room.
 fn read_measured(
     text: &[u8],
     limits: Limits,
+    reader: u32,
     lows: &mut [i16],
     highs: &mut [i16],
     tables: &mut [u16],
@@ -129,22 +150,30 @@ fn read_measured(
             read_text(
                 text,
                 limits,
+                reader,
                 &mut lows[0..n],
                 &mut highs[0..n],
                 &mut tables[0..m],
             )
         }
-        Measured::Refused { number, line } => refused(number, line),
+        Measured::Refused { number, line } => read_refused(text, limits, reader, number, line),
     }
 }
 
-fn read_bytes(text: &[u8], n: usize, limits: Limits) -> Given
+fn read_bytes(text: &[u8], n: usize, limits: Limits, reader: u32) -> Given
     requires { ⌜ n ≤ length (now text) ⌝ }
 {
     let mut lows = [0i16; 3072];
     let mut highs = [0i16; 3072];
     let mut tables = [0u16; 192];
-    read_measured(&text[0..n], limits, &mut lows, &mut highs, &mut tables)
+    read_measured(
+        &text[0..n],
+        limits,
+        reader,
+        &mut lows,
+        &mut highs,
+        &mut tables,
+    )
 }
 
 // Whether word k is this number.
@@ -158,15 +187,16 @@ pub fn same_read(s: &[u8], at: usize) -> bool
     requires { ⌜ at ≤ length (now s) ⌝ }
 {
     let mut text = [0u8; 4096];
-    let n = bytes(s, word_at(s, at, 6), &mut text);
+    let n = bytes(s, word_at(s, at, 7), &mut text);
     let side = number(s, word_at(s, at, 1));
     let iterations = number(s, word_at(s, at, 2));
-    let g = read_bytes(&text, n, Limits { side, iterations });
-    if !is_word(s, at, 3, g.number) {
+    let reader = number(s, word_at(s, at, 3));
+    let g = read_bytes(&text, n, Limits { side, iterations }, reader);
+    if !is_word(s, at, 4, g.number) {
         return false;
     }
-    if !is_word(s, at, 4, g.line) {
+    if !is_word(s, at, 5, g.line) {
         return false;
     }
-    is_word(s, at, 5, g.digest)
+    is_word(s, at, 6, g.digest)
 }
