@@ -1,6 +1,9 @@
 # What the tests share. Sourced by each, in its own empty folder.
 repository=$(cd ../../../.. && pwd -P)
 
+# has FEATURE: features.h switches it on.
+has() { grep -q "^#define HAVE_$1 1" "$repository/tools/features.h"; }
+
 # status N COMMAND ..: the command has to end with status N; what it says on standard error is in `said`.
 status() {
     due=$1

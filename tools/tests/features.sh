@@ -1,6 +1,5 @@
 # What features.h switches on: held channels, the partner's reader, stitching.
 . "$(dirname "$0")/common.sh"
-has() { grep -q "^#define HAVE_$1 1" "$repository/tools/features.h"; }
 on=
 jpeg 48 24 1 a.jpg -quality 50 -sample 2x1
 jpeg2sheet a.jpg -o a.tsv --iterations 4

@@ -53,7 +53,8 @@ sheet '/^C/ && !n++ { $2 = 40 } 1' '2 (size), line 2: fields 1 and 3 (own width 
 sheet '/^B/ && !n++ { $65 = -2048 } 1' '5 (level), line 3: field 64 (level 64 of 64) is .-2048., expected -2047 to 2047'
 sheet '/^B/ && !n++ { NF = 64 } 1' '1 (form), line 3: 63 fields after B, expected 64'
 sheet '/^B/ && !n++ { $1 = "D" } 1' '1 (form), line 3: the tag is .D., expected B or G'
-sheet '/^E/ { next } 1' '7 (cut), line [0-9]*: the text ends here, expected a line E'
+has PARTNER && or_mark='N or ' || or_mark=
+sheet '/^E/ { next } 1' "7 (cut), line [0-9]*: the text ends here, expected a line ${or_mark}E"
 sheet '1; END { print "" }' '7 (cut), line [0-9]*: something follows the line E'
 sheet 'NR == 1 { $14 = "h7f000000" } 1' '10 (blown): the values of channel 0 overflowed in step 1'
 echo "each has one clear line and no output"

@@ -41,7 +41,6 @@ absent e.png
 status 0 sheet2png a.tsv e.png --page 50
 cmp a.png e.png
 status 2 sheet2png a.tsv f.png --page 1001
-has() { grep -q "^#define HAVE_$1 1" "$repository/tools/features.h"; }
 has PARTNER || { status 2 sheet2png a.tsv f.png --partner; says 'no such call yet'; }
 has STITCH || { status 2 sheet stitch a.tsv a.tsv f.tsv; says 'no such call yet'; }
 has HOLD || { status 2 jpeg2sheet a.jpg --hold 1,1,1; says 'no such call yet'; }
