@@ -246,7 +246,7 @@ drop-levels zero ls l = l
 drop-levels (suc n) [] l = tt
 drop-levels (suc n) (z ∷ ls) l = drop-levels n ls (l .1)
 
-take-ranges : (n : ℕ) (ls hs : List ℤ) → LegalRanges ls hs → LegalRanges (take n ls) (take n hs)
+pub take-ranges : (n : ℕ) (ls hs : List ℤ) → LegalRanges ls hs → LegalRanges (take n ls) (take n hs)
 take-ranges zero ls hs l = tt
 take-ranges (suc n) [] hs l = tt
 take-ranges (suc n) (z ∷ ls) [] l = tt
@@ -272,7 +272,7 @@ more-ranges [] (y ∷ hs) xs ys n a b = let w : ⊥ = omega arith in absurd w
 more-ranges (z ∷ ls) [] xs ys n a b = let w : ⊥ = omega arith in absurd w
 more-ranges (z ∷ ls) (y ∷ hs) xs ys n a b = (a .0, more-ranges ls hs xs ys (omega arith) (a .1) b)
 
-same-kinds : (rs : List Bool) {xs ys us vs : List ℤ} → xs ≡ us → ys ≡ vs → LegalKinds rs xs ys → LegalKinds rs us vs
+pub same-kinds : (rs : List Bool) {xs ys us vs : List ℤ} → xs ≡ us → ys ≡ vs → LegalKinds rs xs ys → LegalKinds rs us vs
 same-kinds rs {xs} {ys} {us} {vs} p q k = subst (λ (y : List ℤ). LegalKinds rs us y) q (subst (λ (x : List ℤ). LegalKinds rs x ys) p k)
 
 -- the kinds of the first blocks, and of those after them

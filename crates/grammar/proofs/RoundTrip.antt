@@ -361,12 +361,12 @@ free-setting (setting.Start choice.Second) = refl
 free-setting (setting.Hold hold.Unsaid) = refl
 free-setting (setting.Hold (hold.Counts k l m)) = rw (joined-free (holdFields k l m) (hold-free 10 (omega arith) k l m))
 
-free-blocks : (rs : List Bool) (ls hs : List ℤ) → allFree 10 (blockLines rs ls hs) ≡ true
+pub free-blocks : (rs : List Bool) (ls hs : List ℤ) → allFree 10 (blockLines rs ls hs) ≡ true
 free-blocks [] ls hs = refl
 free-blocks (r ∷ rs) ls hs =
     rw (joined-free (blockFields r (take 64 ls) (take 64 hs)) (block-free 10 (omega arith) r (take 64 ls) (take 64 hs))) (free-blocks rs (drop 64 ls) (drop 64 hs))
 
-free-both : (ps qs : List (List ℕ)) → allFree 10 ps ≡ true → allFree 10 qs ≡ true → allFree 10 (ps ++ qs) ≡ true
+pub free-both : (ps qs : List (List ℕ)) → allFree 10 ps ≡ true → allFree 10 qs ≡ true → allFree 10 (ps ++ qs) ≡ true
 free-both [] qs a b = b
 free-both (p ∷ ps) qs a b = two (free 10 p) a (free-both ps qs)
   where
@@ -374,13 +374,13 @@ free-both (p ∷ ps) qs a b = two (free 10 p) a (free-both ps qs)
     two true o ih = ih o b
     two false o ih = o
 
-free-settings : (x : Settings) → allFree 10 (settingLines x) ≡ true
+pub free-settings : (x : Settings) → allFree 10 (settingLines x) ≡ true
 free-settings x =
     let A = setting.Start (x .start) in
     let O = setting.Hold (x .hold) in
     free-both (settingLine (setting.Rounding (x .rounding))) (settingLine A ++ settingLine O) (free-setting (setting.Rounding (x .rounding))) (free-both (settingLine A) (settingLine O) (free-setting A) (free-setting O))
 
-free-channels : (cs : List Channel) (H : Held) → allFree 10 (channelLines cs H) ≡ true
+pub free-channels : (cs : List Channel) (H : Held) → allFree 10 (channelLines cs H) ≡ true
 free-channels [] H = refl
 free-channels (c ∷ cs) H =
     let n = c .width * c .height / 64 in
@@ -388,7 +388,7 @@ free-channels (c ∷ cs) H =
     (free-both (blockLines (take n (H .ranged)) (H .lent .lows) (H .lent .highs)) (channelLines cs (dropHeld n 64 H)) (free-blocks (take n (H .ranged)) (H .lent .lows) (H .lent .highs))
     (free-channels cs (dropHeld n 64 H)))
 
-free-marks : (ms : List Marked) → allFree 10 (markLines ms) ≡ true
+pub free-marks : (ms : List Marked) → allFree 10 (markLines ms) ≡ true
 free-marks [] = refl
 free-marks (m ∷ ms) = rw (joined-free (markFields (m .at)) (mark-free 10 (omega arith) (m .at))) (free-marks ms)
 

@@ -2,7 +2,7 @@
 mod hide;
 mod line;
 mod state;
-mod walk;
+pub mod walk;
 
 use crate::walk::Walked;
 use contents::Limits;
