@@ -1,0 +1,2 @@
+-- Parts of texts, and what copying them promises.
+pub mod Parts
