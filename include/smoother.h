@@ -14,7 +14,7 @@
  * always does; the processor rounds f32 to the nearest, ties to even, and keeps subnormals, as it does unless told otherwise.
  * Everything else is checked: a length, number, level, quantiser, position or weight that is not usable is refused.
  *
- * Answers. 0 is done. A number of the table is a refusal: nothing that was lent has changed, except `*line` of measure and read. 255 (project
+ * Answers. 0 is done. A number of the table is a refusal: nothing that was lent has changed, except `*line` of measure and read, and `*which` and `*line` of the stitching calls. 255 (project
  * and smoother_solve) is done, and the channel is now marked blown, or a channel blew in the run. */
 #ifndef SMOOTHER_H
 #define SMOOTHER_H
@@ -45,6 +45,7 @@ enum smoother_answer {
     SMOOTHER_RECORD = 13,  /* sizes, factors, weights, iterations, held steps, letter, positions, marks or clipped numbers of no legal record */
     SMOOTHER_RANGE = 14,   /* a lowest level above the highest of its place */
     SMOOTHER_PAGE = 15,    /* an iteration count within 1,000 but above the caller's limit */
+    SMOOTHER_SEAM = 16,    /* two sheets that do not fit side by side */
     SMOOTHER_HOLD = 17,    /* a count of line H above the iterations that it is measured against */
     SMOOTHER_MARK = 18,    /* a mark of line N whose channel or block the sheet has not, or whose block is marked already */
     SMOOTHER_SEGMENT = 19,   /* a DQT segment with a wrong marker or stated length, or with fewer than 64 bytes left for a table */
@@ -205,6 +206,21 @@ uint32_t smoother_solve(const uint32_t *header, size_t header_len, const int16_t
  * 1 (the nearest whole number, halves upward, as T.871), else 13. 0, 13, 8. */
 uint32_t smoother_finish(uint32_t rounding, uint32_t w, uint32_t h, uint32_t picture_width, uint32_t picture_height, uint32_t channels,
                          const float *planes, size_t planes_len, uint8_t *rgb, size_t rgb_len);
+
+/* ---- Two sheets stitched in time ---- */
+
+/* The text of two sheets side by side: full, own and picture widths are the sums, the left sheet's blocks come first in each row of blocks, block
+ * lines are copied as written, and the marks of both are kept, the right's columns moved. Both texts are judged at side limit 512 and iteration limit
+ * 1,000. They must have equal full and own heights, channels, mode, settings, weights, iterations, factors, tables and picture heights, each channel
+ * w x across equal to W on both sides, and the left picture must be as wide as its W: else 16.
+ * Both answers: 0, or a number of the table. Then *which is 1 where the left text is at fault and 2 where the right one is, with *line its line there;
+ * 16, and 2 for a summed width above 512, have *which 0 and *line 0, as has 0. Faults of the left text come first, then of the right, then 16, 2, 8.
+ * smoother_stitch_measure: *length is the output's length; a refusal leaves it as it was.
+ * smoother_stitch: `out` has exactly that length, else 8, which comes last. A refusal leaves it as it was. */
+uint32_t smoother_stitch_measure(const uint8_t *left, size_t left_len, const uint8_t *right, size_t right_len, size_t *length,
+                                 uint32_t *which, size_t *line);
+uint32_t smoother_stitch(const uint8_t *left, size_t left_len, const uint8_t *right, size_t right_len, uint8_t *out, size_t out_len,
+                         uint32_t *which, size_t *line);
 
 /* ---- The archive tapes ---- */
 

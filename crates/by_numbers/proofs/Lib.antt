@@ -2,3 +2,4 @@
 pub mod SheetLaws
 pub mod WholeLaws
 pub mod RoundTrip
+pub mod StitchLaws

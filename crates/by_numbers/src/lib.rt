@@ -1,6 +1,7 @@
 // A sheet's record as numbers, in the order of `numbersOf`: what reading lends out, and what the whole run and the picture take back.
 pub mod reading;
 pub mod sheets;
+pub mod stitches;
 
 use contents::Choice;
 use contents::Sheet;

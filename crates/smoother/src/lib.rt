@@ -3,6 +3,7 @@ pub mod runs;
 pub mod segments;
 pub mod sheets;
 pub mod sizes;
+pub mod stitches;
 pub mod tapes;
 
 use contents::Limits;

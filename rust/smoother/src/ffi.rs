@@ -28,6 +28,25 @@ exports! {
         header_len: usize,
         line: &mut usize,
     ) -> u32;
+    pub fn smoother_stitch_measure(
+        left: *const u8,
+        left_len: usize,
+        right: *const u8,
+        right_len: usize,
+        length: &mut usize,
+        which: &mut u32,
+        line: &mut usize,
+    ) -> u32;
+    pub fn smoother_stitch(
+        left: *const u8,
+        left_len: usize,
+        right: *const u8,
+        right_len: usize,
+        out: *mut u8,
+        out_len: usize,
+        which: &mut u32,
+        line: &mut usize,
+    ) -> u32;
     pub fn smoother_start(
         run: &mut Run,
         lows: *const i16,

@@ -22,6 +22,7 @@ mod refusal;
 mod run;
 mod segments;
 mod sheet;
+mod stitch;
 mod tapes;
 
 pub use refusal::{Error, Fault, Refusal};
@@ -34,4 +35,5 @@ pub use sheet::{
     Lengths, Levels, Limits, NUMBERS, Own, Reader, Rounding, Sheet, Solved, finish_into, measure, read, read_as,
     read_into, solve_into,
 };
+pub use stitch::{Side, Unstitched, stitch, stitch_into, stitch_measure};
 pub use tapes::{rearrange, rearrange_into, restore, restore_into};

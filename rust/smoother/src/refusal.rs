@@ -20,7 +20,8 @@ pub enum Refusal {
     Record,
     Range,
     Page,
-    Hold = 17,
+    Seam,
+    Hold,
     Mark,
     Segment,
     Precision,
@@ -29,9 +30,9 @@ pub enum Refusal {
 use Refusal::*;
 
 impl Refusal {
-    pub const ALL: [Self; 19] = [
-        Form, Size, Factor, Table, Level, Weight, Cut, Length, Turn, Blown, Done, Channel, Record, Range, Page, Hold,
-        Mark, Segment, Precision,
+    pub const ALL: [Self; 20] = [
+        Form, Size, Factor, Table, Level, Weight, Cut, Length, Turn, Blown, Done, Channel, Record, Range, Page, Seam,
+        Hold, Mark, Segment, Precision,
     ];
 
     pub const fn number(self) -> u32 {
@@ -66,6 +67,7 @@ impl Refusal {
             Record => "record",
             Range => "range",
             Page => "page",
+            Seam => "seam",
             Hold => "hold",
             Mark => "mark",
             Segment => "segment",
@@ -94,6 +96,7 @@ impl Refusal {
             }
             Range => "a lowest level above the highest of its place",
             Page => "an iteration count within 1,000 but above the caller's limit",
+            Seam => "two sheets that do not fit side by side",
             Hold => "a count of line `H` above the iterations that it is measured against",
             Mark => "a mark of line `N` whose channel or block the sheet has not, or whose block is marked already",
             Segment => {

@@ -262,7 +262,7 @@ mod tests {
         for refusal in Refusal::ALL {
             assert_eq!([plain, told].map(|say| say(refusal.number())), [Err(refusal.into()); 2]);
         }
-        for number in [16, 254, 256, u32::MAX] {
+        for number in [21, 254, 256, u32::MAX] {
             assert_eq!([plain, told].map(|say| say(number)), [Err(Error::Unknown(number)); 2]);
         }
         assert_eq!(plain(255), Err(Error::Unknown(255)));

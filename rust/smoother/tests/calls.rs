@@ -257,12 +257,12 @@ fn reading_into_wrong_lengths() {
 
 #[test]
 fn table_of_refusals() {
-    let numbers: Vec<u32> = (1..=15).chain(17..=20).collect();
+    let numbers: Vec<u32> = (1..=20).collect();
     assert_eq!(Refusal::ALL.map(Refusal::number).to_vec(), numbers);
     for refusal in Refusal::ALL {
         assert_eq!(Refusal::of_number(refusal.number()), Some(refusal));
     }
-    assert_eq!([0, 16, 255].map(Refusal::of_number), [None; 3]);
+    assert_eq!([0, 21, 255].map(Refusal::of_number), [None; 3]);
     let words = [
         "form",
         "size",
@@ -279,6 +279,7 @@ fn table_of_refusals() {
         "record",
         "range",
         "page",
+        "seam",
         "hold",
         "mark",
         "segment",
@@ -571,6 +572,30 @@ fn marked_blocks() {
         let due = Some(Fault { error: error.into(), line });
         assert_eq!([Reader::Staff, Reader::Partner].map(|reader| read_by(&text, reader).err()), [due, due]);
     }
+}
+
+/// Document 02, M-107: faults of the left text, then of the right, then the seam, then the summed width, then the output's length.
+#[test]
+fn stitching() {
+    let [left, right, both] = ["left", "right", "stitched"].map(|name| {
+        std::fs::read_to_string(format!("{}/../../samples/{name}.tsv", env!("CARGO_MANIFEST_DIR"))).expect("the sample")
+    });
+    let bytes = |text: &str| text.as_bytes().to_vec();
+    assert_eq!(stitch(left.as_bytes(), right.as_bytes()), Ok(bytes(&both)));
+    let refused = |left: &str, right: &str| {
+        let said = stitch(left.as_bytes(), right.as_bytes()).expect_err("refused");
+        (said.refusal, said.at)
+    };
+    let cut = |text: &str| text[..text.len() - 2].to_owned();
+    let lines = |text: &str| text.lines().count();
+    assert_eq!(refused(&cut(&left), ""), (Refusal::Cut, Some((Side::Left, lines(&left)))));
+    assert_eq!(refused(&left, ""), (Refusal::Cut, Some((Side::Right, 1))));
+    assert_eq!(refused(&left, &cut(&right)), (Refusal::Cut, Some((Side::Right, lines(&right)))));
+    assert_eq!(refused(&left, &whole()), (Refusal::Seam, None));
+    let mut out = vec![7; both.len() - 1];
+    let said = stitch_into(left.as_bytes(), right.as_bytes(), &mut out);
+    assert_eq!(said.map_err(|said| (said.refusal, said.at)), Err((Refusal::Length, None)));
+    assert!(out.iter().all(|x| *x == 7));
 }
 
 /// Document 02, M-108: a held channel stays as its last step left it, one that is held from the start as it began; 17 in a text, 13 in a record.
