@@ -7,7 +7,7 @@ rt staticlib smoother
 ./smooth --build
 cd oracle
 cargo build --release --bins
-for run in arith utils "utils --faults" jobs "jobs --faults" totals "totals --faults" "sheets --compare" "sheets --faults" "calls --compare" "calls --faults" planes "planes --faults" tapes "tapes --faults" segments "segments --faults" mild; do
+for run in arith utils "utils --faults" jobs "jobs --faults" totals "totals --faults" "sheets --compare" "sheets --faults" "calls --compare" "calls --faults" planes "planes --faults" tapes "tapes --faults" segments "segments --faults" stitches "stitches --faults" mild; do
     # shellcheck disable=SC2086
     ./target/release/$run
 done

@@ -19,6 +19,7 @@ out=../crates/replay_leaves
 {
     cargo run -q --release --bin tapes -- --list 300 1
     cargo run -q --release --bin segments -- --list 200 1
+    cargo run -q --release --bin stitches -- --list 120 1
 } > $out/stdin
 echo "$(wc -l < $out/stdin) same, 0 other" > $out/stdout
 # texts, each after its length, and what the published Rust makes of them

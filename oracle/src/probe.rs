@@ -194,6 +194,15 @@ pub fn read(
     }
 }
 
+/// `which` is 1 for the left text and 2 for the right (M-107).
+pub fn stitch_measure(left: &[u8], right: &[u8], length: &mut usize, which: &mut u32, line: &mut usize) -> u32 {
+    unsafe { lend!(smoother_stitch_measure(read left, read right, length, which, line)) }
+}
+
+pub fn stitch(left: &[u8], right: &[u8], out: &mut [u8], which: &mut u32, line: &mut usize) -> u32 {
+    unsafe { lend!(smoother_stitch(read left, read right, write out, which, line)) }
+}
+
 pub fn solve(
     header: &[u32],
     [lows, highs]: [&[i16]; 2],

@@ -400,7 +400,8 @@ impl Sheet {
         self.reorder.unwrap_or(Reorder::Each)
     }
 
-    fn measures(&self) -> [u32; 3] {
+    /// What each held count is measured against.
+    pub fn measures(&self) -> [u32; 3] {
         measures(self.channels.len() as u32, self.joint, self.counts)
     }
 

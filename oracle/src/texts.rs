@@ -42,7 +42,7 @@ fn own_random(sheet: &Sheet) -> Random {
 }
 
 /// Lines `N`, by numbers of the sheet's own too: none of two sheets in five, else one, some or all blocks, in any order.
-fn marks(sheet: &Sheet) -> Vec<[u32; 3]> {
+pub fn marks(sheet: &Sheet) -> Vec<[u32; 3]> {
     let mut r = Random::new(own_random(sheet).word());
     let blocks =
         sheet.channels.iter().zip(0..).flat_map(|(own, c)| {
@@ -98,7 +98,7 @@ fn picture_side(r: &mut Random, full: u32) -> u32 {
     if r.one_in(2) { full } else { r.between(1, full.into()) as u32 }
 }
 
-fn weight(r: &mut Random) -> Weight {
+pub fn weight(r: &mut Random) -> Weight {
     match r.below(8) {
         0 | 1 => Weight::Whole(0),
         2 => Weight::Whole(r.between(0, 255) as u32),
@@ -133,13 +133,23 @@ fn cover(r: &mut Random, full: u32) -> (u32, u32) {
 }
 
 /// Of a sheet: one block in how many has a line `G` (none where 0), and how far its ranges reach to either side. Of five sheets two have none, and one has equal pairs.
-const RANGES: [(usize, i64); 10] = [(0, 0), (0, 0), (0, 0), (0, 0), (2, 0), (1, 0), (2, 1), (2, 5), (1, 60), (3, 4094)];
+pub const RANGES: [(usize, i64); 10] =
+    [(0, 0), (0, 0), (0, 0), (0, 0), (2, 0), (1, 0), (2, 1), (2, 5), (1, 60), (3, 4094)];
 
-fn channel(r: &mut Random, full_w: u32, full_h: u32, (share, reach): (usize, i64)) -> Channel {
+fn channel(r: &mut Random, full_w: u32, full_h: u32, ranges: (usize, i64)) -> Channel {
     let ((across, w), (down, h)) = (cover(r, full_w), cover(r, full_h));
+    let table = table(r);
+    Channel { w, h, across, down, table, levels: levels(r, w * h / 64, ranges) }
+}
+
+pub fn table(r: &mut Random) -> Vec<u32> {
     let most = r.pick(&[1, 2, 24, 255]);
-    let table = (0..64).map(|_| r.between(1, most) as u32).collect();
-    let mut levels: Levels = (0..w * h / 64).flat_map(|_| block(r)).collect();
+    (0..64).map(|_| r.between(1, most) as u32).collect()
+}
+
+/// Of so many blocks.
+pub fn levels(r: &mut Random, blocks: u32, (share, reach): (usize, i64)) -> Levels {
+    let mut levels: Levels = (0..blocks).flat_map(|_| block(r)).collect();
     for b in 0..levels.ranged.len() {
         levels.ranged[b] = share > 0 && r.one_in(share);
         for k in (64 * b..64 * (b + 1)).filter(|_| reach > 0 && levels.ranged[b]) {
@@ -150,7 +160,7 @@ fn channel(r: &mut Random, full_w: u32, full_h: u32, (share, reach): (usize, i64
             }
         }
     }
-    Channel { w, h, across, down, table, levels }
+    levels
 }
 
 /// Many zeros and small levels, as pictures have them; some blocks with all levels at random.
@@ -409,8 +419,8 @@ fn marked(r: &mut Random, text: &mut Vec<u8>) {
         }
         (8, Some(block)) => lines[block][1] = r.pick(&["7", "2047", "2048"]).into(),
         _ => {
-            let last = lines.len() - 1;
-            lines.swap(mark, last.min(mark + 1));
+            let next = (mark + 1).min(lines.len() - 1);
+            lines.swap(mark, next);
         }
     }
     *text = join(&lines);
