@@ -1,6 +1,7 @@
 // Replays calls on lent slices: each line of standard input has a call, what it is lent, and the answer and values that the oracle's own gives.
 // Writes how many of the lines have what the proved code gives, and how many have another.
 mod segments;
+mod stitches;
 mod tapes;
 
 use words::Tally;
@@ -20,6 +21,9 @@ fn same_line(s: &[u8], at: usize) -> bool
     }
     if first == b'e' {
         return segments::same_export_line(s, at);
+    }
+    if first == b's' {
+        return stitches::same_line(s, at);
     }
     tapes::same_line(s, at)
 }

@@ -51,7 +51,7 @@ fn same_byte(a: &[u8], b: &[u8], n: usize) -> bool {
     false
 }
 
-fn same_bytes(a: &[u8], b: &[u8]) -> bool {
+pub fn same_bytes(a: &[u8], b: &[u8]) -> bool {
     for n in 0..a.len() {
         if !same_byte(a, b, n) {
             return false;
