@@ -4,7 +4,7 @@
 
 #define HAVE_HOLD 1    /* M-108: line H, three held counts among a sheet's numbers, refusal 17 */
 #define HAVE_PARTNER 1 /* M-110: lines N, the reader as a parameter of smoother_read, refusal 18 */
-#define HAVE_STITCH 0  /* M-107: smoother_stitch_measure and smoother_stitch, refusal 16 */
+#define HAVE_STITCH 1  /* M-107: smoother_stitch_measure and smoother_stitch, refusal 16 */
 
 /* What is said where a feature is asked for that the library has not. */
 #define NO_FEATURE "%s: the library that these tools were built with has no such call yet"
