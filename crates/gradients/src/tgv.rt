@@ -224,8 +224,8 @@ fn corners(
     );
 }
 
-// "compute derivatives" of channel c: all seven, in this order.
-fn channel_derivatives(
+// "compute derivatives" of channel c: all seven, in this order. Rules out: a corner left out, and a change beyond an edge.
+pub fn channel_derivatives(
     gradient: &mut [f32],
     g: Grid,
     alpha: f32,

@@ -57,7 +57,8 @@ fn g_norm_of(n: usize, held: [bool; 3], d: Forward) -> f32
 }
 
 // "compute derivatives" of channel c, whose differences are g_x and g_y: own place, right, below.
-fn channel_derivatives(
+// Rules out: two of the three exchanged, and a change beyond an edge.
+pub fn channel_derivatives(
     gradient: &mut [f32],
     g: Grid,
     alpha: f32,

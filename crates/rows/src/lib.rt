@@ -87,6 +87,24 @@ pub fn any(norm: &[f32], w: usize) -> bool
     false
 }
 
+// 1 for a norm that is 0.
+fn idle(n: f32) -> usize
+    ensures { λ r. ⌜ r ≤ 1 ⌝ }
+{
+    if n == 0.0 { 1 } else { 0 }
+}
+
+// Whether more than 1 in 16 of w norms are 0: then the changes are quicker pixel by pixel than kind by kind. Nothing is said of the answer, since both ways change the same.
+pub fn sparse(norm: &[f32], w: usize) -> bool
+    requires { ⌜ w ≤ length (now norm) ⌝ }
+{
+    let mut zeros = 0;
+    for x in 0..w {
+        zeros += idle(norm[x]);
+    }
+    w / 16 < zeros
+}
+
 // Own places. Rules out: a change where the norm is 0, and by the quotient of another pixel. So do the six below.
 pub fn own(gradient: &mut [f32], norm: &[f32], q: &[f32], g: Grid, alpha: f32, y: usize, c: usize)
     requires { ⌜ (c < g .n) × (y < g .h) × (0 < g .w) × (g .w ≤ length (now norm)) × (g .w ≤ length (now q)) × Fills g (length (now gradient)) ⌝ }

@@ -14,12 +14,12 @@ use Rattle.gradients.specs.declared.tgv.Second.{Second}
 use Rattle.gradients.specs.Tv.{pxIdx, rightEdge, bottomEdge, difference, bump, bumpUnless}
 use Rattle.gradients.specs.Tgv.{leftEdge, topEdge, tgvDifferences, tgvDifferencesAt, g2NormAt, g2NormOf, tgvBeside, tgvUpDown, tgvCorners, tgvChannelDerivatives, tgvDerivatives, tgvDerivativesAt, tgvGradientPx, tgvGradientRow, tgvTotalPx, tgvTotalRow}
 use Rattle.rows.specs.Rows.{Row, storeFrom, ownRow, rightRow, leftRow, belowRow, aboveRow, aboveRightRow, belowLeftRow, none}
-use Rattle.tgv_rows.specs.TgvRows.{xxOf, xyOf, yyOf, rowIn, ownQuot, sideQuot, endQuot, cornerQuot, tgvSquares, tgvNorms, tgvBesides, tgvAboves, tgvBelows, tgvKinds, tgvTotals}
+use Rattle.tgv_rows.specs.TgvRows.{xxOf, xyOf, yyOf, rowIn, ownQuot, sideQuot, endQuot, cornerQuot, tgvSquares, tgvNorms, tgvTurn, tgvBesides, tgvAboves, tgvBelows, tgvKinds, tgvTotals}
 use Rattle.rows.proofs.Commute.{upto-idle, hit-off, hit-on, hit-own}
 use Rattle.rows.proofs.Filled.{row-at}
 use Rattle.rows.proofs.RowLaws.{hits-idle, hits-then}
 use Rattle.rows.proofs.Places.{upto-part}
-use Rattle.tgv_rows.proofs.KindByKind.{tgvTurn, tgv-kinds}
+use Rattle.tgv_rows.proofs.KindByKind.{tgv-kinds}
 
 module _ (W H : ℕ) (alpha : Float) (ns : ℕ → Float) (X M Y : ℕ → ℕ → Float) (y : ℕ) (up : y < H) where
   abbrev own : ℕ → ℕ → List Float → List Float
@@ -44,7 +44,7 @@ module _ (W H : ℕ) (alpha : Float) (ns : ℕ → Float) (X M Y : ℕ → ℕ �
   foot c = belowLeftRow W H alpha ns (cornerQuot W H alpha ns X M Y y c) y c
 
   abbrev turn : ℕ → ℕ → List Float → List Float
-  turn c x g = foot c x (corner c x (below c x (above c x (right c x (left c x (own c x g))))))
+  turn c x = tgvTurn W H alpha ns X M Y y c x
 
   module _ (c x : ℕ) where
     abbrev o : Float
@@ -88,12 +88,19 @@ module _ (W H : ℕ) (alpha : Float) (ns : ℕ → Float) (X M Y : ℕ → ℕ �
         hit-on (leftEdge x || bottomEdge H y) alpha (ns x) d (pxIdx W H c (y + 1) (x - 1)) (bumpUnless (rightEdge W x || topEdge y) alpha d (ns x) (pxIdx W H c (y - 1) (x + 1)) t) e
         ∙ ap (foot c x) (hit-on (rightEdge W x || topEdge y) alpha (ns x) d (pxIdx W H c (y - 1) (x + 1)) t e)
 
-    turn-on : (t : List Float) → eq (ns x) f0 ≡ false → tgvChannelDerivatives W H alpha (ns x) (X c x) (M c x) (Y c x) y x c t ≡ turn c x t
+    pub turn-on : (t : List Float) → eq (ns x) f0 ≡ false → tgvChannelDerivatives W H alpha (ns x) (X c x) (M c x) (Y c x) y x c t ≡ turn c x t
     unfolding tgvChannelDerivatives
     turn-on t e =
         let b = tgvBeside W H alpha (ns x) (X c x) (M c x) (Y c x) y x c t in
         corners-on (tgvUpDown W H alpha (ns x) (M c x) (Y c x) y x c b) e
         ∙ ap (λ (u : List Float). foot c x (corner c x u)) (ends-on b e ∙ ap (λ (u : List Float). below c x (above c x u)) (beside-on t e))
+
+  pub pixel-idle : (n x : ℕ) (g : List Float) → eq (ns x) f0 ≡ true → g ≡ upto (λ c. turn c x) n g
+  pixel-idle n x g i = sym (upto-idle (λ c. turn c x) n (λ c l t. turn-off c x t i) g)
+
+  pub by-kinds : (n : ℕ) (g : List Float) → upto (λ x. upto (λ c. turn c x) n) W g ≡ upto (tgvKinds W H alpha ns X M Y y) n g
+  by-kinds n g =
+      tgv-kinds W H alpha ns (λ c. ownQuot W H alpha ns X M Y y c) (λ c. sideQuot W H alpha ns X M Y y c) (λ c. endQuot W H alpha ns X M Y y c) (λ c. cornerQuot W H alpha ns X M Y y c) y up n g
 
   spread-is : (n x : ℕ) (e : Second) → ((c : ℕ) → c < n → val (e .«g_xxs») c ≡ X c x) → ((c : ℕ) → c < n → val (e .«g_xy_syms») c ≡ M c x) → ((c : ℕ) → c < n → val (e .«g_yys») c ≡ Y c x)
       → (g : List Float) → tgvDerivatives W H n none alpha (ns x) e y x g ≡ upto (λ c. turn c x) n g
@@ -104,14 +111,14 @@ module _ (W H : ℕ) (alpha : Float) (ns : ℕ → Float) (X M Y : ℕ → ℕ �
       values c t l = rw (p c l, q c l, r c l)
 
       go : (b : Bool) → eq (ns x) f0 ≡ b → cond (eq (ns x) f0) g (upto (tgvDerivativesAt W H alpha (ns x) e y x) n g) ≡ upto (λ c. turn c x) n g
-      go true i = rw i (sym (upto-idle (λ c. turn c x) n (λ c l t. turn-off c x t i) g))
+      go true i = rw i (pixel-idle n x g i)
       go false i = rw i (upto-ext (tgvDerivativesAt W H alpha (ns x) e y x) (λ c. turn c x) n g (λ c t l. values c t l ∙ turn-on c x t i))
 
   pub changes : (n : ℕ) (e : ℕ → Second) → ((x c : ℕ) → c < n → val (e x .«g_xxs») c ≡ X c x) → ((x c : ℕ) → c < n → val (e x .«g_xy_syms») c ≡ M c x) → ((x c : ℕ) → c < n → val (e x .«g_yys») c ≡ Y c x)
       → (g : List Float) → upto (λ x t. tgvDerivatives W H n none alpha (ns x) (e x) y x t) W g ≡ upto (tgvKinds W H alpha ns X M Y y) n g
   changes n e p q r g =
       upto-ext (λ x t. tgvDerivatives W H n none alpha (ns x) (e x) y x t) (λ x. upto (λ c. turn c x) n) W g (λ x t l. spread-is n x (e x) (p x) (q x) (r x) t)
-      ∙ tgv-kinds W H alpha ns (λ c. ownQuot W H alpha ns X M Y y c) (λ c. sideQuot W H alpha ns X M Y y c) (λ c. endQuot W H alpha ns X M Y y c) (λ c. cornerQuot W H alpha ns X M Y y c) y up n g
+      ∙ by-kinds n g
 
 -- ---- the differences of differences
 module _ (W H n : ℕ) (across down : List Float) (y : ℕ) (three : n ≤ 3) where

@@ -38,6 +38,14 @@ module _ (W H : ℕ) (alpha : Float) (ns : ℕ → Float) (X M Y : ℕ → ℕ �
   abbrev pub cornerQuot : ℕ → Float
   cornerQuot x = neg (M c x) ⊘ ns x
 
+  -- a pixel's seven changes, in the Rust's order
+  abbrev pub tgvTurn : ℕ → List Float → List Float
+  tgvTurn x g =
+      belowLeftRow W H alpha ns cornerQuot y c x (aboveRightRow W H alpha ns cornerQuot y c x
+      (belowRow W H alpha ns endQuot y c x (aboveRow W H alpha ns endQuot y c x
+      (rightRow W H alpha ns sideQuot y c x (leftRow W H alpha ns sideQuot y c x (ownRow W H alpha ns ownQuot y c x g))))))
+
+  -- a row's, kind by kind
   abbrev pub tgvBesides : List Float → List Float
   tgvBesides g = upto (leftRow W H alpha ns sideQuot y c) W (upto (ownRow W H alpha ns ownQuot y c) W (upto (rightRow W H alpha ns sideQuot y c) W g))
 

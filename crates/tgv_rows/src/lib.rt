@@ -12,7 +12,7 @@ ghost use Rattle.float.specs.Names.{_⊕_, _⊗_, _⊘_, f2, val};
 ghost use Rattle.gradients.specs.Grid.{Fills};
 ghost use Rattle.gradients.specs.Tgv.{tgvGradientRow, tgvGradient, tgvTotalRow, tgvTotal};
 ghost use Rattle.rows.specs.Rows.{Row, storeFrom, none};
-ghost use Rattle.tgv_rows.specs.TgvRows.{xxOf, yyOf, xyOf, rowIn, tgvNorms, tgvBesides, tgvAboves, tgvBelows, tgvKinds, tgvTotals};
+ghost use Rattle.tgv_rows.specs.TgvRows.{xxOf, yyOf, xyOf, rowIn, tgvNorms, tgvTurn, tgvBesides, tgvAboves, tgvBelows, tgvKinds, tgvTotals};
 
 // The differences of xs along row y of channel c, to out from b on.
 fn left_row(xs: &[f32], out: &mut [f32], g: Grid, y: usize, c: usize, b: usize)
@@ -269,7 +269,58 @@ fn channel_row(
     belows(gradient, xx, xy, yy, norm, q, g, alpha, y, c);
 }
 
-// The same in every channel; nothing where each norm is 0.
+// The changes of pixel x of row y in every channel, all seven as tgv.rs has them; nothing where its norm is 0.
+fn pixel(
+    gradient: &mut [f32],
+    xx: &[f32],
+    xy: &[f32],
+    yy: &[f32],
+    norm: &[f32],
+    g: Grid,
+    alpha: f32,
+    y: usize,
+    x: usize,
+)
+    requires { ⌜ (y < g .h) × (x < g .w) × (g .n * g .w ≤ length (now xx)) × (g .n * g .w ≤ length (now xy)) × (g .n * g .w ≤ length (now yy))
+        × (g .w ≤ length (now norm)) × Fills g (length (now gradient)) ⌝ }
+    ensures { λ _. ⌜ now (gradient .exit) ≡ upto (λ c. tgvTurn (g .w) (g .h) alpha (λ z. val (now (norm .entry)) z)
+        (rowIn (g .w) (now (xx .entry))) (rowIn (g .w) (now (xy .entry))) (rowIn (g .w) (now (yy .entry))) y c x) (g .n) (now (gradient .entry)) ⌝ }
+{
+    let n = g.n;
+    let w = g.w;
+    let m = norm[x];
+    if m == 0.0 {
+        return;
+    }
+    for c in 0..n {
+        let k = c * w + x;
+        gradients::tgv::channel_derivatives(gradient, g, alpha, m, xx[k], xy[k], yy[k], y, x, c);
+    }
+}
+
+// All changes of row y, pixel by pixel.
+fn pixels(
+    gradient: &mut [f32],
+    xx: &[f32],
+    xy: &[f32],
+    yy: &[f32],
+    norm: &[f32],
+    g: Grid,
+    alpha: f32,
+    y: usize,
+)
+    requires { ⌜ (y < g .h) × (g .n * g .w ≤ length (now xx)) × (g .n * g .w ≤ length (now xy)) × (g .n * g .w ≤ length (now yy))
+        × (g .w ≤ length (now norm)) × Fills g (length (now gradient)) ⌝ }
+    ensures { λ _. ⌜ now (gradient .exit) ≡ upto (tgvKinds (g .w) (g .h) alpha (λ x. val (now (norm .entry)) x)
+        (rowIn (g .w) (now (xx .entry))) (rowIn (g .w) (now (xy .entry))) (rowIn (g .w) (now (yy .entry))) y) (g .n) (now (gradient .entry)) ⌝ }
+{
+    let w = g.w;
+    for x in 0..w {
+        pixel(gradient, xx, xy, yy, norm, g, alpha, y, x);
+    }
+}
+
+// All changes of row y: nothing where each norm is 0, pixel by pixel where many are, else kind by kind, one channel after another.
 fn spread_rows(
     gradient: &mut [f32],
     xx: &[f32],
@@ -289,6 +340,10 @@ fn spread_rows(
     let n = g.n;
     let w = g.w;
     if !rows::any(norm, w) {
+        return;
+    }
+    if rows::sparse(norm, w) {
+        pixels(gradient, xx, xy, yy, norm, g, alpha, y);
         return;
     }
     for c in 0..n {

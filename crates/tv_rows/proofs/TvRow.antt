@@ -14,11 +14,11 @@ use Rattle.float.specs.Names.{_⊕_, _⊘_, f0, val}
 use Rattle.gradients.specs.declared.tv.Forward.{Forward}
 use Rattle.gradients.specs.Tv.{Terms, pxIdx, rightEdge, bottomEdge, tvDifferences, gNormAt, gNormOf, store, storeAt, tvDerivatives, tvGradientPx, tvGradientRow, tvTotalPx, tvTotalRow}
 use Rattle.rows.specs.Rows.{Row, keepRow, ownRow, rightRow, belowRow, none}
-use Rattle.tv_rows.specs.TvRows.{acrossOf, downOf, tvSquares, tvNorms, tvKinds, tvTotals, keptIn}
+use Rattle.tv_rows.specs.TvRows.{acrossOf, downOf, tvSquares, tvNorms, tvTurn, tvKinds, tvTotals, keptIn}
 use Rattle.rows.proofs.Commute.{turned, upto-idle}
 use Rattle.rows.proofs.RowLaws.{hit-same, hits-idle, hits-then, at-px}
 use Rattle.rows.proofs.Places.{upto-part, px-before}
-use Rattle.tv_rows.proofs.KindByKind.{tv-kinds, tvTurn, spread-is, forward-xs, forward-ys}
+use Rattle.tv_rows.proofs.KindByKind.{tv-kinds, spread-is, forward-xs, forward-ys}
 use Rattle.rows.proofs.Filled.{kept-at}
 
 -- the changes see only the row's values
@@ -79,7 +79,7 @@ module _ (W H n : ℕ) (alpha : Float) (plane : List Float) (y : ℕ) (up : y < 
 
   changes : (g : List Float) → upto (λ x t. tvDerivatives W H n none alpha (gNormOf n none (fwd x)) (fwd x) y x t) W g ≡ upto (tvKinds W H alpha (λ x. gNormOf n none (fwd x)) X Y y) n g
   changes g =
-      upto-ext (λ x t. tvDerivatives W H n none alpha (gNormOf n none (fwd x)) (fwd x) y x t) (λ x. upto (λ c. tvTurn W H alpha (λ x. gNormOf n none (fwd x)) X Y y up c x) n) W g
+      upto-ext (λ x t. tvDerivatives W H n none alpha (gNormOf n none (fwd x)) (fwd x) y x t) (λ x. upto (λ c. tvTurn W H alpha (λ x. gNormOf n none (fwd x)) X Y y c x) n) W g
       (λ x t l. spread-is W H alpha (λ x. gNormOf n none (fwd x)) X Y y up n x (fwd x) (forward-xs W H n plane y three x) (forward-ys W H n plane y three x) t)
       ∙ tv-kinds W H alpha (λ x. gNormOf n none (fwd x)) X Y y up n g
 

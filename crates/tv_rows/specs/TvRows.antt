@@ -21,6 +21,12 @@ tvSquares X Y x c t = t ⊕ square (X c x) ⊕ square (Y c x)
 abbrev pub tvNorms : ℕ → (ℕ → ℕ → Float) → (ℕ → ℕ → Float) → ℕ → Float
 tvNorms n X Y x = root (upto (tvSquares X Y x) n f0)
 
+-- a pixel's three changes of channel c, in the Rust's order
+abbrev pub tvTurn : ℕ → ℕ → Float → (ℕ → Float) → (ℕ → ℕ → Float) → (ℕ → ℕ → Float) → ℕ → ℕ → ℕ → List Float → List Float
+tvTurn W H alpha ns X Y y c x g =
+    belowRow W H alpha ns (λ x. Y c x ⊘ ns x) y c x (rightRow W H alpha ns (λ x. X c x ⊘ ns x) y c x (ownRow W H alpha ns (λ x. neg (X c x ⊕ Y c x) ⊘ ns x) y c x g))
+
+-- a row's, kind by kind
 abbrev pub tvKinds : ℕ → ℕ → Float → (ℕ → Float) → (ℕ → ℕ → Float) → (ℕ → ℕ → Float) → ℕ → ℕ → List Float → List Float
 tvKinds W H alpha ns X Y y c g =
     upto (belowRow W H alpha ns (λ x. Y c x ⊘ ns x) y c) W

@@ -10,7 +10,7 @@ ghost use Rattle.float.specs.Names.{_⊕_, _⊘_, val};
 ghost use Rattle.gradients.specs.Grid.{Fills};
 ghost use Rattle.gradients.specs.Tv.{tvGradientRow, tvGradient, tvTotalRow, tvTotal};
 ghost use Rattle.rows.specs.Rows.{Row, keepRow, none};
-ghost use Rattle.tv_rows.specs.TvRows.{acrossOf, downOf, tvNorms, tvKinds, tvTotals, keptIn};
+ghost use Rattle.tv_rows.specs.TvRows.{acrossOf, downOf, tvNorms, tvTurn, tvKinds, tvTotals, keptIn};
 
 // The quotients of kept differences by the norms of their row, which starts at `at`.
 fn quotients(xs: &[f32], norm: &[f32], q: &mut [f32], at: usize, w: usize)
@@ -132,7 +132,54 @@ fn channel_row(
     rows::below(gradient, norm, &q[..], g, alpha, y, c);
 }
 
-// The same in every channel; nothing where each norm is 0.
+// The changes of pixel x of row y in every channel, as tv.rs has them: own place, right, below; nothing where its norm is 0.
+fn pixel(
+    gradient: &mut [f32],
+    across: &[f32],
+    down: &[f32],
+    norm: &[f32],
+    g: Grid,
+    alpha: f32,
+    y: usize,
+    x: usize,
+)
+    requires { ⌜ (y < g .h) × (x < g .w) × (g .w ≤ length (now norm))
+        × Fills g (length (now gradient)) × Fills g (length (now across)) × Fills g (length (now down)) ⌝ }
+    ensures { λ _. ⌜ now (gradient .exit) ≡ upto (λ c. tvTurn (g .w) (g .h) alpha (λ z. val (now (norm .entry)) z)
+        (keptIn (g .w) (g .h) (now (across .entry)) y) (keptIn (g .w) (g .h) (now (down .entry)) y) y c x) (g .n) (now (gradient .entry)) ⌝ }
+{
+    let n = g.n;
+    let m = norm[x];
+    if m == 0.0 {
+        return;
+    }
+    for c in 0..n {
+        let k = gradients::grid::px(g, c, y, x);
+        gradients::tv::channel_derivatives(gradient, g, alpha, m, across[k], down[k], y, x, c);
+    }
+}
+
+// All changes of row y, pixel by pixel.
+fn pixels(
+    gradient: &mut [f32],
+    across: &[f32],
+    down: &[f32],
+    norm: &[f32],
+    g: Grid,
+    alpha: f32,
+    y: usize,
+)
+    requires { ⌜ (y < g .h) × (g .w ≤ length (now norm)) × Fills g (length (now gradient)) × Fills g (length (now across)) × Fills g (length (now down)) ⌝ }
+    ensures { λ _. ⌜ now (gradient .exit) ≡ upto (tvKinds (g .w) (g .h) alpha (λ x. val (now (norm .entry)) x)
+        (keptIn (g .w) (g .h) (now (across .entry)) y) (keptIn (g .w) (g .h) (now (down .entry)) y) y) (g .n) (now (gradient .entry)) ⌝ }
+{
+    let w = g.w;
+    for x in 0..w {
+        pixel(gradient, across, down, norm, g, alpha, y, x);
+    }
+}
+
+// All changes of row y: nothing where each norm is 0, pixel by pixel where many are, else kind by kind, one channel after another.
 fn spread_rows(
     gradient: &mut [f32],
     across: &[f32],
@@ -151,6 +198,10 @@ fn spread_rows(
     let n = g.n;
     let w = g.w;
     if !rows::any(norm, w) {
+        return;
+    }
+    if rows::sparse(norm, w) {
+        pixels(gradient, across, down, norm, g, alpha, y);
         return;
     }
     for c in 0..n {

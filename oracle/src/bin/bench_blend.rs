@@ -47,13 +47,14 @@ fn compare(auxs: &[Aux], part: fn(&Aux) -> &[f32], ours: &[f32], what: &str) {
 fn bench(kind: usize, rounds: usize, r: &mut Random) {
     let planes: Vec<f32> = (0..3 * COUNT).map(|i| value(kind, i, r)).collect();
     let (mut rust, mut proved) = (vec![], vec![]);
+    let [mut gradient, mut across, mut down] = [0; 3].map(|_| vec![1f32; 3 * COUNT]);
     for _ in 0..rounds {
         let (mut auxs, mut published) = (auxs_of(&planes), [0.0; 2]);
         rust.push(cpu_of(|| {
             let first = tv_gradient(SIDE as u32, SIDE as u32, 3, &mut auxs);
             published = [first, tgv_gradient(SIDE as u32, SIDE as u32, 3, &mut auxs, WEIGHT / 2.0_f32.sqrt())];
         }));
-        let [mut gradient, mut across, mut down] = [0; 3].map(|_| vec![0f32; 3 * COUNT]);
+        [&mut gradient, &mut across, &mut down].map(|buffer| buffer.fill(0.0));
         let (n, side, mut totals) = (3 * COUNT, SIDE as u32, [0; 2]);
         proved.push(cpu_of(|| unsafe {
             let (g, a, d) = (gradient.as_mut_ptr(), across.as_mut_ptr(), down.as_mut_ptr());

@@ -2,12 +2,13 @@
 //!
 //!     planes [N [SEED]]       N sheets at random (64,000), and fixed ones
 //!     planes --faults         plants faults, one kind after another, and fails unless each is reported
-//!     planes --bench [N]      times `solve_cpu` and `smoother_solve` on 32 by 32, three channels, N iterations (1,000), in both modes
+//!     planes --bench [N]      the thread's processor time of `solve_cpu` and `smoother_solve`, best and median of N (5), three channels in both modes: 32 by
+//!                             32 with 1,000 iterations and 512 by 512 with 10
 //!
 //! A sheet is written as text, read by the proved reader, solved by its numbers, and finished. Some of what is lent is damaged first, in a length, a number,
 //! a quantiser or a level, or in two of these: the answer is then document 01's, and a refusal leaves all buffers as they were.
 use oracle::{
-    bench::best,
+    bench::{best_median, cpu_of},
     floats::{any, bits64, same},
     picture::{drawn, ended, nearest, solved},
     probe,
@@ -23,7 +24,7 @@ fn main() -> ExitCode {
     let number = |i: usize, default: u64| args.get(i).map_or(default, |a| a.parse().expect("a whole number"));
     match args.first().map(String::as_str) {
         Some("--faults") => faults(),
-        Some("--bench") => bench(number(1, 1000) as u32),
+        Some("--bench") => bench(number(1, 5) as usize),
         _ => {
             println!("seed {}", number(1, 1));
             let (tally, answers) = compare(number(0, 64_000), number(1, 1), "");
@@ -528,18 +529,23 @@ fn faults() -> ExitCode {
     u8::from(!missed.is_empty()).into()
 }
 
-fn bench(steps: u32) -> ExitCode {
+fn bench(rounds: usize) -> ExitCode {
     let mut r = Random::new(1);
-    for joint in [true, false] {
-        let sheet = full(&mut r, 32, joint, steps);
+    for (side, joint, steps) in [(32, true, 1000), (32, false, 1000), (512, true, 10), (512, false, 10)] {
+        let sheet = full(&mut r, side, joint, steps);
         let mut x = Lent::read(&mut r, &sheet.text(), Reader::Staff);
-        let rust = best(3, 1, || solved(&sheet)) / 1e9;
-        let proved = best(3, 1, || x.solve()) / 1e9;
-        assert!(equal(&x.six[0], &solved(&sheet).concat()), "the planes differ");
+        let (mut rust, mut proved, mut planes) = (vec![], vec![], vec![]);
+        for _ in 0..rounds {
+            rust.push(cpu_of(|| planes = solved(&sheet).concat()));
+            proved.push(cpu_of(|| assert_eq!(x.solve(), 0)));
+            assert!(equal(&x.six[0], &planes), "the planes differ");
+        }
+        let ((p, p_median), (q, q_median)) = (best_median(rust), best_median(proved));
         let mode = if joint { "joint" } else { "separate" };
         println!(
-            "{mode}: published {rust:.2} s, proved {proved:.2} s, ratio {:.1}; the planes are equal",
-            proved / rust
+            "{side} by {side}, {steps} steps, {mode}: published {p:.3} s (median {p_median:.3}), proved {q:.3} s (median {q_median:.3}), ratio {:.2} (of the medians {:.2})",
+            q / p,
+            q_median / p_median
         );
     }
     ExitCode::SUCCESS

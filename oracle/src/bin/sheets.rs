@@ -5,9 +5,9 @@
 //!     sheets --compare [N [SEED]]         the proved reader beside the oracle's, on N texts at each of the limits 32 and 512
 //!     sheets --faults                     plants wrong answers, one kind after another, and fails unless each is reported
 //!     sheets --list N SEED                lines for replay: the fixed texts and N at random that are not long
-//!     sheets --bench [ROUNDS]             times both readers on a sheet of 512 by 512 with three channels
+//!     sheets --bench [ROUNDS]             the thread's processor time of both readers on a sheet of 512 by 512 with three channels, best and median
 use oracle::{
-    bench::best,
+    bench::{best_median, cpu_of},
     probe,
     random::Random,
     sheet::{
@@ -502,12 +502,21 @@ fn bench(rounds: usize) {
     };
     let text = sheet.text();
     assert_eq!(read(&text, MOST).as_ref(), Ok(&sheet));
-    let time = best(rounds, 1, || read(&text, MOST));
-    let each = |time: f64| format!("{:.2} ms, {:.2} ns a byte", time / 1e6, time / text.len() as f64);
-    println!("{} bytes read in {} by the oracle", text.len(), each(time));
-    let ([mut lows, mut highs], mut tables) = ([0; 2].map(|_| vec![0i16; 3 * 512 * 512]), vec![0u16; 192]);
+    let ([mut lows, mut highs], mut tables) = ([0; 2].map(|_| vec![1i16; 3 * 512 * 512]), vec![0u16; 192]);
     let (mut header, mut line) = ([0u32; probe::NUMBERS], 0);
-    let time =
-        best(rounds, 1, || probe::read(&text, MOST, STAFF, &mut lows, &mut highs, &mut tables, &mut header, &mut line));
-    println!("{} by the proved reader", each(time));
+    let (mut rust, mut proved) = (vec![], vec![]);
+    for _ in 0..rounds {
+        let mut answer = None;
+        rust.push(cpu_of(|| answer = read(&text, MOST).ok()));
+        proved.push(cpu_of(|| {
+            assert_eq!(probe::read(&text, MOST, STAFF, &mut lows, &mut highs, &mut tables, &mut header, &mut line), 0);
+        }));
+        assert_eq!(answer.as_ref(), Some(&sheet));
+    }
+    let ((p, p_median), (q, q_median)) = (best_median(rust), best_median(proved));
+    let each = |time: f64, median: f64| {
+        format!("{:.2} ms (median {:.2}), {:.2} ns a byte", time * 1e3, median * 1e3, time * 1e9 / text.len() as f64)
+    };
+    println!("{} bytes read in {} by the oracle", text.len(), each(p, p_median));
+    println!("{} by the proved reader, ratio {:.2} (of the medians {:.2})", each(q, q_median), q / p, q_median / p_median);
 }
