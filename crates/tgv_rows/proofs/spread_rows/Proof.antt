@@ -27,6 +27,10 @@ returns c =
     kinds-idle (a .g .w) (a .g .h) (a .alpha) (λ x. val (a .norm .now) x) (rowIn (a .g .w) (a .xx .now)) (rowIn (a .g .w) (a .xy .now)) (rowIn (a .g .w) (a .yy .now)) (a .y) (a .g .n) (a .gradient .now)
     (c .before .any .ensures (not-true (c .before .any .result) (c .if1 .taken)))
 
+-- pixel by pixel
+returns-2 : tie.Need-returns-2 Inv-loop μ-loop
+returns-2 c = c .before .before .pixels .ensures
+
 loop-holds : tie.Need-loop-holds Inv-loop μ-loop
 unfolding upto
 loop-holds c = search needs
@@ -34,10 +38,10 @@ loop-holds c = search needs
 loop-again : tie.Need-loop-again Inv-loop μ-loop
 loop-again c = (search needs, search needs, search needs, upto-call _ _ _ (c .before .before .before .before .before .before .before .before .loop .inv .3) (c .before .before .before .before .channel-row .ensures))
 
-returns-2 : tie.Need-returns-2 Inv-loop μ-loop
-returns-2 c = upto-end _ _ _ _ (c .before .loop .inv .3) (omega arith)
+returns-3 : tie.Need-returns-3 Inv-loop μ-loop
+returns-3 c = upto-end _ _ _ _ (c .before .loop .inv .3) (omega arith)
 
 pub spread-rows-spec : {M : Type 1} → statement M
 spread-rows-spec =
     tie.close
-    (tie.spec Inv-loop μ-loop (λ c κs. search needs) returns loop-holds (λ c κs. search needs) (λ c. search needs) (λ c. search needs) loop-again (λ c. search needs) (λ c. search needs) returns-2)
+    (tie.spec Inv-loop μ-loop (λ c κs. search needs) returns (λ c κs. search needs) (λ c κs. search needs) (λ c. search needs) returns-2 loop-holds (λ c κs. search needs) (λ c. search needs) (λ c. search needs) loop-again (λ c. search needs) (λ c. search needs) returns-3)
