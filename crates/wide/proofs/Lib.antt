@@ -7,3 +7,4 @@ pub mod Tidied
 pub mod Widen
 pub mod Near
 pub mod Zero
+pub mod One
