@@ -2,3 +2,4 @@
 pub mod Pass
 pub mod Laws
 pub mod Examples
+pub mod Marks

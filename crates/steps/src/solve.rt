@@ -1,6 +1,6 @@
 // scalar/mod.rs, `solve`: the constants of a step, and push.
 ghost use mathlib.Core.Path.{_≡_};
-ghost use Prim.Native.Nat.{_+_, _*_, _≤_};
+ghost use Prim.Native.Nat.{_+_, _*_, _<_, _≤_};
 ghost use lib.ListN.{length};
 ghost use Rattle.float.specs.Ops.{root};
 ghost use Rattle.float.specs.Names.{float};
@@ -24,12 +24,45 @@ fn next_term(term: f32) -> f32
     )
 }
 
-// The term of a step, counted from 0: as many turns as the step has steps before it.
+// The terms of the steps 0, 64, 128, .., 960.
+const MARKS: [f32; 16] = [
+    1.0,
+    33.87721,
+    66.0441,
+    98.14314,
+    130.2138,
+    162.2688,
+    194.31383,
+    226.35197,
+    258.38504,
+    290.41415,
+    322.4403,
+    354.46405,
+    386.48566,
+    418.50552,
+    450.52393,
+    482.54123,
+];
+
+// The last of these steps that isn't after `step`, in 64s.
+fn mark_before(step: u32) -> usize
+    ensures { λ r. ⌜ (r < 16) × (64 * r ≤ step) ⌝ }
+{
+    let k = step / 64;
+    if 15 < k {
+        return 15;
+    }
+    k as usize
+}
+
+// The term of a step, counted from 0: from the last mark on, as many turns as steps are left.
 fn term_of(step: u32) -> f32
     ensures { λ r. ⌜ r ≡ termOf step ⌝ }
 {
-    let mut term = 1.0f32;
-    for k in 0..step {
+    let k = mark_before(step);
+    let from = (64 * k) as u32;
+    let mut term = MARKS[k];
+    for i in from..step {
         term = next_term(term);
     }
     term
