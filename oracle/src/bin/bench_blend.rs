@@ -54,7 +54,9 @@ fn bench(kind: usize, rounds: usize, r: &mut Random) {
             let first = tv_gradient(SIDE as u32, SIDE as u32, 3, &mut auxs);
             published = [first, tgv_gradient(SIDE as u32, SIDE as u32, 3, &mut auxs, WEIGHT / 2.0_f32.sqrt())];
         }));
-        [&mut gradient, &mut across, &mut down].map(|buffer| buffer.fill(0.0));
+        for buffer in [&mut gradient, &mut across, &mut down] {
+            buffer.fill(0.0);
+        }
         let (n, side, mut totals) = (3 * COUNT, SIDE as u32, [0; 2]);
         proved.push(cpu_of(|| unsafe {
             let (g, a, d) = (gradient.as_mut_ptr(), across.as_mut_ptr(), down.as_mut_ptr());
