@@ -88,10 +88,10 @@ pub fn any(norm: &[f32], w: usize) -> bool
 }
 
 // 1 for a norm that is 0.
-fn idle(n: f32) -> usize
+fn idle(m: f32) -> usize
     ensures { λ r. ⌜ r ≤ 1 ⌝ }
 {
-    if n == 0.0 { 1 } else { 0 }
+    if m == 0.0 { 1 } else { 0 }
 }
 
 // Whether more than 1 in 16 of w norms are 0: then the changes are quicker pixel by pixel than kind by kind. Nothing is said of the answer, since both ways change the same.
