@@ -518,5 +518,10 @@ fn bench(rounds: usize) {
         format!("{:.2} ms (median {:.2}), {:.2} ns a byte", time * 1e3, median * 1e3, time * 1e9 / text.len() as f64)
     };
     println!("{} bytes read in {} by the oracle", text.len(), each(p, p_median));
-    println!("{} by the proved reader, ratio {:.2} (of the medians {:.2})", each(q, q_median), q / p, q_median / p_median);
+    println!(
+        "{} by the proved reader, ratio {:.2} (of the medians {:.2})",
+        each(q, q_median),
+        q / p,
+        q_median / p_median
+    );
 }
