@@ -29,13 +29,13 @@ use Rattle.contents.specs.declared.Header.{Header}
 use Rattle.contents.specs.declared.Sheet.{Sheet}
 use Rattle.contents.specs.Sheets.{lent, Held, held}
 use Rattle.contents.specs.Legal.{LegalLevel, LegalLevels, LegalRanges, LegalKinds}
-use Rattle.sheet.specs.declared.line.Record.the-variants as line
-use Rattle.sheet.specs.Lines.{blockRules, pairRules, rangeRules, rulesOf, orElse, firstFault, lineAdds, holding, recordOf}
+use Rattle.lines.specs.declared.Record.the-variants as line
+use Rattle.lines.specs.Lines.{blockRules, pairRules, rangeRules, rulesOf, orElse, firstFault, lineAdds, holding, recordOf}
 use Rattle.grammar.specs.Written.{pairTexts, blockFields}
 use Rattle.grammar.specs.Longest.{blockSizes}
-use Rattle.sheet.proofs.StateLaws.{BlockTag}
-use Rattle.sheet.proofs.StateLaws.BlockTag.{B-tag, G-tag}
-use Rattle.sheet.proofs.GoodLines.{or-left, or-right, fault-at, fault-drop, lows-skip, highs-skip, tables-without, tables-skip, field-at, row-as}
+use Rattle.progress.proofs.StateLaws.{BlockTag}
+use Rattle.progress.proofs.StateLaws.BlockTag.{B-tag, G-tag}
+use Rattle.lines.proofs.GoodLines.{or-left, or-right, fault-at, fault-drop, lows-skip, highs-skip, tables-without, tables-skip, field-at, row-as}
 
 -- a legal block
 pub record Block (r : Bool) (ls hs : List ℤ) : Type 0 where

@@ -9,12 +9,13 @@ use lib.ListN.{length}
 use Rattle.text.specs.Pieces.{split}
 use Rattle.text.proofs.PieceLaws.{split-length}
 use Rattle.contents.specs.declared.Limits.{Limits}
-use Rattle.sheet.specs.declared.state.State.{State}
-use Rattle.sheet.specs.declared.state.Taken.{Taken}
-use Rattle.sheet.specs.declared.state.Taken.the-variants as taken
-use Rattle.sheet.specs.Lines.{rulesOf, holding, recordOf}
+use Rattle.progress.specs.declared.State.{State}
+use Rattle.progress.specs.declared.Taken.{Taken}
+use Rattle.progress.specs.declared.Taken.the-variants as taken
+use Rattle.lines.specs.Lines.{rulesOf, holding, recordOf}
 use Rattle.contents.specs.Sheets.{Held, nothing}
-use Rattle.sheet.specs.Reading.{Outcome, Contents, contents, blank, lineTag, takenOf, lineFault, nothingLeft, onFault, onTaken, readFrom, allowed, readText}
+use Rattle.progress.specs.Progress.{blank, lineTag}
+use Rattle.sheet.specs.Reading.{Outcome, Contents, contents, takenOf, lineFault, nothingLeft, onFault, onTaken, readFrom, allowed, readText}
 use Rattle.sheet.specs.Reading.Outcome.{Gives, Refused}
 
 -- the line of a refusal is at most m

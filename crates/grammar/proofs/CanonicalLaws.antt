@@ -25,19 +25,20 @@ use Rattle.contents.specs.declared.Header.{Header}
 use Rattle.contents.specs.declared.Channel.{Channel}
 use Rattle.contents.specs.declared.Settings.{Settings}
 use Rattle.contents.specs.declared.Sheet.{Sheet}
-use Rattle.sheet.specs.declared.state.State.{State}
-use Rattle.sheet.specs.declared.state.Taken.the-variants as taken
-use Rattle.sheet.specs.Lines.{headerRules, channelRules, endRules, rulesOf, firstFault, lineAdds, headerOf, channelOf, recordOf}
+use Rattle.progress.specs.declared.State.{State}
+use Rattle.progress.specs.declared.Taken.the-variants as taken
+use Rattle.lines.specs.Lines.{headerRules, channelRules, endRules, rulesOf, firstFault, lineAdds, headerOf, channelOf, recordOf}
 use Rattle.contents.specs.Marks.{blockOf}
 use Rattle.contents.specs.Sheets.{Lent, lent, Marked, marked, Held, held, nothing, channelsOf}
-use Rattle.sheet.specs.Reading.{Contents, contents, headed, blank, lastSaid, lineTag, withSetting, settled, placed, opened, covers, takenIf, takenOf, nothingLeft, onTaken, readFrom, allowed, readText}
+use Rattle.progress.specs.Progress.{headed, blank, lastSaid, lineTag, withSetting, settled, placed, opened, covers, takenIf}
+use Rattle.sheet.specs.Reading.{Contents, contents, takenOf, nothingLeft, onTaken, readFrom, allowed, readText}
 use Rattle.sheet.specs.Reading.Outcome.{Gives, Refused}
 use Rattle.grammar.specs.Written.{headerFields, channelFields, blockFields, endFields, settingLines, blockLines, dropHeld, channelLines, markLines, written}
 use Rattle.grammar.specs.Accepts.{Accepts}
 use Rattle.grammar.specs.Equal.{EqualPairs}
-use Rattle.sheet.proofs.StateLaws.{SettingTag, BlockTag, Stands, stands, unbegun, first-tag}
-use Rattle.sheet.proofs.StateLaws.Stands.{Header-line, Setting-line, Block-line, Channel-line, End-line, Mark-line}
-use Rattle.sheet.proofs.GoodLines.{or-left, or-right, fault-at, fault-drop, holds-none, withTable, holds-table, all-quantisers, field-at, no-more, row-as}
+use Rattle.progress.proofs.StateLaws.{SettingTag, BlockTag, Stands, stands, unbegun, first-tag}
+use Rattle.progress.proofs.StateLaws.Stands.{Header-line, Setting-line, Block-line, Channel-line, End-line, Mark-line}
+use Rattle.lines.proofs.GoodLines.{or-left, or-right, fault-at, fault-drop, holds-none, withTable, holds-table, all-quantisers, field-at, no-more, row-as}
 use Rattle.grammar.proofs.SettingLaws.{placeOf, Agree, linesAfter, now-said, none-after, one-line, one-kept}
 use Rattle.grammar.proofs.BlockLaws.{withBlock}
 use Rattle.grammar.proofs.MarkLaws.{withMark}

@@ -20,9 +20,10 @@ use Rattle.contents.specs.declared.Limits.{Limits}
 use Rattle.contents.specs.declared.Sheet.{Sheet}
 use Rattle.contents.specs.Hold.{measured}
 use Rattle.contents.specs.Marks.{blockOf, hasBlock}
-use Rattle.sheet.specs.Lines.{rulesOf, fieldsFault, headerOf, channelOf, holdOf, markOf, recordOf}
+use Rattle.lines.specs.Lines.{rulesOf, fieldsFault, headerOf, channelOf, holdOf, markOf, recordOf}
 use Rattle.contents.specs.Sheets.{lent, held, noSettings, noChannel}
-use Rattle.sheet.specs.Reading.{Outcome, Contents, contents, blank, lineTag, exists, takenIf, lineFault, readText}
+use Rattle.progress.specs.Progress.{blank, lineTag, exists, takenIf}
+use Rattle.sheet.specs.Reading.{Outcome, Contents, contents, lineFault, readText}
 use Rattle.sheet.specs.Calls.{Lengths, measuring, reading}
 use Rattle.sheet.specs.Reading.Outcome.{Gives, Refused}
 

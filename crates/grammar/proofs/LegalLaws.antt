@@ -27,19 +27,20 @@ use Rattle.contents.specs.declared.Limits.{Limits}
 use Rattle.contents.specs.declared.Header.{Header}
 use Rattle.contents.specs.declared.Channel.{Channel}
 use Rattle.contents.specs.declared.Sheet.{Sheet}
-use Rattle.sheet.specs.declared.line.Setting.{Setting}
-use Rattle.sheet.specs.declared.state.State.{State}
-use Rattle.sheet.specs.declared.state.Taken.the-variants as taken
-use Rattle.sheet.specs.Lines.{headerRules, channelRules, markRules, markOf, endRules, rulesOf, firstFault, fieldsFault, lineAdds, holding, headerOf, channelOf, recordOf}
+use Rattle.lines.specs.declared.Setting.{Setting}
+use Rattle.progress.specs.declared.State.{State}
+use Rattle.progress.specs.declared.Taken.the-variants as taken
+use Rattle.lines.specs.Lines.{headerRules, channelRules, markRules, markOf, endRules, rulesOf, firstFault, fieldsFault, lineAdds, holding, headerOf, channelOf, recordOf}
 use Rattle.contents.specs.declared.Mark.{Mark}
 use Rattle.contents.specs.Marks.{blockOf, among}
 use Rattle.contents.specs.Sheets.{Marked, marked, Held, nothing, noChannel, channelAt, levelsTo}
-use Rattle.sheet.specs.Reading.{Outcome, Contents, contents, headed, blank, lastSaid, mayStand, lineTag, withSetting, settled, placed, opened, covers, exists, takenIf, takenOf, isLast, lineFault, nothingLeft, onFault, onTaken, readFrom, allowed, readText}
+use Rattle.progress.specs.Progress.{headed, blank, lastSaid, mayStand, lineTag, withSetting, settled, placed, opened, covers, exists, takenIf}
+use Rattle.sheet.specs.Reading.{Outcome, Contents, contents, takenOf, isLast, lineFault, nothingLeft, onFault, onTaken, readFrom, allowed, readText}
 use Rattle.sheet.specs.Reading.Outcome.{Gives, Refused}
 use Rattle.grammar.specs.Written.{settingLine, blockFields, markFields}
-use Rattle.sheet.proofs.StateLaws.{SettingTag, BlockTag, Stands, stands, unbegun, first-tag}
-use Rattle.sheet.proofs.StateLaws.Stands.{Header-line, Setting-line, Block-line, Channel-line, End-line, Mark-line}
-use Rattle.sheet.proofs.GoodLines.{fault-at, fault-drop, holds-none, withTable, holds-table, all-quantisers, row-as}
+use Rattle.progress.proofs.StateLaws.{SettingTag, BlockTag, Stands, stands, unbegun, first-tag}
+use Rattle.progress.proofs.StateLaws.Stands.{Header-line, Setting-line, Block-line, Channel-line, End-line, Mark-line}
+use Rattle.lines.proofs.GoodLines.{fault-at, fault-drop, holds-none, withTable, holds-table, all-quantisers, row-as}
 use Rattle.grammar.proofs.SettingLaws.{placeOf, LegalSetting, with-legal, Said, said-line, no-end}
 use Rattle.grammar.proofs.MarkLaws.{withMark, mark-as, holds-mark, exists-has, more-marks}
 use Rattle.grammar.proofs.BlockLaws.{Block, withBlock, BlockSaid, said-block, block-no-end, block-record, more-levels, more-ranges, more-kinds}

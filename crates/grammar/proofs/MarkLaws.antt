@@ -27,12 +27,12 @@ use Rattle.contents.specs.declared.Sheet.{Sheet}
 use Rattle.contents.specs.Sheets.{Lent, Marked, marked, Held, held, channelAt}
 use Rattle.contents.specs.Marks.{blocksIn, blocksBefore, allBlocks, blockOf, hasBlock, among}
 use Rattle.contents.specs.Legal.{LegalChannel, LegalSheet, LegalMark, LegalMarks}
-use Rattle.sheet.specs.Lines.{markRules, markOf, firstFault, holding}
-use Rattle.sheet.specs.Reading.{placed, mostBlocks, exists}
+use Rattle.lines.specs.Lines.{markRules, markOf, firstFault, holding}
+use Rattle.progress.specs.Progress.{placed, mostBlocks, exists}
 use Rattle.grammar.specs.Written.{markFields}
 use Rattle.grammar.specs.Longest.{markSizes}
 use Rattle.sheet.proofs.WalkLaws.{among-more}
-use Rattle.sheet.proofs.GoodLines.{fault-at, field-at, no-more, row-as, lows-without, highs-without, tables-without}
+use Rattle.lines.proofs.GoodLines.{fault-at, field-at, no-more, row-as, lows-without, highs-without, tables-without}
 use Rattle.grammar.proofs.RowLaws.{SmallMark}
 
 -- what is held, and a mark more

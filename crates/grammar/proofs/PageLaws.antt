@@ -22,20 +22,21 @@ use Rattle.contents.specs.declared.Limits.{Limits}
 use Rattle.contents.specs.Legal.{Between}
 use Rattle.contents.specs.Sheets.{Marked, Held, nothing}
 use Rattle.contents.specs.Marks.{blockOf, among}
-use Rattle.sheet.specs.declared.line.Record.{Record}
-use Rattle.sheet.specs.declared.line.Record.the-variants as line
-use Rattle.sheet.specs.declared.state.State.{State}
-use Rattle.sheet.specs.declared.state.Taken.{Taken}
-use Rattle.sheet.specs.declared.state.Taken.the-variants as taken
-use Rattle.sheet.specs.Lines.{mode, headerRules, rulesOf, orElse, firstFault, fieldsFault, holding, headerOf, recordOf}
-use Rattle.sheet.specs.Reading.{Outcome, Contents, contents, headed, blank, lineTag, opened, covers, exists, takenIf, takenOf, isLast, lineFault, nothingLeft, onFault, onTaken, readFrom, allowed, readText}
+use Rattle.lines.specs.declared.Record.{Record}
+use Rattle.lines.specs.declared.Record.the-variants as line
+use Rattle.progress.specs.declared.State.{State}
+use Rattle.progress.specs.declared.Taken.{Taken}
+use Rattle.progress.specs.declared.Taken.the-variants as taken
+use Rattle.lines.specs.Lines.{mode, headerRules, rulesOf, orElse, firstFault, fieldsFault, holding, headerOf, recordOf}
+use Rattle.progress.specs.Progress.{headed, blank, lineTag, opened, covers, exists, takenIf}
+use Rattle.sheet.specs.Reading.{Outcome, Contents, contents, takenOf, isLast, lineFault, nothingLeft, onFault, onTaken, readFrom, allowed, readText}
 use Rattle.sheet.specs.Reading.Outcome.{Gives, Refused}
 use Rattle.grammar.specs.Page.{BothCallers, raisedTo, Raised}
-use Rattle.sheet.proofs.StateLaws.{Stands, stands, unbegun, first-tag}
-use Rattle.sheet.proofs.StateLaws.Stands.{Header-line, Setting-line, Block-line, Channel-line, End-line, Mark-line}
-use Rattle.sheet.proofs.StateLaws.SettingTag.{F-tag, A-tag, H-tag}
-use Rattle.sheet.proofs.StateLaws.BlockTag.{B-tag, G-tag}
-use Rattle.sheet.proofs.GoodLines.{holds-none}
+use Rattle.progress.proofs.StateLaws.{Stands, stands, unbegun, first-tag}
+use Rattle.progress.proofs.StateLaws.Stands.{Header-line, Setting-line, Block-line, Channel-line, End-line, Mark-line}
+use Rattle.progress.proofs.StateLaws.SettingTag.{F-tag, A-tag, H-tag}
+use Rattle.progress.proofs.StateLaws.BlockTag.{B-tag, G-tag}
+use Rattle.lines.proofs.GoodLines.{holds-none}
 use Rattle.grammar.proofs.LegalLaws.{line-is, refusal}
 
 -- After the header

@@ -28,25 +28,26 @@ use Rattle.contents.specs.Legal.{LegalLimits}
 use Rattle.contents.specs.Hold.{measured}
 use Rattle.contents.proofs.HoldLaws.{measured-most}
 use Rattle.contents.specs.declared.Settings.{Settings}
-use Rattle.sheet.specs.declared.state.State.{State}
-use Rattle.sheet.specs.declared.state.Taken.{Taken}
-use Rattle.sheet.specs.declared.state.Taken.the-variants as taken
-use Rattle.sheet.specs.Lines.{headerRules, channelRules, markRules, markOf, marksIn, rulesOf, firstFault, fieldsFault, holding, headerOf, channelOf, recordOf}
+use Rattle.progress.specs.declared.State.{State}
+use Rattle.progress.specs.declared.Taken.{Taken}
+use Rattle.progress.specs.declared.Taken.the-variants as taken
+use Rattle.lines.specs.Lines.{headerRules, channelRules, markRules, markOf, marksIn, rulesOf, firstFault, fieldsFault, holding, headerOf, channelOf, recordOf}
 use Rattle.contents.specs.declared.Channel.{Channel}
 use Rattle.contents.specs.declared.Mark.{Mark}
 use Rattle.contents.specs.Marks.{allBlocks, blockOf, among}
 use Rattle.contents.specs.Sheets.{Marked, marked, Held, nothing}
-use Rattle.sheet.specs.Reading.{Outcome, Contents, contents, headed, blank, lastSaid, mayStand, lineTag, opened, covers, exists, takenIf, takenOf, isLast, lineFault, nothingLeft, onFault, onTaken, readFrom, allowed, readText}
+use Rattle.progress.specs.Progress.{headed, blank, lastSaid, mayStand, lineTag, opened, covers, exists, takenIf}
+use Rattle.sheet.specs.Reading.{Outcome, Contents, contents, takenOf, isLast, lineFault, nothingLeft, onFault, onTaken, readFrom, allowed, readText}
 use Rattle.sheet.specs.Reading.Outcome.{Gives, Refused}
 use Rattle.grammar.specs.Longest.{headerSizes, channelSizes, blockSizes, markSizes, channelBytes, longest, decisive}
-use Rattle.sheet.proofs.StateLaws.{SettingTag, BlockTag, Stands, stands, unbegun, first-tag}
-use Rattle.sheet.proofs.StateLaws.Stands.{Header-line, Setting-line, Block-line, Channel-line, End-line, Mark-line}
-use Rattle.sheet.proofs.StateLaws.SettingTag.{F-tag, A-tag, H-tag}
-use Rattle.sheet.proofs.StateLaws.BlockTag.{B-tag, G-tag}
+use Rattle.progress.proofs.StateLaws.{SettingTag, BlockTag, Stands, stands, unbegun, first-tag}
+use Rattle.progress.proofs.StateLaws.Stands.{Header-line, Setting-line, Block-line, Channel-line, End-line, Mark-line}
+use Rattle.progress.proofs.StateLaws.SettingTag.{F-tag, A-tag, H-tag}
+use Rattle.progress.proofs.StateLaws.BlockTag.{B-tag, G-tag}
 use Rattle.grammar.specs.Written.{markFields}
 use Rattle.grammar.proofs.MarkLaws.{mark-as, exists-has, place-of, unmarked, unmarked-most, unmarked-less, block-below, placed-blocks, mark-bytes}
 use Rattle.sheet.proofs.WalkLaws.{line-long, split-head, not-last, some-after}
-use Rattle.sheet.proofs.GoodLines.{or-left, or-right, fault-at, fault-drop, row-as}
+use Rattle.lines.proofs.GoodLines.{or-left, or-right, fault-at, fault-drop, row-as}
 use Rattle.grammar.proofs.SettingLaws.{placeOf, settingsLeft, said-line, now-said, setting-spent}
 use Rattle.grammar.proofs.BlockLaws.{said-block, block-record, block-bytes}
 use Rattle.grammar.proofs.LegalLaws.{header-is-legal, allowed-is, channel-is-legal, few, fields-count, line-fields, line-is, refusal, withSet, lessBlock}

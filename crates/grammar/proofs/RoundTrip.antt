@@ -27,19 +27,20 @@ use Rattle.contents.specs.declared.Header.{Header}
 use Rattle.contents.specs.declared.Channel.{Channel}
 use Rattle.contents.specs.declared.Settings.{Settings}
 use Rattle.contents.specs.declared.Sheet.{Sheet}
-use Rattle.sheet.specs.declared.line.Setting.{Setting}
-use Rattle.sheet.specs.declared.line.Setting.the-variants as setting
-use Rattle.sheet.specs.declared.state.State.{State}
-use Rattle.sheet.specs.declared.state.Taken.the-variants as taken
-use Rattle.sheet.specs.Lines.{headerRules, roundingRules, startRules, holdRules, markOf, rulesOf, fieldCount, firstFault, holding, channelOf, recordOf}
+use Rattle.lines.specs.declared.Setting.{Setting}
+use Rattle.lines.specs.declared.Setting.the-variants as setting
+use Rattle.progress.specs.declared.State.{State}
+use Rattle.progress.specs.declared.Taken.the-variants as taken
+use Rattle.lines.specs.Lines.{headerRules, roundingRules, startRules, holdRules, markOf, rulesOf, fieldCount, firstFault, holding, channelOf, recordOf}
 use Rattle.contents.specs.declared.Mark.{Mark}
 use Rattle.contents.specs.Marks.{blockOf, hasBlock, among}
 use Rattle.contents.specs.Sheets.{Lent, lent, Marked, marked, Held, held, nothing, levelsTo, channelsOf}
-use Rattle.sheet.specs.Reading.{contents, headed, blank, lastSaid, lineTag, withSetting, settled, placed, covers, mostBlocks, exists, takenIf, takenOf, isLast, readFrom, allowed, readText}
+use Rattle.progress.specs.Progress.{headed, blank, lastSaid, lineTag, withSetting, settled, placed, covers, mostBlocks, exists, takenIf}
+use Rattle.sheet.specs.Reading.{contents, takenOf, isLast, readFrom, allowed, readText}
 use Rattle.sheet.specs.Reading.Outcome.{Refused}
 use Rattle.grammar.specs.Written.{headerFields, holdFields, channelFields, blockFields, endFields, settingLine, settingLines, blockLines, dropHeld, channelLines, markFields, markLines, written}
 use Rattle.sheet.proofs.WalkLaws.{line-next, line-end}
-use Rattle.sheet.proofs.GoodLines.{holds-none, withTable, holds-table}
+use Rattle.lines.proofs.GoodLines.{holds-none, withTable, holds-table}
 use Rattle.grammar.proofs.SettingLaws.{placeOf, LegalSetting, hold-within, unset}
 use Rattle.grammar.proofs.MarkLaws.{withMark, holds-mark, place-of, few-marks}
 use Rattle.grammar.proofs.BlockLaws.{Block, withBlock, block-first, drop-levels, drop-ranges, kinds-take, kinds-drop}

@@ -35,9 +35,9 @@ use Rattle.contents.specs.declared.Channel.{Channel}
 use Rattle.contents.specs.declared.Mark.{Mark}
 use Rattle.contents.specs.declared.Sheet.{Sheet}
 use Rattle.contents.specs.Sheets.{Held}
-use Rattle.sheet.specs.Lines.{count, mode, headerRules, holdRules, holdOf, markRules, markOf, channelRules, blockRules, pairRules, rangeRules, fieldCount, firstFault, lineAdds, holding, headerOf, channelOf}
+use Rattle.lines.specs.Lines.{count, mode, headerRules, holdRules, holdOf, markRules, markOf, channelRules, blockRules, pairRules, rangeRules, fieldCount, firstFault, lineAdds, holding, headerOf, channelOf}
 use Rattle.grammar.specs.Written.{headerFields, holdFields, markFields, channelFields, pairTexts, blockFields, endFields}
-use Rattle.sheet.proofs.GoodLines.{lows-skip, highs-skip, tables-skip}
+use Rattle.lines.proofs.GoodLines.{lows-skip, highs-skip, tables-skip}
 use Rattle.grammar.proofs.BlockLaws.{Block, withBlock, block-bytes}
 
 -- Good fields

@@ -28,17 +28,17 @@ use Rattle.contents.specs.declared.Header.{Header}
 use Rattle.contents.specs.declared.Settings.{Settings}
 use Rattle.contents.specs.declared.Sheet.{Sheet}
 use Rattle.contents.specs.Sheets.{Held}
-use Rattle.sheet.specs.declared.line.Setting.{Setting}
-use Rattle.sheet.specs.declared.line.Setting.the-variants as setting
-use Rattle.sheet.specs.declared.line.Record.{Record}
-use Rattle.sheet.specs.declared.line.Record.the-variants as line
-use Rattle.sheet.specs.Lines.{choiceRules, roundingRules, startRules, holdRules, rulesOf, firstFault, holding, choiceOf, holdOf, recordOf}
-use Rattle.sheet.specs.Reading.{unsaid, noHold, lastSaid, withSetting}
+use Rattle.lines.specs.declared.Setting.{Setting}
+use Rattle.lines.specs.declared.Setting.the-variants as setting
+use Rattle.lines.specs.declared.Record.{Record}
+use Rattle.lines.specs.declared.Record.the-variants as line
+use Rattle.lines.specs.Lines.{choiceRules, roundingRules, startRules, holdRules, rulesOf, firstFault, holding, choiceOf, holdOf, recordOf}
+use Rattle.progress.specs.Progress.{unsaid, noHold, lastSaid, withSetting}
 use Rattle.grammar.specs.Written.{choiceLines, holdFields, holdLines, settingLine, settingLines}
 use Rattle.grammar.specs.Longest.{choiceSizes, holdSizes, settingsBytes}
-use Rattle.sheet.proofs.StateLaws.{SettingTag}
-use Rattle.sheet.proofs.StateLaws.SettingTag.{F-tag, A-tag, H-tag}
-use Rattle.sheet.proofs.GoodLines.{fault-at, holds-none, field-at, no-more, row-as}
+use Rattle.progress.proofs.StateLaws.{SettingTag}
+use Rattle.progress.proofs.StateLaws.SettingTag.{F-tag, A-tag, H-tag}
+use Rattle.lines.proofs.GoodLines.{fault-at, holds-none, field-at, no-more, row-as}
 
 -- a setting's place in the order
 abbrev pub placeOf : Setting → ℕ

@@ -16,8 +16,8 @@ use Rattle.contents.specs.declared.Channel.{Channel}
 use Rattle.contents.specs.declared.Mark.{Mark}
 use Rattle.contents.specs.declared.Sheet.{Sheet}
 use Rattle.contents.specs.Sheets.{lent, Marked, Held, held, channelsOf}
-use Rattle.sheet.specs.declared.line.Setting.{Setting}
-use Rattle.sheet.specs.declared.line.Setting.the-variants as setting
+use Rattle.lines.specs.declared.Setting.{Setting}
+use Rattle.lines.specs.declared.Setting.the-variants as setting
 
 -- The fields of each line
 abbrev pub headerFields : Header → List (List ℕ)

@@ -26,9 +26,10 @@ use Rattle.text.specs.Levels.{levelOf}
 use Rattle.text.specs.Fields.{fieldOf}
 use Rattle.digits.specs.Written.{decimal}
 use Rattle.contents.specs.declared.Sheet.{Sheet}
-use Rattle.sheet.specs.Lines.{rulesOf, fieldsFault, headerOf, channelOf, recordOf}
+use Rattle.lines.specs.Lines.{rulesOf, fieldsFault, headerOf, channelOf, recordOf}
 use Rattle.contents.specs.Sheets.{lent, held, noChannel, noSettings}
-use Rattle.sheet.specs.Reading.{contents, blank, lineTag, takenIf, lineFault, readText}
+use Rattle.progress.specs.Progress.{blank, lineTag, takenIf}
+use Rattle.sheet.specs.Reading.{contents, lineFault, readText}
 use Rattle.rounds.specs.Whole.{runBlows, last, runOf}
 use Rattle.solve.specs.Solve.{joint, alone, separately, wholeOf, planes, blows, totalsOf, clippedAt}
 use Rattle.calls.specs.Buffers.{joined}

@@ -1,8 +1,4 @@
 -- Laws of the definitions.
-pub mod LineLaws
-pub mod StateLaws
-pub mod StoreLaws
+pub mod LimitLaws
 pub mod WalkLaws
 pub mod ReadLaws
-pub mod GoodLines
-pub mod HideLaws

@@ -23,7 +23,8 @@ use Rattle.contents.specs.Marks.{among, hidden, hide, seenBy}
 use Rattle.sheet.specs.Reading.{Outcome, Contents, readText}
 use Rattle.sheet.specs.Reading.Outcome.{Gives, Refused}
 use Rattle.sheet.specs.Calls.{measuredSays, answerSays, lengthsOf, fitted, reading, sheetIn, lentAfter, Reads}
-use Rattle.sheet.specs.Walk.{Bits, shownBy, shownTo, walkedOf, Stores, Maps, Walks}
+use Rattle.hiding.specs.Shown.{shownBy, shownTo}
+use Rattle.sheet.specs.Walk.{Bits, walkedOf, Stores, Maps, Walks}
 
 pub measured-sheet : (T : Outcome Contents) (w : Walked) (s : Sheet) (n h m : ℕ) → w ≡ walkedOf T → w ≡ walked.Sheet s n h m → measuredSays (measured.Lengths n m) ≡ lengthsOf T
 measured-sheet (Gives c) w s n h m e p = cc

@@ -30,22 +30,26 @@ use Rattle.contents.specs.declared.Header.{Header}
 use Rattle.contents.specs.declared.Channel.{Channel}
 use Rattle.contents.specs.declared.Mark.{Mark}
 use Rattle.contents.specs.declared.Sheet.{Sheet}
-use Rattle.sheet.specs.declared.line.Setting.{Setting}
-use Rattle.sheet.specs.declared.line.Setting.the-variants as setting
-use Rattle.sheet.specs.declared.line.Record.the-variants as line
-use Rattle.sheet.specs.declared.line.Record.{Record}
-use Rattle.sheet.specs.declared.state.State.{State}
-use Rattle.sheet.specs.declared.state.Taken.{Taken}
-use Rattle.sheet.specs.declared.state.Taken.the-variants as taken
+use Rattle.lines.specs.declared.Setting.{Setting}
+use Rattle.lines.specs.declared.Setting.the-variants as setting
+use Rattle.lines.specs.declared.Record.the-variants as line
+use Rattle.lines.specs.declared.Record.{Record}
+use Rattle.progress.specs.declared.State.{State}
+use Rattle.progress.specs.declared.Taken.{Taken}
+use Rattle.progress.specs.declared.Taken.the-variants as taken
 use Rattle.sheet.specs.declared.walk.Walked.the-variants as walked
-use Rattle.sheet.specs.Lines.{headerRules, roundingRules, startRules, holdRules, markRules, markOf, marksIn, channelRules, blockRules, rangeRules, endRules, rulesOf, fieldCount, firstFault, fieldsFault, lineAdds, holding, headerOf, channelOf, choiceOf, holdOf, recordOf}
+use Rattle.lines.specs.Lines.{headerRules, roundingRules, startRules, holdRules, markRules, markOf, marksIn, channelRules, blockRules, rangeRules, endRules, rulesOf, fieldCount, firstFault, fieldsFault, lineAdds, holding, headerOf, channelOf, choiceOf, holdOf, recordOf}
 use Rattle.contents.specs.Sheets.{Lent, lent, Marked, marked, Held, nothing}
 use Rattle.contents.specs.Marks.{blockOf, among}
-use Rattle.sheet.specs.Reading.{Outcome, Contents, contents, blank, lineTag, mostBlocks, exists, takenIf, takenOf, isLast, nothingLeft, onTaken, lineFault, readFrom, allowed, readText}
+use Rattle.progress.specs.Progress.{blank, lineTag, mostBlocks, exists, takenIf}
+use Rattle.sheet.specs.Reading.{Outcome, Contents, contents, takenOf, isLast, nothingLeft, onTaken, lineFault, readFrom, allowed, readText}
 use Rattle.sheet.specs.Reading.Outcome.{Refused}
-use Rattle.sheet.specs.Walk.{saidBefore, Stored, Bits, twiceIn, markedIn, Walks}
-use Rattle.sheet.proofs.StateLaws.{exists-within}
-use Rattle.sheet.proofs.GoodLines.{lows-without, highs-without, tables-without}
+use Rattle.lines.specs.Said.{saidBefore}
+use Rattle.progress.specs.Taking.{twiceIn, markedIn}
+use Rattle.storing.specs.Stored.{Stored}
+use Rattle.sheet.specs.Walk.{Bits, Walks}
+use Rattle.progress.proofs.StateLaws.{exists-within}
+use Rattle.lines.proofs.GoodLines.{lows-without, highs-without, tables-without}
 
 -- Stores one after the other
 

@@ -1,7 +1,4 @@
 // The sheet text: how long its buffers are, and what it says.
-mod hide;
-mod line;
-mod state;
 pub mod walk;
 
 use crate::walk::Walked;
@@ -97,8 +94,8 @@ pub fn read(
                     highs: _,
                     tables: _,
                 } => {
-                    hide::show(who, &bits, lows);
-                    hide::show(who, &bits, highs);
+                    hiding::show(who, &bits, lows);
+                    hiding::show(who, &bits, highs);
                     Answer::Sheet(sheet)
                 }
                 Walked::Refused { number, line } => Answer::Refused { number, line },

@@ -1,20 +1,16 @@
 // Reading line by line and field by field.
-use crate::line;
-use crate::state;
-use crate::state::Taken;
 use contents::Limits;
 use contents::Sheet;
+use progress::Taken;
 use text::field;
 use text::field::Field;
 use text::pieces;
 ghost use mathlib.Core.Path.{_≡_};
-ghost use mathlib.Core.List.{[], _∷_};
-ghost use Prim.Native.Nat.{_+_, _^_, _<_};
-ghost use Rattle.text.specs.Fields.{lowsIn, highsIn, tablesIn};
 ghost use Rattle.contents.specs.Sheets.{lent};
 ghost use lib.ListN.{replicate};
-ghost use Rattle.sheet.specs.Reading.{mostBlocks, allowed};
-ghost use Rattle.sheet.specs.Walk.{Stored, Walks};
+ghost use Rattle.progress.specs.Progress.{mostBlocks};
+ghost use Rattle.sheet.specs.Reading.{allowed};
+ghost use Rattle.sheet.specs.Walk.{Walks};
 
 // What a walk of a text gives: the sheet with how many lows, highs and quantisers it has, or a refusal and its line.
 pub enum Walked {
@@ -46,57 +42,6 @@ fn are_allowed(limits: Limits) -> bool
     limits.iterations <= 1000
 }
 
-// A level goes to its place, if there is room. Returns the next place.
-fn put(v: i16, levels: &mut [i16], at: usize) -> usize
-    requires { ⌜ at + 1 < 2 ^ 64 ⌝ }
-    ensures { λ r. ⌜ Stored (now (levels .entry)) (now (levels .exit)) at r (v ∷ []) ⌝ }
-{
-    if levels.len() <= at {
-        return at + 1;
-    }
-    levels[at] = v;
-    at + 1
-}
-
-// A level, and the lowest of a range, goes to the lows.
-fn put_low(f: Field, lows: &mut [i16], at: usize) -> usize
-    requires { ⌜ at + 1 < 2 ^ 64 ⌝ }
-    ensures { λ r. ⌜ Stored (now (lows .entry)) (now (lows .exit)) at r (lowsIn f) ⌝ }
-{
-    match f {
-        Field::Level(v) => put(v, lows, at),
-        Field::Low(v) => put(v, lows, at),
-        _ => at,
-    }
-}
-
-// A level, and the highest of a range, goes to the highs.
-fn put_high(f: Field, highs: &mut [i16], at: usize) -> usize
-    requires { ⌜ at + 1 < 2 ^ 64 ⌝ }
-    ensures { λ r. ⌜ Stored (now (highs .entry)) (now (highs .exit)) at r (highsIn f) ⌝ }
-{
-    match f {
-        Field::Level(v) => put(v, highs, at),
-        Field::High(v) => put(v, highs, at),
-        _ => at,
-    }
-}
-
-// A quantiser likewise.
-fn put_quantiser(f: Field, tables: &mut [u16], at: usize) -> usize
-    requires { ⌜ at + 1 < 2 ^ 64 ⌝ }
-    ensures { λ r. ⌜ Stored (now (tables .entry)) (now (tables .exit)) at r (tablesIn f) ⌝ }
-{
-    let Field::Quantiser(v) = f else {
-        return at;
-    };
-    if tables.len() <= at {
-        return at + 1;
-    }
-    tables[at] = v;
-    at + 1
-}
-
 // Reads a whole text and stops at the first bad field of the first bad line. Levels and quantisers go to the lent buffers as
 // far as there is room, and the marks to a map of all blocks.
 pub fn walk(
@@ -113,7 +58,7 @@ pub fn walk(
     if !are_allowed(limits) {
         return Walked::Refused { number: 2, line: 0 };
     }
-    let mut state = state::nothing();
+    let mut state = progress::nothing();
     let mut at: usize = 0;
     let mut line: usize = 1;
     let mut low: usize = 0;
@@ -130,8 +75,8 @@ pub fn walk(
             break 'lines Walked::Refused { number: 7, line };
         }
         let row = &text[at..end];
-        let tag = state::expected(state, row);
-        let count = line::field_count(tag);
+        let tag = progress::expected(state, row);
+        let count = lines::field_count(tag);
         if l.fields != count {
             break 'lines Walked::Refused { number: 1, line };
         }
@@ -143,14 +88,14 @@ pub fn walk(
         let mut last = Field::Good;
         while i < count {
             let e = pieces::field_end(row, a);
-            let rule = line::rule_at(tag, i, limits, header, last, row);
+            let rule = lines::rule_at(tag, i, limits, header, last, row);
             let f = field::read_field(rule, &row[a..e]);
             if let Field::Bad(number) = f {
                 break 'lines Walked::Refused { number, line };
             }
-            low = put_low(f, lows, low);
-            high = put_high(f, highs, high);
-            listed = put_quantiser(f, tables, listed);
+            low = storing::put_low(f, lows, low);
+            high = storing::put_high(f, highs, high);
+            listed = storing::put_quantiser(f, tables, listed);
             last = f;
             a = e + 1;
             i += 1;
@@ -171,9 +116,9 @@ pub fn walk(
                 line: next,
             };
         }
-        let rec = line::record_of(tag, row);
-        let twice = state::mark_block(sheet, rec, bits);
-        match state::take_record(state, twice, rec) {
+        let rec = lines::record_of(tag, row);
+        let twice = progress::mark_block(sheet, rec, bits);
+        match progress::take_record(state, twice, rec) {
             Taken::Good(next) => {
                 state = next;
             }

@@ -16,7 +16,7 @@ use Rattle.digits.specs.Written.{digitsOf, decimal, joined, ended}
 use Rattle.digits.proofs.Both.{both-left, both-right}
 use Rattle.text.specs.Pieces.{split, before}
 use Rattle.text.proofs.JoinLaws.{free, allFree, above-decimal, above-free, joined-free, split-joined}
-use Rattle.sheet.specs.Lines.{markOf}
+use Rattle.lines.specs.Lines.{markOf}
 use Rattle.grammar.specs.Written.{markFields, markLines, endFields}
 use Rattle.grammar.proofs.RowLaws.{SmallMark, mark-back, mark-free}
 use Rattle.grammar.proofs.RoundTrip.{free-both, free-marks}

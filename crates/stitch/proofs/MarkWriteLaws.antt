@@ -15,7 +15,7 @@ use Rattle.text.specs.Pieces.{split, before}
 use Rattle.text.specs.Cursor.{IsLine}
 use Rattle.text.specs.Numbers.{numberAt}
 use Rattle.text.proofs.PieceLaws.{before-le, before-take}
-use Rattle.sheet.specs.Lines.{markOf}
+use Rattle.lines.specs.Lines.{markOf}
 use Rattle.copying.specs.declared.Cursor.{Cursor}
 use Rattle.copying.specs.declared.Place.{Place}
 use Rattle.copying.specs.Parts.{upTo, past, countOf, Put, Copied}

@@ -22,7 +22,7 @@ use Rattle.contents.specs.Marks.{blocksIn}
 use Rattle.digits.specs.Written.{decimal, joined, ended}
 use Rattle.digits.proofs.Both.{both-left, both-right}
 use Rattle.text.proofs.JoinLaws.{free, allFree, above-decimal, above-free, joined-free}
-use Rattle.sheet.specs.declared.line.Setting.the-variants as setting
+use Rattle.lines.specs.declared.Setting.the-variants as setting
 use Rattle.grammar.specs.Written.{headerFields, channelFields, endFields, settingLine, settingLines, choiceLines, holdLines, blockLines, dropHeld, channelLines, markLines, written}
 use Rattle.grammar.proofs.RowLaws.{header-free, channel-free}
 use Rattle.grammar.proofs.RoundTrip.{free-both, free-settings, free-blocks, free-channels}

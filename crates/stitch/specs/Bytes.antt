@@ -12,7 +12,7 @@ use Rattle.contents.specs.declared.Sheet.{Sheet}
 use Rattle.contents.specs.declared.Mark.{Mark}
 use Rattle.digits.specs.Written.{decimal}
 use Rattle.text.specs.Pieces.{split, before}
-use Rattle.sheet.specs.Lines.{markOf}
+use Rattle.lines.specs.Lines.{markOf}
 use Rattle.copying.specs.Parts.{upTo, past, countOf, refitted, afterTwo, channelText, channelLeft, channelRight}
 use Rattle.seam.specs.Used.{usedOf}
 use Rattle.stitch.specs.Stitched.{rowsIn, columnsIn, movedBy}

@@ -1,6 +1,6 @@
 -- `seam::same_channel` meets its contract. Assumes nothing.
 use borrow.Author.Needs.{needs}
-use Rattle.sheet.proofs.StateLaws.{product-fits}
+use Rattle.progress.proofs.StateLaws.{product-fits}
 use Rattle.seam.proofs.SeamLaws.{ands}
 use Rattle.seam.proofs.same_channel.Statement.{statement}
 use Rattle.seam.proofs.same_channel.Tie as tie

@@ -1,5 +1,5 @@
 -- `sheet::walk::are_allowed` meets its contract.
-use Rattle.sheet.proofs.StoreLaws.{limits}
+use Rattle.sheet.proofs.LimitLaws.{limits}
 use Rattle.sheet.proofs.walk.are_allowed.Statement.{statement}
 use Rattle.sheet.proofs.walk.are_allowed.Tie as tie
 

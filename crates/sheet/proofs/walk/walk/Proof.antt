@@ -6,9 +6,9 @@ use borrow.Author.Needs.{needs}
 use borrow.Author.Tests.{not-true, not-false}
 use lib.ListN.{length}
 use Rattle.text.specs.Pieces.{split}
-use Rattle.sheet.specs.Lines.{rulesOf}
+use Rattle.lines.specs.Lines.{rulesOf}
 use Rattle.contents.specs.Sheets.{lent}
-use Rattle.sheet.proofs.StateLaws.{due}
+use Rattle.progress.proofs.StateLaws.{due}
 use Rattle.sheet.proofs.WalkLaws.{good-field, places, Checking, check-begin, check-lows, check-highs, check-tables, check-at, check-in, check-bad, check-step, Reading, read-begin, walk-limit, OnLine, same-lows, same-highs, same-tables, bits-long, kept-marked, end-inside, walk-long, walk-cut, on-line, walk-count, row-count, rules-count, low-place, high-place, table-room, walk-fault, walk-end, walk-after, walk-bad, walk-next}
 use Rattle.sheet.proofs.walk.walk.Statement.{statement}
 use Rattle.sheet.proofs.walk.walk.Tie as tie

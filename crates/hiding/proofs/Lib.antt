@@ -1,0 +1,2 @@
+-- What hiding levels cites.
+pub mod HideLaws

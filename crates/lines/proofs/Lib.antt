@@ -1,0 +1,3 @@
+-- What the rules and records of a line cite.
+pub mod LineLaws
+pub mod GoodLines

@@ -1,0 +1,2 @@
+-- What the state of reading cites.
+pub mod StateLaws

@@ -1,8 +1,0 @@
--- `sheet::line::channel_rule` meets its contract.
-use Rattle.sheet.proofs.LineLaws.{rules}
-use Rattle.sheet.proofs.line.channel_rule.Statement.{statement}
-use Rattle.sheet.proofs.line.channel_rule.Tie as tie
-
-pub channel-rule-spec : {M : Type 1} → statement M
-channel-rule-spec = tie.close
-    (tie.spec (λ c. search rules) (λ c. search rules) (λ c. search rules) (λ c. search rules))

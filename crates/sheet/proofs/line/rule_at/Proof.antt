@@ -1,9 +1,0 @@
--- `sheet::line::rule_at` meets its contract.
-use Rattle.sheet.proofs.LineLaws.{places}
-use Rattle.sheet.proofs.line.rule_at.Statement.{statement}
-use Rattle.sheet.proofs.line.rule_at.Tie as tie
-
-pub rule-at-spec : {M : Type 1} → statement M
-rule-at-spec =
-    tie.close
-    (tie.spec (λ c κs. search places) (λ c. search places) (λ c κs. search places) (λ c. search places) (λ c κs. search places) (λ c. search places) (λ c κs. search places) (λ c. search places) (λ c κs. search places) (λ c. search places) (λ c κs. search places) (λ c. search places) (λ c κs. search places) (λ c. search places) (λ c κs. search places) (λ c. search places) (λ c. search places))

@@ -1,0 +1,2 @@
+-- What storing cites.
+pub mod StoreLaws

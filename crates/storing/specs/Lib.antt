@@ -1,0 +1,2 @@
+-- What storing in a lent buffer means.
+pub mod Stored
