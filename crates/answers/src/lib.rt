@@ -1,10 +1,12 @@
 // What the calls on lent slices answer. `number_of` of specs/ has the numbers of the table.
+#![tactic(auto)]
+
 ghost use Rattle.std.specs.Prelude.{◌≡◌, [], ◌∷◌, eqb};
 ghost use Rattle.answers.specs.Tests.{first};
 ghost use Rattle.answers.specs.Answers.{number_of};
 
 // Done, or why the call was refused.
-#[derive(Drop)]
+#[derive(Clone, Copy)]
 pub enum Answer {
     Done,
     Quantiser,

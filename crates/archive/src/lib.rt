@@ -1,5 +1,7 @@
 // Levels rearranged for the archive (M-109): a channel's levels in T.81's zigzag order, the first of each block as its difference from
 // that of the block before; and back. The functions but `rearrange` and `restore` are internal.
+#![tactic(auto)]
+
 ghost use Rattle.std.specs.Prelude.{◌≡◌, true, ◌%◌, ◌<◌, ◌+ℤ◌, length};
 ghost use Rattle.answers.specs.Tests.{all, level_ok};
 ghost use Rattle.answers.specs.Answers.{number_of, filled};

@@ -1,4 +1,6 @@
 // Job 3, blend, as the run calls it: row by row where no channel is held and a row has 1 to 512 values, else pixel by pixel. Both are the same function.
+#![tactic(auto)]
+
 ghost use Rattle.std.specs.Prelude.{◌≡◌, true, false, ℕ, ◌<◌, ◌≤◌, length};
 ghost use Rattle.gradients.specs.Held.{flag};
 ghost use Rattle.gradients.specs.Grid.{Fills};
@@ -33,11 +35,11 @@ fn by_rows(
 ) -> Totals
     requires { (g.n ≤ 3) × (0 < g.w) × (g.w ≤ 512) × Fills g (length plane.now) × Fills g (length gradient.old)
         × Fills g (length across.old) × Fills g (length down.old) }
-    ensures { (record { gradient = gradient.exit.now; across = across.new; down = down.new }
+    ensures { (record { gradient = gradient.new; across = across.new; down = down.new }
         ≡ blended g.w g.h g.n none k.second plane.now
-        (record { gradient = gradient.entry.now; across = across.old; down = down.old }))
+        (record { gradient = gradient.old; across = across.old; down = down.old }))
         × (result ≡ totals g.w g.h g.n none k.second plane.now
-        (record { gradient = gradient.entry.now; across = across.old; down = down.old })) }
+        (record { gradient = gradient.old; across = across.old; down = down.old })) }
 {
     let tv = tv_rows::tv_gradient(plane, gradient, across, down, g);
     let tgv = tgv_rows::tgv_gradient(&across[..], &down[..], gradient, g, k.second);
@@ -56,11 +58,11 @@ pub fn blend(
 ) -> Totals
     requires { (g.n ≤ 3) × Fills g (length plane.now) × Fills g (length gradient.old)
         × Fills g (length across.old) × Fills g (length down.old) }
-    ensures { (record { gradient = gradient.exit.now; across = across.new; down = down.new }
+    ensures { (record { gradient = gradient.new; across = across.new; down = down.new }
         ≡ blended g.w g.h g.n (flag g.held) k.second plane.now
-        (record { gradient = gradient.entry.now; across = across.old; down = down.old }))
+        (record { gradient = gradient.old; across = across.old; down = down.old }))
         × (result ≡ totals g.w g.h g.n (flag g.held) k.second plane.now
-        (record { gradient = gradient.entry.now; across = across.old; down = down.old })) }
+        (record { gradient = gradient.old; across = across.old; down = down.old })) }
 {
     let held = g.held;
     let w = g.w;

@@ -1,4 +1,6 @@
 // A sheet's record as numbers, in the order of `numbers_of`: what reading lends out, and what the whole run and the picture take back.
+#![tactic(auto)]
+
 pub mod reading;
 pub mod sheets;
 pub mod stitches;

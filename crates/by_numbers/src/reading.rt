@@ -9,7 +9,7 @@ use contents::{Limits, Reader};
 use sheet::{Answer, Measured};
 
 // A refusal's number and line; 0 and 0 where there is none.
-#[derive(Drop)]
+#[derive(Clone, Copy)]
 pub struct Told {
     pub number: u32,
     pub line: usize,

@@ -1,4 +1,6 @@
 // A sheet but for its text: the types that reading gives and solving takes.
+#![tactic(auto)]
+
 ghost use Rattle.std.specs.Prelude.{◌≡◌, ◌<◌};
 ghost use Rattle.contents.specs.Weights.{value_of};
 ghost use Rattle.contents.specs.Hold.{of_three, measured, hold_at};
@@ -6,21 +8,21 @@ ghost use Rattle.contents.specs.Sheets.{channel_at};
 ghost use Rattle.contents.specs.Marks.{blocks_in, blocks_before, block_of, has_block};
 
 // A weight: the bits of an f32, or a whole number.
-#[derive(Drop)]
+#[derive(Clone, Copy)]
 pub enum Weight {
     Bits(u32),
     Whole(u8),
 }
 
 // What a caller allows: the largest full side and the most iterations.
-#[derive(Drop)]
+#[derive(Clone, Copy)]
 pub struct Limits {
     pub side: u32,
     pub iterations: u32,
 }
 
 // A header line: full sides, picture sides, channels, mode, and three each of iterations, smoothing and data weights.
-#[derive(Drop)]
+#[derive(Clone, Copy)]
 pub struct Header {
     pub width: u32,
     pub height: u32,
@@ -40,7 +42,7 @@ pub struct Header {
 }
 
 // A channel line but for its quantisers: own sides and factors.
-#[derive(Drop)]
+#[derive(Clone, Copy)]
 pub struct Channel {
     pub width: u32,
     pub height: u32,
@@ -49,7 +51,7 @@ pub struct Channel {
 }
 
 // A setting with one of two letters: no line says it, or the first letter, or the second.
-#[derive(Drop)]
+#[derive(Clone, Copy)]
 pub enum Choice {
     Unsaid,
     First,
@@ -57,14 +59,14 @@ pub enum Choice {
 }
 
 // After how many steps each channel is held: no line says it, or the three counts of line H.
-#[derive(Drop)]
+#[derive(Clone, Copy)]
 pub enum Hold {
     Unsaid,
     Counts(u32, u32, u32),
 }
 
 // The settings: F, the rounding, t or n; A, the start, m or o; H, the held steps.
-#[derive(Drop)]
+#[derive(Clone, Copy)]
 pub struct Settings {
     pub rounding: Choice,
     pub start: Choice,
@@ -72,7 +74,7 @@ pub struct Settings {
 }
 
 // A mark of line N: the channel, block row and block column, from 0, of a block of which a partner may see only the mean.
-#[derive(Drop)]
+#[derive(Clone, Copy)]
 pub struct Mark {
     pub channel: u32,
     pub row: u32,
@@ -80,14 +82,14 @@ pub struct Mark {
 }
 
 // Who reads a sheet.
-#[derive(Drop)]
+#[derive(Clone, Copy)]
 pub enum Reader {
     Staff,
     Partner,
 }
 
 // A sheet but for its levels and quantisers. With one channel the second and third are zero.
-#[derive(Drop)]
+#[derive(Clone, Copy)]
 pub struct Sheet {
     pub header: Header,
     pub settings: Settings,

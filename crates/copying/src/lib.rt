@@ -1,17 +1,19 @@
 // Parts of sheet texts copied into a lent output, as far as there is room: so one function measures and writes.
+#![tactic(auto)]
+
 ghost use Rattle.std.specs.Prelude.{◌+◌, ◌^◌, ◌<◌, ◌≤◌, ◌≡◌, cond, [], ◌∷◌, eqb, length, drop, ◌-◌};
 ghost use Rattle.digits.specs.Written.{digits_of};
 ghost use Rattle.copying.specs.Parts.{up_to, past, count_of, after_two, refitted, rows_of, past_rows, channel_text, channel_left, channel_right, Put, Copied, Woven};
 
 // Where a text is read next, and where the output is written next.
-#[derive(Drop)]
+#[derive(Clone, Copy)]
 pub struct Cursor {
     pub from: usize,
     pub at: usize,
 }
 
 // Where two texts are read next, and where the output is written next.
-#[derive(Drop)]
+#[derive(Clone, Copy)]
 pub struct Place {
     pub left: usize,
     pub right: usize,

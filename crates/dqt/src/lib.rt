@@ -1,5 +1,7 @@
 // Quantisation tables from a DQT marker segment of T.81 B.2.4.1, and as one (M-113). The four tables stand one after the other by
 // destination, 64 quantisers each, row by row. The functions but `import` and `export` are internal.
+#![tactic(auto)]
+
 ghost use Rattle.std.specs.Prelude.{◌≡◌, true, ◌+◌, ◌<◌, ◌≤◌, length};
 ghost use Rattle.answers.specs.Tests.{all, table_ok};
 ghost use Rattle.answers.specs.Answers.{number_of, filled};

@@ -1,5 +1,7 @@
 // Arithmetic on f32 as the ported Rust has it: the methods `mul_add`, `midpoint` and `sqrt`, from whole numbers and rounded once, the
 // macro `mul_add!`, `powi(2)` and `clamp`. Each is total: NaN, infinities, subnormals and both zeros included.
+#![tactic(auto)]
+
 pub mod add;
 pub mod bits;
 pub mod double;

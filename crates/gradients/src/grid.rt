@@ -4,7 +4,7 @@ ghost use Rattle.gradients.specs.Tv.{px_idx, bump, bump_unless, difference};
 ghost use Rattle.gradients.specs.Grid.{Inside, Fills};
 
 // n planes of w by h, one after the other, and which of them are held (M-108).
-#[derive(Drop)]
+#[derive(Clone, Copy)]
 pub struct Grid {
     pub n: usize,
     pub w: usize,

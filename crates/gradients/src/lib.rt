@@ -1,4 +1,6 @@
 // The gradients of tv.rs and tgv.rs over all channels of a run, and blend, which is both.
+#![tactic(auto)]
+
 pub mod grid;
 pub mod tgv;
 pub mod tv;
@@ -12,7 +14,7 @@ use grid::Grid;
 use steps::solve::Constants;
 
 // What tv_gradient and tgv_gradient return.
-#[derive(Drop)]
+#[derive(Clone, Copy)]
 pub struct Totals {
     pub tv: f64,
     pub tgv: f64,
@@ -31,11 +33,11 @@ pub fn blend(
 ) -> Totals
     requires { (g.n ≤ 3) × Fills g (length plane.now) × Fills g (length gradient.old)
         × Fills g (length across.old) × Fills g (length down.old) }
-    ensures { (record { gradient = gradient.exit.now; across = across.new; down = down.new }
+    ensures { (record { gradient = gradient.new; across = across.new; down = down.new }
         ≡ blended g.w g.h g.n (flag g.held) k.second plane.now
-        (record { gradient = gradient.entry.now; across = across.old; down = down.old }))
+        (record { gradient = gradient.old; across = across.old; down = down.old }))
         × (result ≡ totals g.w g.h g.n (flag g.held) k.second plane.now
-        (record { gradient = gradient.entry.now; across = across.old; down = down.old })) }
+        (record { gradient = gradient.old; across = across.old; down = down.old })) }
 {
     let tv = tv::tv_gradient(plane, gradient, across, down, g);
     let tgv = tgv::tgv_gradient(&across[..], &down[..], gradient, g, k.second);

@@ -13,7 +13,7 @@ use crate::grid::Grid;
 use fold::flags::either;
 
 // g_xxs, g_xy_syms and g_yys: a pixel's differences of differences, by channel.
-#[derive(Drop)]
+#[derive(Clone, Copy)]
 pub struct Second {
     pub g_xxs: [f32; 3],
     pub g_xy_syms: [f32; 3],

@@ -9,7 +9,7 @@ use crate::grid;
 use crate::grid::Grid;
 
 // g_xs and g_ys: a pixel's forward differences, by channel.
-#[derive(Drop)]
+#[derive(Clone, Copy)]
 pub struct Forward {
     pub g_xs: [f32; 3],
     pub g_ys: [f32; 3],
@@ -136,9 +136,9 @@ fn tv_gradient_px(
 ) -> f64
     requires { (g.n ≤ 3) × Inside g y x × Fills g (length plane.now) × Fills g (length gradient.old)
         × Fills g (length across.old) × Fills g (length down.old) }
-    ensures { (record { gradient = gradient.exit.now; across = across.new; down = down.new }
+    ensures { (record { gradient = gradient.new; across = across.new; down = down.new }
         ≡ tv_gradient_px g.w g.h g.n (flag g.held) alpha plane.now y x
-        (record { gradient = gradient.entry.now; across = across.old; down = down.old }))
+        (record { gradient = gradient.old; across = across.old; down = down.old }))
         × (result ≡ tv_total_px g.w g.h g.n (flag g.held) alpha plane.now y x tv) }
 {
     let d = differences(plane, g, y, x);
@@ -172,9 +172,9 @@ pub fn tv_gradient(
 ) -> f64
     requires { (g.n ≤ 3) × Fills g (length plane.now) × Fills g (length gradient.old)
         × Fills g (length across.old) × Fills g (length down.old) }
-    ensures { (record { gradient = gradient.exit.now; across = across.new; down = down.new }
+    ensures { (record { gradient = gradient.new; across = across.new; down = down.new }
         ≡ tv_gradient g.w g.h g.n (flag g.held) plane.now
-        (record { gradient = gradient.entry.now; across = across.old; down = down.old }))
+        (record { gradient = gradient.old; across = across.old; down = down.old }))
         × (result ≡ tv_total g.w g.h g.n (flag g.held) plane.now) }
 {
     let n = g.n;

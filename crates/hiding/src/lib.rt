@@ -1,4 +1,6 @@
 // What a reader gets of the levels of marked blocks.
+#![tactic(auto)]
+
 ghost use Rattle.std.specs.Prelude.{◌≡◌, cond, ◌+◌, ◌^◌, ◌<◌, pos, set};
 ghost use Rattle.hiding.specs.Shown.{hidden_by, shown_by, shown_to};
 

@@ -1,4 +1,6 @@
 // A coefficient's interval: its ends, and the value of a level.
+#![tactic(auto)]
+
 ghost use Rattle.std.specs.Prelude.{◌≡◌};
 ghost use Rattle.interval.specs.Interval.{whole, lowest, highest, dequantised, clamp_to, outside, mid};
 
@@ -40,7 +42,7 @@ pub fn dequantised(low: i16, high: i16, q: u16) -> f32
 }
 
 // A clamped value, and whether the clamp moved it.
-#[derive(Drop)]
+#[derive(Clone, Copy)]
 pub struct Clamped {
     pub value: f32,
     pub moved: bool,

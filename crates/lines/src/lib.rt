@@ -1,4 +1,6 @@
 // The lines: the rule of each field, and what a good line holds.
+#![tactic(auto)]
+
 ghost use Rattle.std.specs.Prelude.{◌≡◌, [], ◌<◌, get_or};
 ghost use Rattle.text.specs.Pieces.{split};
 ghost use Rattle.lines.specs.Lines.{header_rules, choice_rules, choice_of, hold_rules, hold_of, mark_rules, mark_of, channel_rules, block_rules, rules_of, field_count, header_of, channel_of, record_of};
@@ -9,7 +11,7 @@ use text::field::{Field, Rule};
 use text::{field, number, weight};
 
 // A setting's line: F, A or H.
-#[derive(Drop)]
+#[derive(Clone, Copy)]
 pub enum Setting {
     Rounding(Choice),
     Start(Choice),
@@ -17,7 +19,7 @@ pub enum Setting {
 }
 
 // A line as read. Quantisers and levels go to the buffers.
-#[derive(Drop)]
+#[derive(Clone, Copy)]
 pub enum Record {
     Header(Header),
     Setting(Setting),

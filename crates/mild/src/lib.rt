@@ -1,5 +1,7 @@
 // Ordinary weights never blow (document 02, M-112): the statement is in specs/Mild.antt and its proof in proofs/Never.antt. `never_blows` tells whether it
 // speaks of a record.
+#![tactic(auto)]
+
 ghost use Rattle.std.specs.Prelude.{◌≡◌, ◌≤◌};
 ghost use Rattle.calls.specs.Run.{every, own};
 ghost use Rattle.record.specs.Model.{sheet_of};

@@ -1,4 +1,6 @@
 // One call of any job, by the job's number and the channel's: for the crates that make many calls. The public calls are those of `run`.
+#![tactic(auto)]
+
 ghost use Rattle.std.specs.Prelude.{◌<◌};
 ghost use Rattle.start.specs.Coef.{pairs};
 ghost use Rattle.numbered.specs.Numbered.{NumberedIs};
@@ -23,9 +25,9 @@ pub fn job_value(
 ) -> Answered
     requires { job < 5 }
     ensures { NumberedIs run job c (pairs lows.now highs.now) tables.now
-        (record { plane = plane.entry.now; prior = prior.old; gradient = gradient.old; across = across.old; down = down.old; saved = saved.old })
+        (record { plane = plane.old; prior = prior.old; gradient = gradient.old; across = across.old; down = down.old; saved = saved.old })
         result.answer result.run
-        (record { plane = plane.exit.now; prior = prior.new; gradient = gradient.new; across = across.new; down = down.new; saved = saved.new }) }
+        (record { plane = plane.new; prior = prior.new; gradient = gradient.new; across = across.new; down = down.new; saved = saved.new }) }
 {
     if job == 0 {
         return run::values::push_value(run, c, plane, prior);

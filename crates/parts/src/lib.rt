@@ -1,5 +1,7 @@
 // What a job of one channel is handed, its own sides and its part of the levels, tables and buffers; and the jobs on that part: data, project, start. Internal: each asks
 // what the public calls of `run` have tested.
+#![tactic(auto)]
+
 ghost use Rattle.std.specs.Prelude.{◌≡◌, ◌+◌, ◌*◌, ◌<◌, length};
 ghost use Rattle.fold.specs.Fold.{upto};
 ghost use Rattle.fold.specs.Part.{part};
@@ -102,11 +104,11 @@ pub fn project_part(
     saved: &mut [f32],
 ) -> usize
     requires { Fed run c (pairs lows.now highs.now) tables.now × Whole run plane.old × Whole run across.old × Whole run down.old × Whole run saved.old }
-    ensures { (record { plane = plane.exit.now; across = across.new; down = down.new; saved = saved.new }
+    ensures { (record { plane = plane.new; across = across.new; down = down.new; saved = saved.new }
         ≡ projected_part (given_of run (pairs lows.now highs.now) tables.now) c
-        (record { plane = plane.entry.now; across = across.old; down = down.old; saved = saved.old }))
+        (record { plane = plane.old; across = across.old; down = down.old; saved = saved.old }))
         × (result ≡ clipped_part (given_of run (pairs lows.now highs.now) tables.now) c
-        (record { plane = plane.entry.now; across = across.old; down = down.old; saved = saved.old })) }
+        (record { plane = plane.old; across = across.old; down = down.old; saved = saved.old })) }
 {
     let s = record::places::span_of(run, c);
     let from = s.from;
@@ -171,13 +173,13 @@ pub fn project_seen(
     saved: &mut [f32],
 ) -> Seen
     requires { Fed run c (pairs lows.now highs.now) tables.now × Whole run plane.old × Whole run across.old × Whole run down.old × Whole run saved.old }
-    ensures { (record { plane = plane.exit.now; across = across.new; down = down.new; saved = saved.new }
+    ensures { (record { plane = plane.new; across = across.new; down = down.new; saved = saved.new }
         ≡ projected_part (given_of run (pairs lows.now highs.now) tables.now) c
-        (record { plane = plane.entry.now; across = across.old; down = down.old; saved = saved.old }))
+        (record { plane = plane.old; across = across.old; down = down.old; saved = saved.old }))
         × (result.blown ≡ blown_part (given_of run (pairs lows.now highs.now) tables.now) c
-        (record { plane = plane.entry.now; across = across.old; down = down.old; saved = saved.old }))
+        (record { plane = plane.old; across = across.old; down = down.old; saved = saved.old }))
         × (result.clipped ≡ clipped_part (given_of run (pairs lows.now highs.now) tables.now) c
-        (record { plane = plane.entry.now; across = across.old; down = down.old; saved = saved.old })) }
+        (record { plane = plane.old; across = across.old; down = down.old; saved = saved.old })) }
 {
     let moved = project_part(run, c, lows, highs, tables, plane, across, down, saved);
     Seen {
@@ -201,9 +203,9 @@ pub fn start_part(
     saved: &mut [f32],
 )
     requires { Fed run c (pairs lows.now highs.now) tables.now × Whole run plane.old × Whole run prior.old × Whole run gradient.old × Whole run across.old × Whole run down.old × Whole run saved.old }
-    ensures { record { plane = plane.exit.now; prior = prior.new; gradient = gradient.new; across = across.new; down = down.new; saved = saved.new }
+    ensures { record { plane = plane.new; prior = prior.new; gradient = gradient.new; across = across.new; down = down.new; saved = saved.new }
         ≡ started_part (given_of run (pairs lows.now highs.now) tables.now) c
-        (record { plane = plane.entry.now; prior = prior.old; gradient = gradient.old; across = across.old; down = down.old; saved = saved.old }) }
+        (record { plane = plane.old; prior = prior.old; gradient = gradient.old; across = across.old; down = down.old; saved = saved.old }) }
 {
     let s = record::places::span_of(run, c);
     let from = s.from;
@@ -246,9 +248,9 @@ pub fn start_parts(
     saved: &mut [f32],
 )
     requires { FedAll run (pairs lows.now highs.now) tables.now × Whole run plane.old × Whole run prior.old × Whole run gradient.old × Whole run across.old × Whole run down.old × Whole run saved.old }
-    ensures { record { plane = plane.exit.now; prior = prior.new; gradient = gradient.new; across = across.new; down = down.new; saved = saved.new }
+    ensures { record { plane = plane.new; prior = prior.new; gradient = gradient.new; across = across.new; down = down.new; saved = saved.new }
         ≡ upto (started_part (given_of run (pairs lows.now highs.now) tables.now)) run.count
-        (record { plane = plane.entry.now; prior = prior.old; gradient = gradient.old; across = across.old; down = down.old; saved = saved.old }) }
+        (record { plane = plane.old; prior = prior.old; gradient = gradient.old; across = across.old; down = down.old; saved = saved.old }) }
 {
     for c in 0..run.count {
         start_part(

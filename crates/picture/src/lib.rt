@@ -1,18 +1,20 @@
 // The picture of the solved planes: `finish` of lib.rs. Planes and RGB bytes are lent; the functions but `finish` are internal.
+#![tactic(auto)]
+
 ghost use Rattle.std.specs.Prelude.{◌≡◌, ◌+◌, ◌*◌, ◌<◌, ◌≤◌, true, false, length};
 ghost use Rattle.std.specs.Float.Ieee.{lt, to_unsigned};
 ghost use Rattle.float.specs.Names.{f255};
 ghost use Rattle.picture.specs.Finish.{nearest, to_byte, shade, colour, grey, pixel, row, picture, side, within, legal, fitting, verdict, finishing};
 
 // The answer: done, or refused with a number of document 01's table.
-#[derive(Drop)]
+#[derive(Clone, Copy)]
 pub enum Answer {
     Done,
     Refused(u8),
 }
 
 // How a clamped value becomes a byte: truncated as in the Rust, or the nearest whole number as T.871 has it.
-#[derive(Drop)]
+#[derive(Clone, Copy)]
 pub enum Rounding {
     Truncate,
     Nearest,

@@ -48,7 +48,7 @@ pub extern "C" fn probe_start(
         × (length plane.old ≡ w * h) × (length prior.old ≡ w * h) × (length gradient.old ≡ w * h)
         × (length across.old ≡ w * h) × (length down.old ≡ w * h) × (length saved.old ≡ w * h) }
     ensures { record {
-      plane = plane.exit.now;
+      plane = plane.new;
       prior = prior.new;
       gradient = gradient.new;
       across = across.new;
@@ -81,8 +81,8 @@ pub extern "C" fn probe_push(
     step: u32,
 )
     requires { (w ≤ 512) × (h ≤ 512) × (length plane.old ≡ length prior.old) }
-    ensures { record { plane = plane.exit.now; prior = prior.new }
-        ≡ pushed (constants w h iterations weight step).factor (record { plane = plane.entry.now; prior = prior.old }) }
+    ensures { record { plane = plane.new; prior = prior.new }
+        ≡ pushed (constants w h iterations weight step).factor (record { plane = plane.old; prior = prior.old }) }
 {
     let k = step_constants(w, h, iterations, weight, step);
     steps::solve::push(plane, prior, k);
@@ -137,11 +137,11 @@ pub extern "C" fn probe_blend(
 )
     requires { (w ≤ 512) × (h ≤ 512) × (n ≤ 3) × (length plane.now ≡ n * (w * h)) × (length gradient.old ≡ n * (w * h))
         × (length across.old ≡ n * (w * h)) × (length down.old ≡ n * (w * h)) × (length both.old ≡ 2) }
-    ensures { (record { gradient = gradient.exit.now; across = across.new; down = down.new }
+    ensures { (record { gradient = gradient.new; across = across.new; down = down.new }
         ≡ blended w h n (λ c. false) (constants w h iterations weight step).second plane.now
-        (record { gradient = gradient.entry.now; across = across.old; down = down.old }))
+        (record { gradient = gradient.old; across = across.old; down = down.old }))
         × (both.new ≡ bits_of (totals w h n (λ c. false) (constants w h iterations weight step).second plane.now
-        (record { gradient = gradient.entry.now; across = across.old; down = down.old }))) }
+        (record { gradient = gradient.old; across = across.old; down = down.old }))) }
 {
     let k = step_constants(w, h, iterations, weight, step);
     let none = [false; 3];
@@ -194,12 +194,12 @@ pub extern "C" fn probe_project(
     requires { Covers (own width height fx fy) w h
         × Lent (own width height fx fy) (pairs lows.now highs.now) table.now
         × (length plane.old ≡ w * h) × (length across.old ≡ w * h) × (length down.old ≡ w * h) × (length saved.old ≡ w * h) }
-    ensures { (record { plane = plane.exit.now; across = across.new; down = down.new; saved = saved.new }
+    ensures { (record { plane = plane.new; across = across.new; down = down.new; saved = saved.new }
         ≡ project_onto_box (coef (own width height fx fy) (pairs lows.now highs.now) table.now) w h
-        (record { plane = plane.entry.now; across = across.old; down = down.old; saved = saved.old }))
+        (record { plane = plane.old; across = across.old; down = down.old; saved = saved.old }))
         × (result ≡ clipped (coef (own width height fx fy) (pairs lows.now highs.now) table.now)
         (transformed (coef (own width height fx fy) (pairs lows.now highs.now) table.now) w h
-        (record { plane = plane.entry.now; across = across.old; down = down.old; saved = saved.old }))) }
+        (record { plane = plane.old; across = across.old; down = down.old; saved = saved.old }))) }
 {
     let o = Own {
         width: width,

@@ -1,4 +1,6 @@
 // Internal functions as C functions, for the comparison with Rust. Each has the contract of the function that it calls.
+#![tactic(auto)]
+
 mod jobs;
 
 ghost use Rattle.std.specs.Prelude.{◌≡◌, ◌*◌, ◌/◌, ◌%◌, ◌<◌, ◌≤◌, length};

@@ -1,4 +1,6 @@
 // The whole program as a function: the bytes that `smooth` prints for a text.
+#![tactic(auto)]
+
 ghost use Rattle.std.specs.Prelude.{◌≡◌, ℕ, ◌+◌, ◌*◌, ◌≤◌, ◌<◌, false, length};
 ghost use Rattle.fold.specs.Join.{join_upto};
 ghost use Rattle.contents.specs.Sheets.{lent};

@@ -1,4 +1,6 @@
 // What was read so far, and what the next line adds to it.
+#![tactic(auto)]
+
 ghost use Rattle.std.specs.Prelude.{◌≡◌, cond, false, ◌<◌, length};
 ghost use Rattle.contents.specs.Sheets.{no_header, no_channel};
 ghost use Rattle.progress.specs.Taking.{Due, twice_in, marked_in};
@@ -10,7 +12,7 @@ use lines::{Record, Setting};
 use text::field;
 
 // The sheet so far: whether the header was read, how many channels were, and how many blocks of the last are still to come.
-#[derive(Drop)]
+#[derive(Clone, Copy)]
 pub struct State {
     pub begun: bool,
     pub sheet: Sheet,
@@ -19,7 +21,7 @@ pub struct State {
 }
 
 // The state after a good line, or the number of its fault.
-#[derive(Drop)]
+#[derive(Clone, Copy)]
 pub enum Taken {
     Good(State),
     Bad(u8),

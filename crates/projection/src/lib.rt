@@ -1,3 +1,5 @@
 // projection.rs: job 5, project, on a channel's own part of the lent buffers, and the test for a blown channel.
+#![tactic(auto)]
+
 pub mod blown;
 pub mod projection;

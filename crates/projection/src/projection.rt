@@ -69,8 +69,8 @@ fn own_px(o: Own, w: usize, h: usize, cy: usize, cx: usize) -> usize
 // The mean of the own sample (cx, cy) goes to `down`, and the plane keeps the difference.
 fn split_at(plane: &mut [f32], down: &mut [f32], o: Own, w: usize, h: usize, cy: usize, cx: usize)
     requires { Covers o w h × (cy < o.height) × (cx < o.width) × (length plane.old ≡ w * h) × (length down.old ≡ w * h) }
-    ensures { record { plane = plane.exit.now; down = down.new }
-        ≡ split_at o w cy cx (record { plane = plane.entry.now; down = down.old }) }
+    ensures { record { plane = plane.new; down = down.new }
+        ≡ split_at o w cy cx (record { plane = plane.old; down = down.old }) }
 {
     let mean = mean_of(&plane[..], o, w, h, cy, cx);
     let k = own_px(o, w, h, cy, cx);
@@ -81,8 +81,8 @@ fn split_at(plane: &mut [f32], down: &mut [f32], o: Own, w: usize, h: usize, cy:
 // All own samples, row by row.
 fn split(plane: &mut [f32], down: &mut [f32], o: Own, w: usize, h: usize)
     requires { Covers o w h × (length plane.old ≡ w * h) × (length down.old ≡ w * h) }
-    ensures { record { plane = plane.exit.now; down = down.new }
-        ≡ split o w (record { plane = plane.entry.now; down = down.old }) }
+    ensures { record { plane = plane.new; down = down.new }
+        ≡ split o w (record { plane = plane.old; down = down.old }) }
 {
     let width = o.width;
     let height = o.height;
@@ -182,9 +182,9 @@ fn onto_box(
     table: &[u16],
 ) -> usize
     requires { Covers o w h × Lent o (pairs lows.now highs.now) table.now × (length across.old ≡ w * h) × (length saved.old ≡ w * h) }
-    ensures { (record { across = across.exit.now; saved = saved.new }
-        ≡ onto_box (coef o (pairs lows.now highs.now) table.now) (record { across = across.entry.now; saved = saved.old }))
-        × (result ≡ clipped (coef o (pairs lows.now highs.now) table.now) (upto (on_block dct8x8) (block_count o) across.entry.now)) }
+    ensures { (record { across = across.new; saved = saved.new }
+        ≡ onto_box (coef o (pairs lows.now highs.now) table.now) (record { across = across.old; saved = saved.old }))
+        × (result ≡ clipped (coef o (pairs lows.now highs.now) table.now) (upto (on_block dct8x8) (block_count o) across.old)) }
 {
     let count = start::coef::px_count(o, w, h);
     let n = start::coef::block_count(o);
@@ -207,11 +207,11 @@ fn project_full(
     table: &[u16],
 ) -> usize
     requires { Covers o w h × Lent o (pairs lows.now highs.now) table.now × (length plane.old ≡ w * h) × (length across.old ≡ w * h) × (length saved.old ≡ w * h) }
-    ensures { ((down : List Float) → record { plane = plane.exit.now; across = across.new; down = down; saved = saved.new }
+    ensures { ((down : List Float) → record { plane = plane.new; across = across.new; down = down; saved = saved.new }
         ≡ project_full (coef o (pairs lows.now highs.now) table.now)
-        (record { plane = plane.entry.now; across = across.old; down = down; saved = saved.old }))
+        (record { plane = plane.old; across = across.old; down = down; saved = saved.old }))
         × (result ≡ clipped (coef o (pairs lows.now highs.now) table.now)
-        (upto (on_block dct8x8) (block_count o) (to_blocks o.width (block_w o) (block_h o) plane.entry.now across.old))) }
+        (upto (on_block dct8x8) (block_count o) (to_blocks o.width (block_w o) (block_h o) plane.old across.old))) }
 {
     let width = o.width;
     let height = o.height;
@@ -238,12 +238,12 @@ fn project_means(
 ) -> usize
     requires { Covers o w h × Lent o (pairs lows.now highs.now) table.now × (length plane.old ≡ w * h) × (length across.old ≡ w * h)
         × (length down.old ≡ w * h) × (length saved.old ≡ w * h) }
-    ensures { (record { plane = plane.exit.now; across = across.new; down = down.new; saved = saved.new }
+    ensures { (record { plane = plane.new; across = across.new; down = down.new; saved = saved.new }
         ≡ project_means (coef o (pairs lows.now highs.now) table.now) w
-        (record { plane = plane.entry.now; across = across.old; down = down.old; saved = saved.old }))
+        (record { plane = plane.old; across = across.old; down = down.old; saved = saved.old }))
         × (result ≡ clipped (coef o (pairs lows.now highs.now) table.now)
         (upto (on_block dct8x8) (block_count o) (to_blocks o.width (block_w o) (block_h o)
-        (split o w (record { plane = plane.entry.now; down = down.old })).down across.old))) }
+        (split o w (record { plane = plane.old; down = down.old })).down across.old))) }
 {
     let width = o.width;
     let height = o.height;
@@ -273,11 +273,11 @@ pub fn project_onto_box(
 ) -> usize
     requires { Covers o w h × Lent o (pairs lows.now highs.now) table.now × (length plane.old ≡ w * h) × (length across.old ≡ w * h)
         × (length down.old ≡ w * h) × (length saved.old ≡ w * h) }
-    ensures { (record { plane = plane.exit.now; across = across.new; down = down.new; saved = saved.new }
+    ensures { (record { plane = plane.new; across = across.new; down = down.new; saved = saved.new }
         ≡ project_onto_box (coef o (pairs lows.now highs.now) table.now) w h
-        (record { plane = plane.entry.now; across = across.old; down = down.old; saved = saved.old }))
+        (record { plane = plane.old; across = across.old; down = down.old; saved = saved.old }))
         × (result ≡ clipped (coef o (pairs lows.now highs.now) table.now) (transformed (coef o (pairs lows.now highs.now) table.now) w h
-        (record { plane = plane.entry.now; across = across.old; down = down.old; saved = saved.old }))) }
+        (record { plane = plane.old; across = across.old; down = down.old; saved = saved.old }))) }
 {
     if resample(o, w, h) {
         return project_means(plane, across, down, saved, o, w, h, lows, highs, table);

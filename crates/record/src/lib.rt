@@ -1,4 +1,6 @@
 // The run's record, which records are legal, and what each call refuses (document 01, "Jobs and positions" and the table of refusals).
+#![tactic(auto)]
+
 pub mod legal;
 pub mod places;
 pub mod refusals;
@@ -11,7 +13,7 @@ use start::coef::Reorder;
 // A channel of the run: own sides, factors across and down, data weight, the step after which it is held (M-108), position, mark, and how many
 // coefficients its last project clipped.
 #[repr(C)]
-#[derive(Drop)]
+#[derive(Clone, Copy)]
 pub struct Channel {
     pub width: u32,
     pub height: u32,
@@ -26,7 +28,7 @@ pub struct Channel {
 
 // The run's record: W, H, N, the smoothing weight, the letter of line A, and its channels, the first `count` of three. Every value of the letter is
 // legal, and only start looks at it.
-#[derive(Drop)]
+#[derive(Clone, Copy)]
 pub struct Run {
     pub w: u32,
     pub h: u32,
@@ -38,7 +40,7 @@ pub struct Run {
 }
 
 // A call's answer: refused, with the number in the table; done; done, and the channel is now marked blown; a blend done, with both its totals.
-#[derive(Drop)]
+#[derive(Clone, Copy)]
 pub enum Answer {
     Refused(u8),
     Done,
@@ -47,14 +49,14 @@ pub enum Answer {
 }
 
 // What a job tells of its channel: whether any plane value or saved coefficient is then NaN or infinite, and how many coefficients it clipped.
-#[derive(Drop)]
+#[derive(Clone, Copy)]
 pub struct Seen {
     pub blown: bool,
     pub clipped: u32,
 }
 
 // A call's answer, with the record as it is afterwards.
-#[derive(Drop)]
+#[derive(Clone, Copy)]
 pub struct Answered {
     pub answer: Answer,
     pub run: Run,

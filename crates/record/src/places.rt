@@ -37,7 +37,7 @@ pub fn clipped_of(run: Run, c: u32) -> u32
 }
 
 // Where channel c's values begin and end in a lent buffer, and the step that its next job belongs to.
-#[derive(Drop)]
+#[derive(Clone, Copy)]
 pub struct Span {
     pub from: usize,
     pub to: usize,

@@ -1,5 +1,7 @@
 // Replays the oracle's answers: each line of standard input has an operation, its operands and the answer of the Rust.
 // Writes how many of the lines have the answer that the proved code gives, and how many have another.
+#![tactic(auto)]
+
 mod arith;
 mod sheets;
 mod transforms;
@@ -39,7 +41,7 @@ fn same_line(s: &[u8], at: usize) -> bool
 }
 
 // The tally after some lines, and where the first line that has no end yet starts.
-#[derive(Drop)]
+#[derive(Clone, Copy)]
 struct Counted {
     tally: Tally,
     at: usize,

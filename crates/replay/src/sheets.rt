@@ -64,7 +64,7 @@ fn with_tables(digest: u64, tables: &[u16]) -> u64
 }
 
 // What reading gives: the refusal, or the digest.
-#[derive(Drop)]
+#[derive(Clone, Copy)]
 struct Given {
     number: u64,
     line: u64,

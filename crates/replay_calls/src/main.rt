@@ -1,6 +1,8 @@
 // Replays lists of calls on a run: each line of standard input has a record, levels, tables, a list of calls and a digest of what the oracle's model of
 // the calls leaves: the answers, the record and all six buffers. Writes how many of the lines have the digest that the proved calls give, and
 // how many have another.
+#![tactic(auto)]
+
 mod given;
 mod served;
 
@@ -9,7 +11,7 @@ ghost use Rattle.std.specs.Prelude.{◌≤◌, length};
 use words::{Tally, line_end, refill};
 
 // The tally after some lines, and where the first line that has no end yet starts.
-#[derive(Drop)]
+#[derive(Clone, Copy)]
 struct Counted {
     tally: Tally,
     at: usize,

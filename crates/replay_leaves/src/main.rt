@@ -1,5 +1,7 @@
 // Replays calls on lent slices: each line of standard input has a call, what it is lent, and the answer and values that the oracle's own gives.
 // Writes how many of the lines have what the proved code gives, and how many have another.
+#![tactic(auto)]
+
 mod segments;
 mod stitches;
 mod tapes;
@@ -26,7 +28,7 @@ fn same_line(s: &[u8], at: usize) -> bool
 }
 
 // The tally after some lines, and where the first line that has no end yet starts.
-#[derive(Drop)]
+#[derive(Clone, Copy)]
 struct Counted {
     tally: Tally,
     at: usize,

@@ -1,5 +1,7 @@
 // Prints for each text of standard input what `smooth` prints for it: a text stands after its length in five decimal digits. The file `stdout` has the
 // oracle's answers.
+#![tactic(auto)]
+
 ghost use Rattle.std.specs.Prelude.{◌≡◌, ◌≤◌, length};
 
 use libc::{STDIN_FILENO, STDOUT_FILENO};

@@ -1,4 +1,6 @@
 // A run from its start to its last job, in rounds: a round makes one job for every channel.
+#![tactic(auto)]
+
 ghost use Rattle.std.specs.Prelude.{◌≡◌, [], ◌∷◌, ◌+◌, ◌*◌, ◌≤◌, length};
 ghost use Rattle.start.specs.Coef.{pairs};
 ghost use Rattle.record.specs.Model.{given_of, answer_of, clipped_of};

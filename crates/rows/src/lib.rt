@@ -1,4 +1,6 @@
 // Rows of the two gradients: each kind of change of a row's pixels as one loop, by quotients that are worked out before.
+#![tactic(auto)]
+
 ghost use Rattle.std.specs.Prelude.{◌≡◌, false, ◌+◌, ◌*◌, ◌<◌, ◌≤◌, ◌^◌, length};
 ghost use Rattle.fold.specs.Fold.{upto};
 ghost use Rattle.float.specs.Ops.{root};

@@ -211,9 +211,9 @@ pub fn start_value(
     saved: &mut [f32],
 ) -> Answered
     ensures { StartIs run (pairs lows.now highs.now) tables.now
-        (record { plane = plane.entry.now; prior = prior.old; gradient = gradient.old; across = across.old; down = down.old; saved = saved.old })
+        (record { plane = plane.old; prior = prior.old; gradient = gradient.old; across = across.old; down = down.old; saved = saved.old })
         result.answer result.run
-        (record { plane = plane.exit.now; prior = prior.new; gradient = gradient.new; across = across.new; down = down.new; saved = saved.new }) }
+        (record { plane = plane.new; prior = prior.new; gradient = gradient.new; across = across.new; down = down.new; saved = saved.new }) }
 {
     let lengths = [
         plane.len(),

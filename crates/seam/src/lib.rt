@@ -1,4 +1,6 @@
 // Do two sheets fit together?
+#![tactic(auto)]
+
 ghost use Rattle.std.specs.Prelude.{◌≡◌, ◌<◌, eqb, length};
 ghost use Rattle.contents.specs.Hold.{hold_at};
 ghost use Rattle.seam.specs.Seam.{same, same_weight, same_smoothing, same_data, same_counts, same_shape, same_header, second, same_letters, same_channel, same_channels, same_tables};

@@ -1,4 +1,6 @@
 // A list of calls on a fresh run, whose contract is demand 3 of document 01.
+#![tactic(auto)]
+
 mod lists;
 
 ghost use Rattle.start.specs.Coef.{pairs};
@@ -24,9 +26,9 @@ pub fn serve_value(
     saved: &mut [f32],
 ) -> Answered
     ensures { ServeIs run jobs.now channels.now answers.old (pairs lows.now highs.now) tables.now
-        (record { plane = plane.entry.now; prior = prior.old; gradient = gradient.old; across = across.old; down = down.old; saved = saved.old })
+        (record { plane = plane.old; prior = prior.old; gradient = gradient.old; across = across.old; down = down.old; saved = saved.old })
         result.answer result.run answers.new
-        (record { plane = plane.exit.now; prior = prior.new; gradient = gradient.new; across = across.new; down = down.new; saved = saved.new }) }
+        (record { plane = plane.new; prior = prior.new; gradient = gradient.new; across = across.new; down = down.new; saved = saved.new }) }
 {
     let lengths = [
         plane.len(),

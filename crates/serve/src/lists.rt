@@ -79,9 +79,9 @@ pub fn list_value(
 ) -> Run
     requires { (length channels.now ≡ length jobs.now) × (length answers.old ≡ length jobs.now) × (all_jobs jobs.now ≡ true) }
     ensures { ListIs run jobs.now channels.now (pairs lows.now highs.now) tables.now
-        (record { plane = plane.entry.now; prior = prior.old; gradient = gradient.old; across = across.old; down = down.old; saved = saved.old })
+        (record { plane = plane.old; prior = prior.old; gradient = gradient.old; across = across.old; down = down.old; saved = saved.old })
         answers.new result
-        (record { plane = plane.exit.now; prior = prior.new; gradient = gradient.new; across = across.new; down = down.new; saved = saved.new }) }
+        (record { plane = plane.new; prior = prior.new; gradient = gradient.new; across = across.new; down = down.new; saved = saved.new }) }
 {
     let mut last = run;
     for i in 0..jobs.len() {

@@ -1,4 +1,6 @@
 // The sheet text: how long its buffers are, and what it says.
+#![tactic(auto)]
+
 pub mod walk;
 
 ghost use Rattle.std.specs.Prelude.{◌≡◌};
@@ -11,14 +13,14 @@ use crate::walk::Walked;
 use contents::{Limits, Reader, Sheet};
 
 // The answer of measuring: the length of the two levels buffers, lows and highs, and that of the tables, or a refusal.
-#[derive(Drop)]
+#[derive(Clone, Copy)]
 pub enum Measured {
     Lengths { levels: usize, tables: usize },
     Refused { number: u8, line: usize },
 }
 
 // The answer of reading: the sheet, or a refusal.
-#[derive(Drop)]
+#[derive(Clone, Copy)]
 pub enum Answer {
     Sheet(Sheet),
     Refused { number: u8, line: usize },

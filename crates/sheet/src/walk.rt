@@ -11,7 +11,7 @@ use text::field::Field;
 use text::{field, pieces};
 
 // What a walk of a text gives: the sheet with how many lows, highs and quantisers it has, or a refusal and its line.
-#[derive(Drop)]
+#[derive(Clone, Copy)]
 pub enum Walked {
     Sheet {
         sheet: Sheet,

@@ -1,4 +1,6 @@
 // The program `smooth`: standard input, or as much of it as decides, to standard output. What it prints is `program::smooth_text`'s.
+#![tactic(auto)]
+
 use libc::{STDIN_FILENO, STDOUT_FILENO};
 
 // What is printed for the text, through a lent buffer. A slice: the length of an array this long would be counted out in the proof.

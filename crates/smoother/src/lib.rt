@@ -1,4 +1,6 @@
 // The library for C and Rust: each public call as a C function. A call answers the number of document 01's table, 0 where nothing is refused.
+#![tactic(auto)]
+
 pub mod runs;
 pub mod segments;
 pub mod sheets;
@@ -17,7 +19,7 @@ use sheet::Measured;
 
 // The run's record as C has it: that of `record`, but for the letter of line A, which is a number here: 0 for m, 1 for o.
 #[repr(C)]
-#[derive(Drop)]
+#[derive(Clone, Copy)]
 pub struct LentRun {
     pub w: u32,
     pub h: u32,
@@ -29,7 +31,7 @@ pub struct LentRun {
 }
 
 // A call's answer as a number, with the record as it is afterwards.
-#[derive(Drop)]
+#[derive(Clone, Copy)]
 pub struct Numbered {
     pub answer: u32,
     pub run: LentRun,

@@ -100,9 +100,9 @@ pub fn start_number(
     saved: &mut [f32],
 ) -> Numbered
     ensures { StartNumbers run (pairs lows.now highs.now) tables.now
-        (record { plane = plane.entry.now; prior = prior.old; gradient = gradient.old; across = across.old; down = down.old; saved = saved.old })
+        (record { plane = plane.old; prior = prior.old; gradient = gradient.old; across = across.old; down = down.old; saved = saved.old })
         result.answer result.run
-        (record { plane = plane.exit.now; prior = prior.new; gradient = gradient.new; across = across.new; down = down.new; saved = saved.new }) }
+        (record { plane = plane.new; prior = prior.new; gradient = gradient.new; across = across.new; down = down.new; saved = saved.new }) }
 {
     if 1 < run.reorder {
         return Numbered { answer: 13, run };
@@ -129,9 +129,9 @@ pub extern "C" fn smoother_start(
     saved: &mut [f32],
 ) -> u32
     ensures { StartNumbers run.old (pairs lows.now highs.now) tables.now
-        (record { plane = plane.entry.now; prior = prior.old; gradient = gradient.old; across = across.old; down = down.old; saved = saved.old })
+        (record { plane = plane.old; prior = prior.old; gradient = gradient.old; across = across.old; down = down.old; saved = saved.old })
         result run.new
-        (record { plane = plane.exit.now; prior = prior.new; gradient = gradient.new; across = across.new; down = down.new; saved = saved.new }) }
+        (record { plane = plane.new; prior = prior.new; gradient = gradient.new; across = across.new; down = down.new; saved = saved.new }) }
 {
     let p = start_number(
         *run, lows, highs, tables, plane, prior, gradient, across, down, saved,
@@ -383,9 +383,9 @@ pub fn serve_number(
     saved: &mut [f32],
 ) -> Numbered
     ensures { ServeNumbers run jobs.now channels.now answers.old (pairs lows.now highs.now) tables.now
-        (record { plane = plane.entry.now; prior = prior.old; gradient = gradient.old; across = across.old; down = down.old; saved = saved.old })
+        (record { plane = plane.old; prior = prior.old; gradient = gradient.old; across = across.old; down = down.old; saved = saved.old })
         result.answer result.run answers.new
-        (record { plane = plane.exit.now; prior = prior.new; gradient = gradient.new; across = across.new; down = down.new; saved = saved.new }) }
+        (record { plane = plane.new; prior = prior.new; gradient = gradient.new; across = across.new; down = down.new; saved = saved.new }) }
 {
     if 1 < run.reorder {
         return Numbered { answer: 13, run };
@@ -417,9 +417,9 @@ pub extern "C" fn smoother_serve(
     saved: &mut [f32],
 ) -> u32
     ensures { ServeNumbers run.old jobs.now channels.now answers.old (pairs lows.now highs.now) tables.now
-        (record { plane = plane.entry.now; prior = prior.old; gradient = gradient.old; across = across.old; down = down.old; saved = saved.old })
+        (record { plane = plane.old; prior = prior.old; gradient = gradient.old; across = across.old; down = down.old; saved = saved.old })
         result run.new answers.new
-        (record { plane = plane.exit.now; prior = prior.new; gradient = gradient.new; across = across.new; down = down.new; saved = saved.new }) }
+        (record { plane = plane.new; prior = prior.new; gradient = gradient.new; across = across.new; down = down.new; saved = saved.new }) }
 {
     let p = serve_number(
         *run, jobs, channels, answers, lows, highs, tables, plane, prior, gradient, across, down,

@@ -1,4 +1,6 @@
 // The whole run of a sheet, in both modes.
+#![tactic(auto)]
+
 pub mod counts;
 pub mod modes;
 mod separate;
@@ -15,7 +17,7 @@ use record::{Answer, Run};
 use rounds::run_value;
 
 // What a whole run answers, and each channel's number of clipped coefficients where it is done.
-#[derive(Drop)]
+#[derive(Clone, Copy)]
 pub struct Solved {
     pub answer: Answer,
     pub clipped: [u32; 3],

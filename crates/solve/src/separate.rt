@@ -15,7 +15,7 @@ use record::{Answer, Answered};
 use rounds::run_value;
 
 // Where channel c's part begins and ends in the lent buffers, in the levels, in the tables and in the totals.
-#[derive(Drop)]
+#[derive(Clone, Copy)]
 struct Parts {
     from: usize,
     to: usize,

@@ -122,7 +122,7 @@ pub fn start(
     requires { Covers o w h × Lent o (pairs lows.now highs.now) table.now × (length plane.old ≡ w * h) × (length prior.old ≡ w * h)
         × (length gradient.old ≡ w * h) × (length across.old ≡ w * h) × (length down.old ≡ w * h) × (length saved.old ≡ w * h) }
     ensures { record {
-      plane = plane.exit.now;
+      plane = plane.new;
       prior = prior.new;
       gradient = gradient.new;
       across = across.new;

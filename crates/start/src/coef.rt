@@ -3,7 +3,7 @@ ghost use Rattle.std.specs.Prelude.{◌≡◌, ◌+◌, ◌*◌, ◌/◌, ◌^�
 ghost use Rattle.start.specs.Coef.{Covers, Eights, Lent, coef, dequantise, mid_at, pairs, image_block, image_data, image_once, image_of, init_dct_target, spot};
 
 // A channel's own sides and its factors.
-#[derive(Drop)]
+#[derive(Clone, Copy)]
 pub struct Own {
     pub width: usize,
     pub height: usize,
@@ -12,7 +12,7 @@ pub struct Own {
 }
 
 // When the image is reordered: after each block, as the Rust does, or once after all of them (M-102).
-#[derive(Drop)]
+#[derive(Clone, Copy)]
 pub enum Reorder {
     Each,
     Once,

@@ -5,7 +5,7 @@ ghost use Rattle.float.specs.Names.{float};
 ghost use Rattle.steps.specs.Solve.{next_term, term_of, constants, pushed, PushedTo, pushed_part};
 
 // The constants of a step: term, factor, step size, second_order weight.
-#[derive(Drop)]
+#[derive(Clone, Copy)]
 pub struct Constants {
     pub term: f32,
     pub factor: f32,
@@ -80,8 +80,8 @@ pub fn step_constants(w: u32, h: u32, iterations: u32, weight: f32, step: u32) -
 // Rules out: a prior taken after the plane is written, and a plane made from a prior that lags by one place.
 pub fn push_places(plane: &mut [f32], prior: &mut [f32], factor: f32, n: usize)
     requires { (n ≤ length plane.old) × (length plane.old ≡ length prior.old) }
-    ensures { PushedTo factor (record { plane = plane.entry.now; prior = prior.old }) n
-        (record { plane = plane.exit.now; prior = prior.new }) }
+    ensures { PushedTo factor (record { plane = plane.old; prior = prior.old }) n
+        (record { plane = plane.new; prior = prior.new }) }
 {
     for i in 0..n {
         let old_plane = plane[i];
@@ -96,8 +96,8 @@ pub fn push_places(plane: &mut [f32], prior: &mut [f32], factor: f32, n: usize)
 // Rules out: the product and sum rounded once, and a prior that is the old prior.
 pub fn push(plane: &mut [f32], prior: &mut [f32], k: Constants)
     requires { length plane.old ≡ length prior.old }
-    ensures { record { plane = plane.exit.now; prior = prior.new }
-        ≡ pushed k.factor (record { plane = plane.entry.now; prior = prior.old }) }
+    ensures { record { plane = plane.new; prior = prior.new }
+        ≡ pushed k.factor (record { plane = plane.old; prior = prior.old }) }
 {
     let n = plane.len();
     push_places(plane, prior, k.factor, n);
@@ -106,8 +106,8 @@ pub fn push(plane: &mut [f32], prior: &mut [f32], k: Constants)
 // Job 1 on the part of channel c, of n values. Rules out: another channel's part pushed, and a place beyond the part changed.
 pub fn push_channel(plane: &mut [f32], prior: &mut [f32], k: Constants, c: usize, n: usize)
     requires { (c * n + n ≤ length plane.old) × (length plane.old ≡ length prior.old) }
-    ensures { record { plane = plane.exit.now; prior = prior.new }
-        ≡ pushed_part k.factor (c * n) (c * n + n) (record { plane = plane.entry.now; prior = prior.old }) }
+    ensures { record { plane = plane.new; prior = prior.new }
+        ≡ pushed_part k.factor (c * n) (c * n + n) (record { plane = plane.old; prior = prior.old }) }
 {
     let from = c * n;
     let to = from + n;

@@ -1,4 +1,6 @@
 // Two sheet texts stitched in time: the length of the text that both make, and that text.
+#![tactic(auto)]
+
 mod marks;
 mod write;
 
@@ -12,21 +14,21 @@ use sheet::walk;
 use sheet::walk::Walked;
 
 // The answer of measuring: the length of the output, or a refusal of the left text (1), of the right (2) or of neither (0).
-#[derive(Drop)]
+#[derive(Clone, Copy)]
 pub enum Measured {
     Length(usize),
     Refused { number: u8, which: u8, line: usize },
 }
 
 // The answer of stitching.
-#[derive(Drop)]
+#[derive(Clone, Copy)]
 pub enum Answer {
     Done,
     Refused { number: u8, which: u8, line: usize },
 }
 
 // Two sheets that fit, or a refusal.
-#[derive(Drop)]
+#[derive(Clone, Copy)]
 pub enum Judged {
     Fit { left: Sheet, right: Sheet },
     Refused { number: u8, which: u8, line: usize },

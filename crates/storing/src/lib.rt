@@ -1,4 +1,6 @@
 // A field's level or quantiser goes to its place in a lent buffer, as far as there is room.
+#![tactic(auto)]
+
 ghost use Rattle.std.specs.Prelude.{[], ◌∷◌, ◌+◌, ◌^◌, ◌<◌};
 ghost use Rattle.text.specs.Fields.{lows_in, highs_in, tables_in};
 ghost use Rattle.storing.specs.Stored.{Stored};

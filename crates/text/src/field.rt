@@ -12,7 +12,7 @@ use crate::{level, number, pieces, weight};
 // What a field must be: this one letter; a number from low to high, else this fault; an iteration count up to the most; a
 // multiple of 8 from 8 to the most; 1 or 3; one of two letters; a weight; a quantiser; a level; the lowest of a range of
 // levels; the highest of the range with this lowest.
-#[derive(Drop)]
+#[derive(Clone, Copy)]
 pub enum Rule {
     Tag(u8),
     Range { fault: u8, low: u32, high: u32 },
@@ -29,7 +29,7 @@ pub enum Rule {
 
 // What a field says under its rule: the number of its fault, a quantiser, a level, the lowest or the highest of a range, or
 // any other good field.
-#[derive(Drop)]
+#[derive(Clone, Copy)]
 pub enum Field {
     Bad(u8),
     Quantiser(u16),

@@ -6,7 +6,7 @@ use crate::number;
 use crate::number::Number;
 
 // What a level's field says: the level, or the number of its fault.
-#[derive(Drop)]
+#[derive(Clone, Copy)]
 pub enum LevelField {
     Is(i16),
     Bad(u8),

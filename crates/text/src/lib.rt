@@ -1,4 +1,6 @@
 // The bytes of a sheet text: where lines and fields end, and what a field says.
+#![tactic(auto)]
+
 pub mod field;
 pub mod level;
 pub mod number;

@@ -6,7 +6,7 @@ ghost use Rattle.text.specs.Numbers.{number_of, number_at};
 use crate::pieces;
 
 // A field read as a number.
-#[derive(Drop)]
+#[derive(Clone, Copy)]
 pub enum Number {
     Is(u32),
     Not,

@@ -4,14 +4,14 @@ ghost use Rattle.text.specs.Pieces.{before, split};
 ghost use Rattle.text.specs.Cursor.{IsField, IsLine};
 
 // A line: the place of its end, and how many fields it has.
-#[derive(Drop)]
+#[derive(Clone, Copy)]
 pub struct Line {
     pub end: usize,
     pub fields: usize,
 }
 
 // A part of a row.
-#[derive(Drop)]
+#[derive(Clone, Copy)]
 pub struct Span {
     pub start: usize,
     pub end: usize,

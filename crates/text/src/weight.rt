@@ -8,7 +8,7 @@ use crate::{number, pieces};
 use contents::Weight;
 
 // A weight field: its weight, or the number of its fault.
-#[derive(Drop)]
+#[derive(Clone, Copy)]
 pub enum WeightField {
     Is(Weight),
     Bad(u8),

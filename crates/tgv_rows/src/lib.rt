@@ -1,4 +1,6 @@
 // scalar/tgv.rs, `tgv_gradient`, row by row: quotients and each kind of change as a loop of its own.
+#![tactic(auto)]
+
 ghost use Rattle.std.specs.Prelude.{◌≡◌, ◌+◌, ◌-◌, ◌*◌, ◌<◌, ◌≤◌, length};
 ghost use Rattle.std.specs.Float.Ieee.{neg};
 ghost use Rattle.fold.specs.Fold.{upto};

@@ -1,4 +1,6 @@
 // scalar/tv.rs, `tv_gradient`, row by row: quotients and each kind of change as a loop of its own.
+#![tactic(auto)]
+
 ghost use Rattle.std.specs.Prelude.{◌≡◌, ◌+◌, ◌*◌, ◌<◌, ◌≤◌, length};
 ghost use Rattle.std.specs.Float.Ieee.{neg};
 ghost use Rattle.fold.specs.Fold.{upto};
@@ -235,9 +237,9 @@ fn row(
 ) -> f64
     requires { (g.n ≤ 3) × (y < g.h) × (0 < g.w) × (g.w ≤ length norm.old) × (g.w ≤ length q.old) × Fills g (length plane.now)
         × Fills g (length gradient.old) × Fills g (length across.old) × Fills g (length down.old) }
-    ensures { (record { gradient = gradient.exit.now; across = across.new; down = down.new }
+    ensures { (record { gradient = gradient.new; across = across.new; down = down.new }
         ≡ tv_gradient_row g.w g.h g.n none alpha plane.now y
-        (record { gradient = gradient.entry.now; across = across.old; down = down.old }))
+        (record { gradient = gradient.old; across = across.old; down = down.old }))
         × (result ≡ tv_total_row g.w g.h g.n none alpha plane.now y tv) }
 {
     let w = g.w;
@@ -257,9 +259,9 @@ pub fn tv_gradient(
 ) -> f64
     requires { (g.n ≤ 3) × (0 < g.w) × (g.w ≤ 512) × Fills g (length plane.now) × Fills g (length gradient.old)
         × Fills g (length across.old) × Fills g (length down.old) }
-    ensures { (record { gradient = gradient.exit.now; across = across.new; down = down.new }
+    ensures { (record { gradient = gradient.new; across = across.new; down = down.new }
         ≡ tv_gradient g.w g.h g.n none plane.now
-        (record { gradient = gradient.entry.now; across = across.old; down = down.old }))
+        (record { gradient = gradient.old; across = across.old; down = down.old }))
         × (result ≡ tv_total g.w g.h g.n none plane.now) }
 {
     let n = g.n;

@@ -21,7 +21,7 @@ const C8_4R: f32 = 0.353_553_390_593_273_762_20;
 const W8_4R: f32 = 0.707_106_781_186_547_524_40;
 
 // The eight values of a column or row.
-#[derive(Drop)]
+#[derive(Clone, Copy)]
 pub struct Eight {
     pub a0: f32,
     pub a1: f32,

@@ -1,6 +1,8 @@
 // `mul_add`, `midpoint` and `sqrt` of `float`, with the same contracts, by way of f64: the exact sum is rounded to the 53 digits of an f64 and that to
 // the 24 of an f32, where the first rounding can't mislead the second; the root is guessed in f64 and the guess tested with whole numbers.
 // Everything else goes to `float`, which works from whole numbers.
+#![tactic(auto)]
+
 ghost use Rattle.std.specs.Prelude.{◌≡◌, Bool, true, false, ℕ, ◌*◌, ◌^◌, ◌≤◌, ◌<◌};
 ghost use Rattle.std.specs.Float.{binary32, binary64};
 ghost use Rattle.std.specs.Float.Ieee.{round};

@@ -1,5 +1,7 @@
 // Words of a list of answers: lines ended by byte 10, words parted by one space, numbers as eight hexadecimal digits. For the
 // programs that replay the oracle's answers and count how many are the same. A word that is no number reads as some number.
+#![tactic(auto)]
+
 ghost use Rattle.std.specs.Prelude.{◌≡◌, ◌≤◌, ◌<◌, length};
 
 use libc::{STDIN_FILENO, STDOUT_FILENO};
@@ -151,7 +153,7 @@ pub fn refill(buf: &mut [u8], from: usize, to: usize) -> usize
 }
 
 // How many answers are the same as the oracle's, and how many are not.
-#[derive(Drop)]
+#[derive(Clone, Copy)]
 pub struct Tally {
     pub same: u64,
     pub other: u64,

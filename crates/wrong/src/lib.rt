@@ -1,1 +1,2 @@
 // Solvers that would fool a glance, and that demand 3 excludes. This crate has no code.
+#![tactic(auto)]

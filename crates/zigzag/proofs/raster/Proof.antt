@@ -7,11 +7,11 @@ use Rattle.zigzag.proofs.Places.{inside}
 use Rattle.zigzag.proofs.raster.Statement.{statement}
 use Rattle.zigzag.proofs.raster.Tie as tie
 
-cast-result : tie.Need-overflow-cast-result
+cast-result : tie.Need-overflow_cast-result
 unfolding sequence figure
 cast-result c = let h = inside (c.args.k % 64) (omega arith) in record { fits = omega arith }
 
-add-result : tie.Need-overflow-add-result
+add-result : tie.Need-overflow_add-result
 unfolding sequence figure
 add-result c = let h = inside (c.args.k % 64) (omega arith) in omega arith
 
