@@ -1,5 +1,5 @@
 -- Each operation's result is a value that its format holds. Assumes nothing.
-use Rattle.std.proofs.Common.{zero, suc, ◌*◌, ◌/◌, ◌^◌, Bool, true, false, T}
+use Rattle.std.proofs.Common.{zero, suc, ◌*◌, ◌/◌, ◌^◌, true, false, T}
 use lib.Ieee.{Float, Format, nan, inf, fin, binary32, up, down, mul, fits, lt}
 use lib.Ieee.Fits.{add-fits, mul-fits, round-fits, nan-fits, cond-fits}
 use Rattle.float.specs.Ops.{mul_add, square, product, fused_at, fused, half, midpoint, halves, root, clamp, at_least}

@@ -1,5 +1,5 @@
 -- A sum, a product, the fused product and the midpoint are the nearest values to the exact ones: over the format, then cited for f32 and f64. Assumes nothing.
-use Rattle.std.proofs.Common.{◌≡◌, ℕ, ◌+◌, ◌-◌, ◌*◌, ◌<◌, ◌≤◌, Bool, true, false, not, T, ltb, ◌⊎◌, ℤ, pos, ◌+ℤ◌, ◌*ℤ◌, sym, refl, ap, ◌∙◌, subst, ap₂, inl, inr, le_of_eq, le_of_lt, mul_assoc, mul_comm, le_antisymm, mul-pos, mul_right_comm, mul_left_comm, arith, lit<, ltb-false, ltb-true}
+use Rattle.std.proofs.Common.{◌≡◌, ℕ, ◌+◌, ◌-◌, ◌*◌, ◌<◌, Bool, true, false, not, T, ltb, ℤ, pos, ◌+ℤ◌, ◌*ℤ◌, sym, refl, ap, ◌∙◌, subst, ap₂, le_of_lt, mul_assoc, mul_comm, le_antisymm, mul-pos, mul_left_comm, arith, lit<, ltb-false, ltb-true}
 use mathlib.Core.Bool.{beq}
 use lib.Ieee.{Float, Format, nan, inf, fin, binary32, binary64, unlike, up, down, sum, add, mul}
 use lib.Ieee.Fits.{down_pos}

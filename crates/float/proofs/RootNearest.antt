@@ -1,10 +1,9 @@
 -- `root` is the nearest value to the exact root. Assumes nothing.
 -- Counted in 2 ^ -107 the root is √N, of which `halves` has the whole part r and whether that is all. A middle between two values of the
 -- format, counted so, is a whole number M, so M against √N is M against r and a half.
-use Rattle.std.proofs.Common.{◌≡◌, ℕ, zero, suc, ◌+◌, ◌-◌, ◌*◌, ◌/◌, ◌%◌, ◌^◌, ◌<◌, ◌≤◌, Bool, true, false, T, eqb, ◌≢◌, ◌⊎◌, sym, refl, ap, ◌∙◌, subst, ap₂, inl, inr, le_trans, le_of_eq, lt_of_lt_of_le, le_of_suc-le-suc, le-add_right, lt_of_le_of_lt, le_of_lt, lt_irrefl, mul-le-mul_right, zero-lt-suc, mul_assoc, mul_comm, add-mul, le_antisymm, lt_of_mul-lt-mul_right, mul-le-mul_left, mul-lt-mul_of_pos_right, mul-pos, one-mul, lt_of_not-le, mul-one, mul_right_comm, not-le_of_lt, le_of_mul-le-mul_right, mul-div_cancel, mul_left_comm, add-one, arith, lit<, lit≤, ltb→lt, pow_pos, pow_mono, pow-add, eqb-true}
+use Rattle.std.proofs.Common.{◌≡◌, ℕ, zero, suc, ◌+◌, ◌-◌, ◌*◌, ◌/◌, ◌%◌, ◌^◌, ◌<◌, ◌≤◌, Bool, true, false, T, eqb, ◌≢◌, ◌⊎◌, sym, refl, ap, ◌∙◌, subst, ap₂, inl, inr, le_trans, le_of_eq, lt_of_lt_of_le, le_of_suc-le-suc, le-add_right, lt_of_le_of_lt, le_of_lt, lt_irrefl, mul-le-mul_right, zero-lt-suc, mul_assoc, mul_comm, add-mul, lt_of_mul-lt-mul_right, mul-le-mul_left, mul-lt-mul_of_pos_right, mul-pos, one-mul, lt_of_not-le, mul-one, mul_right_comm, not-le_of_lt, le_of_mul-le-mul_right, mul-div_cancel, mul_left_comm, add-one, arith, lit<, lit≤, ltb→lt, pow_pos, pow_mono, pow-add, eqb-true}
 use native.Mathlib.Nat.{eq_of_mul-eq-mul_right}
 use borrow.Author.Tests.{eqb-false}
-use lib.Pow.{pow-lt}
 use lib.Ieee.{Float, nan, inf, fin, binary32, up, down, size, round, fits}
 use lib.Ieee.Fits.{and_l, and_r, up_pos, down_pos}
 use lib.Ieee.Exact.{HasValue}
@@ -14,7 +13,7 @@ use Rattle.float.specs.Ops.{isqrt, halves, root}
 use Rattle.float.specs.Whole.{IsRoot}
 use Rattle.float.specs.Nearest.{Held, NearestRoot, gap}
 use Rattle.float.proofs.NearestLaws.{order, grid_near, grid_even, grid_held}
-use Rattle.float.proofs.Roots.{own_root, square_mono, halves_exact, halves_more, four_power, square_product}
+use Rattle.float.proofs.Roots.{own_root, square_mono, halves_exact, halves_more, square_product}
 use Rattle.float.proofs.RootCases.{root_value}
 use Rattle.float.proofs.Scaled.{scaled_exact}
 

@@ -1,9 +1,9 @@
 -- A value that f32 holds is a whole number of its smallest values: times 2 ^ 149 it loses nothing. Assumes nothing.
-use Rattle.std.proofs.Common.{◌≡◌, ℕ, zero, suc, ◌+◌, ◌-◌, ◌*◌, ◌/◌, ◌^◌, ◌<◌, ◌≤◌, Bool, true, false, ◌&&◌, T, eqb, ltb, leb, ℤ, pos, negsuc, sym, refl, ap, ◌∙◌, subst, mul_assoc, mul_comm, zero-mul, mul-one, not-le_of_lt, div-one, mul-div_cancel, arith, leb→le, pow_pos, pow-add}
+use Rattle.std.proofs.Common.{◌≡◌, ℕ, zero, suc, ◌+◌, ◌-◌, ◌*◌, ◌/◌, ◌^◌, ◌≤◌, Bool, T, ℤ, pos, negsuc, sym, ap, ◌∙◌, mul_assoc, zero-mul, mul-one, not-le_of_lt, div-one, mul-div_cancel, arith, leb→le, pow_pos, pow-add}
 use native.Mathlib.Nat.{zero-div}
 use native.Mathlib.Decide.{dec_le}
 use lib.Pow.{pow-lt}
-use lib.Ieee.{Float, fin, binary32, prec, emax, low, up, down, fits}
+use lib.Ieee.{fin, binary32, up, down, fits}
 use lib.Ieee.Fits.{and_l, and_r}
 
 small_power : (a b : ℕ) → 2 ^ a ≤ 2 ^ b → a ≤ b

@@ -1,9 +1,8 @@
 -- `float::bits::from_bits` meets its contract: the patterns above the infinity's, the sign taken off, are the NaN's. Assumes nothing.
-use Rattle.std.proofs.Common.{◌≡◌, ℕ, ◌%◌, ◌<◌, ◌≤◌, Bool, true, false, not, T, sym, refl, ap, ◌∙◌, subst, true≢false, rules, le-ltb, lt-ltb}
+use Rattle.std.proofs.Common.{◌≡◌, ℕ, ◌%◌, ◌<◌, ◌≤◌, Bool, true, not, T, sym, refl, ◌∙◌, subst, true≢false, le-ltb, lt-ltb}
 use lib.Ieee.{Float, nan, inf, fin, binary32, div, is_nan, nan_bits, of_bits}
 use lib.Ieee.Bits.{nan_bits_is, nan_bits_above}
-use Rattle.float.proofs.bits.from_bits.Statement.{statement}
-use Rattle.float.proofs.bits.from_bits.Tie as tie
+use Rattle.float.proofs.bits.from_bits.Goals as goal
 
 is-nan : (x : Float) → is_nan x ≡ true → nan ≡ x
 unfolding is_nan
@@ -21,11 +20,8 @@ zero_by_zero : div binary32 (of_bits binary32 0) (of_bits binary32 0) ≡ nan
 unfolding div of_bits
 zero_by_zero = refl
 
-returns : tie.Need-returns
-returns c = zero_by_zero ∙ nan_read c.before.args.bits c.if1.true
+pub returns-then-bits-gt2139095040 : goal.returns-then-bits-gt2139095040
+returns-then-bits-gt2139095040 c = zero_by_zero ∙ nan_read c.before.args.bits c.if-bits-gt2139095040.true
 
-float-from-bits-result : tie.Need-float-from-bits-result
-float-from-bits-result c = no_nan c.before.args.bits c.if1.false
-
-pub from_bits_spec : {M : Type 1} → statement M
-from_bits_spec = tie.close (tie.spec returns float-from-bits-result (λ c. search rules))
+pub float_from_bits-result : goal.float_from_bits-result
+float_from_bits-result c = no_nan c.before.args.bits c.if-bits-gt2139095040.false
