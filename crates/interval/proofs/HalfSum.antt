@@ -1,6 +1,6 @@
 -- M-105: the half sum of a pair of levels and its product with the quantiser are exact and in the pair's interval, whose ends are apart; of an equal pair
 -- the half sum is the level itself. Assumes nothing.
-use mathlib.Core.Path.{◌≡◌, refl, sym, ap, ◌∙◌, subst}
+use mathlib.Core.Path.{◌≡◌, refl, sym, ap, ◌∙◌}
 use mathlib.Core.Logic.{⊎_elim}
 use Prim.Native.Nat.{ℕ, zero, suc, ◌+◌, ◌-◌, ◌*◌, ◌^◌, ◌≤◌, ◌<◌}
 use native.Mathlib.Nat.{eq-or-lt_of_le, mul-le-mul_right, mul-pos}
@@ -10,11 +10,10 @@ use lib.IntN.{ℤ, pos, negsuc, neg_ℤ, nat_abs, ◌+ℤ◌, ◌*ℤ◌}
 use lib.Signed.{◌≤ℤ◌}
 use lib.Dec.{leb→le, lit<, ltb}
 use borrow.Author.Tests.{le-ltb, lt-ltb, ltb-false, ltb-true}
-use lib.Ieee.{Float, fin, up, down, unlike, binary32, round, sum, add, mul, of_int, below, lt}
+use lib.Ieee.{Float, fin, up, down, binary32, round, sum, mul, of_int, below, lt}
 use lib.Ieee.Fits.{down_pos}
 use lib.Ieee.Scale.{round_same}
 use Rattle.float.proofs.SumCases.{add_value}
-use Rattle.float.specs.Names.{float}
 use Rattle.interval.specs.Interval.{InInterval, IsHalf, HalfSums, EndsApart, dequantised, f½, lowest, highest, mid, whole}
 use Rattle.interval.proofs.Ends.{Halves, exact_f½, finite_with, high_halves, high_size, int_halves, is_neg, low_halves, low_sign, low_size, mul_halves, small, sum_larger, sum_same, sum_smaller, unlike_false}
 use Rattle.interval.proofs.Clamp.{Below, halves_in}

@@ -3,14 +3,8 @@ use lib.Ieee.{of_bits, of_fields}
 use mir.Syntax.{w16}
 use mir.ValLaws.{to_z-of_z}
 use Rattle.interval.specs.Interval.{lowest}
-use borrow.Author.Rules.{rules}
-use Rattle.interval.proofs.lowest.Statement.{statement}
-use Rattle.interval.proofs.lowest.Tie as tie
+use Rattle.interval.proofs.lowest.Goals as goal
 
-returns : tie.Need-returns
+pub returns : goal.returns
 unfolding lowest of_bits of_fields count_trailing_zeros
 returns c = rw (c.before.whole.ensures, to_z-of_z w16 c.before.before.args.low c.before.before.ranges.low)
-
-pub lowest_spec : {M : Type 1} → statement M
-lowest_spec = tie.close
-    (tie.spec (λ c κs. search rules) (λ c. search rules) returns)
