@@ -1,20 +1,17 @@
 -- The product of two f32 is exact in binary64, and so the f64 sum a * b + c is the exact one, rounded to binary64. Assumes nothing.
 use mathlib.Core.Path.{◌≡◌, refl, sym, ap, ap₂, ◌∙◌, subst}
-use mathlib.Core.Logic.{◌⊎◌, inl, inr}
-use Prim.Native.Nat.{ℕ, zero, suc, ◌+◌, ◌-◌, ◌*◌, ◌/◌, ◌%◌, ◌^◌, ◌≤◌, ◌<◌}
-use native.Mathlib.Nat.{le_of_lt, lt_of_lt_of_le, lt_of_le_of_lt, mul_comm, mul_assoc, mul_left_comm, mul-one, mul-pos, mul-le-mul_left, mul-lt-mul_of_pos_right}
+use Prim.Native.Nat.{ℕ, ◌+◌, ◌-◌, ◌*◌, ◌^◌, ◌≤◌, ◌<◌}
+use native.Mathlib.Nat.{lt_of_lt_of_le, mul_assoc, mul-one, mul-pos}
 use native.Mathlib.Omega.{arith}
 use mathlib.Core.Bool.{Bool, true, false, not, ◌&&◌, cond, beq, true≢false}
-use lib.Dec.{T, leb, ltb, eqb, lit<}
-use lib.Pow.{pow-add, pow_pos, pow_mono, pow-lt, shl_lt}
+use lib.Dec.{T, ltb, eqb, lit<}
+use lib.Pow.{pow-add, pow_pos, pow_mono, shl_lt}
 use lib.Ieee.{Float, nan, inf, fin, Format, binary32, binary64, unlike, up, down, round, sum, add, mul, fits, to_bits, of_bits, is_nan, eq}
 use lib.Ieee.Fits.{down_pos, and_i, fits_widens}
 use lib.Ieee.Exact.{HasValue, round_exact}
-use lib.Ieee.Scale.{round_same, finite}
-use borrow.Author.Tests.{eqb-true, eqb-false}
+use lib.Ieee.Scale.{finite}
 use Rattle.float.specs.Ops.{product, fused, half, midpoint}
-use Rattle.wide.specs.Wide.{magnitude, Clear}
-use Rattle.float.proofs.Fields.{exponent, value_low, value_high, exponent_le}
+use Rattle.wide.specs.Wide.{Clear}
 use Rattle.float.proofs.SumCases.{add_value}
 use Rattle.float.proofs.Values.{product_value, half_value, rescale}
 use Rattle.float.proofs.Wider.{Parts, parts, mul_value, product_exact}

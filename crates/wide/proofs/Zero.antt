@@ -1,12 +1,12 @@
 -- A product with a zero is a zero, which every format has, and so are the halves of zeros. Assumes nothing.
-use mathlib.Core.Path.{◌≡◌, refl, sym, ap, ap₂, ◌∙◌, subst}
-use mathlib.Core.Bool.{Bool, true, false, true≢false}
-use Prim.Native.Nat.{ℕ, zero, suc, ◌+◌, ◌*◌, ◌^◌, ◌<◌}
+use mathlib.Core.Path.{◌≡◌, refl, sym, ap, ◌∙◌, subst}
+use mathlib.Core.Bool.{Bool, true, true≢false}
+use Prim.Native.Nat.{ℕ, zero, suc, ◌*◌, ◌^◌, ◌<◌}
 use native.Mathlib.Nat.{lt_irrefl, zero-lt-suc, zero-mul, mul-zero, mul-pos}
 use lib.IntN.{ℤ, negsuc, ◌+ℤ◌}
 use lib.Dec.{T, eqb, eqb→eq}
 use lib.Pow.{pow_pos}
-use lib.Ieee.{Float, nan, inf, fin, Format, binary32, unlike, up, down, level, round, add, mul, eq, of_bits}
+use lib.Ieee.{Float, nan, inf, fin, binary32, unlike, up, down, level, round, add, mul, eq, of_bits}
 use lib.Ieee.Fits.{up_pos, down_pos, and_l}
 use lib.Ieee.Exact.{HasValue, round_exact}
 use Rattle.float.specs.Ops.{product, fused, half, midpoint}

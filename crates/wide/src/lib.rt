@@ -69,7 +69,7 @@ fn midpoint_unclear(a: f32, b: f32) -> f32
     float::midpoint(a, b)
 }
 
-// The method `mul_add`: a * b + c, rounded once. A factor a of 1, that of the first_order term in a run of one channel, leaves the f32 sum, which often is a tie of the f64 one.
+// The method `mul_add`: a * b + c, rounded once. A factor a of 1, that of the first-order term in a run of one channel, leaves the f32 sum, which often is a tie of the f64 one.
 // Else the product is exact in f64. A NaN, a zero and any other sum that isn't clear go to `mul_add_unclear`.
 // Ruled out: the f64 sum at a tie of two f32 taken for the exact sum; -0 where the exact sum cancels.
 pub fn mul_add(a: f32, b: f32, c: f32) -> f32
