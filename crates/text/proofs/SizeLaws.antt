@@ -11,7 +11,6 @@ use lib.Dec.{eqb, leb, ltb}
 use borrow.Author.Tests.{eqb-true, ltb-true, ltb-false}
 use Rattle.text.specs.declared.number.Number.{Number}
 use Rattle.text.specs.declared.number.Number.TheVariants as number
-use Rattle.contents.specs.declared.Weight.{Weight}
 use Rattle.text.specs.declared.weight.WeightField.{WeightField}
 use Rattle.text.specs.declared.weight.WeightField.TheVariants as weight-field
 use Rattle.text.specs.declared.field.Rule.TheVariants as rule
