@@ -1,5 +1,5 @@
 -- The nearest whole number of a clamped value, halves upward: as the code works it out, and that it is one. Assumes nothing.
-use Rattle.std.proofs.Common.{◌≡◌, ℕ, zero, suc, ◌+◌, ◌-◌, ◌*◌, ◌/◌, ◌^◌, ◌<◌, ◌≤◌, min, Bool, true, false, ◌&&◌, ◌||◌, T, eqb, ltb, List, [], ◌∷◌, get_or, drop, ℤ, negsuc, sym, refl, ap, ◌∙◌, subst, ⊎_elim, true≢false, le_refl, le_of_suc-le-suc, not-suc-le-zero, mul-le-mul_right, mul_assoc, suc-mul, mul_comm, div-lt_iff_lt-mul, add-mul, le_antisymm, lt_of_mul-lt-mul_right, eq-or-lt_of_le, mul-lt-mul_of_pos_right, lt_of_not-le, le-div_iff_mul-le, mul-one, mul_right_comm, le_of_mul-le-mul_right, mul_left_comm, arith, pow_pos, ltb-false, ltb-true, ne_eqb, eqb-true}
+use Rattle.std.proofs.Common.{◌≡◌, ℕ, zero, suc, ◌+◌, ◌*◌, ◌/◌, ◌^◌, ◌<◌, ◌≤◌, min, Bool, true, false, ◌&&◌, ◌||◌, T, eqb, ltb, List, [], ◌∷◌, get_or, drop, ℤ, negsuc, sym, refl, ap, ◌∙◌, subst, ⊎_elim, true≢false, le_refl, le_of_suc-le-suc, not-suc-le-zero, mul-le-mul_right, mul_assoc, suc-mul, mul_comm, div-lt_iff_lt-mul, add-mul, le_antisymm, lt_of_mul-lt-mul_right, eq-or-lt_of_le, mul-lt-mul_of_pos_right, lt_of_not-le, le-div_iff_mul-le, mul-one, mul_right_comm, le_of_mul-le-mul_right, mul_left_comm, arith, pow_pos, ltb-false, ltb-true, ne_eqb, eqb-true}
 use native.Mathlib.Decide.{dec_le}
 use borrow.Author.Tests.{eqb-false}
 use lib.Ieee.{Float, nan, inf, fin, binary32, up, down, add, lt, eq, le, of_bits, of_int, to_unsigned, fits}
