@@ -1,5 +1,5 @@
 -- What push and move do at each place, and that they keep lengths.
-use Rattle.std.proofs.Common.{◌≡◌, ℕ, zero, suc, ◌<◌, Bool, cond, List, length, sym, refl, ap, ◌∙◌, not-suc-le-zero, arith, length-set, ext_get_or}
+use Rattle.std.proofs.Common.{◌≡◌, ℕ, zero, suc, ◌<◌, List, length, sym, refl, ap, ◌∙◌, not-suc-le-zero, arith, length-set, ext_get_or}
 use lib.Ieee.{Float, nan, ne}
 use Rattle.fold.specs.Fold.{upto}
 use Rattle.fold.proofs.Loops.{upto-keeps}

@@ -1,5 +1,5 @@
 -- One pass: none done, and one place more.
-use Rattle.std.proofs.Common.{◌≡◌, ℕ, ◌+◌, ◌<◌, ◌≤◌, List, length, set, sym, refl, ap, ◌∙◌, subst, ⊎_elim, le_refl, not-suc-le-zero, eq-or-lt_of_le, ne_of_gt, ne_of_lt, arith, length-set, get_or-set_other, get_or-set_same}
+use Rattle.std.proofs.Common.{◌≡◌, ℕ, ◌+◌, ◌<◌, ◌≤◌, List, length, set, sym, refl, ◌∙◌, subst, ⊎_elim, le_refl, not-suc-le-zero, eq-or-lt_of_le, ne_of_gt, ne_of_lt, arith, length-set, get_or-set_other, get_or-set_same}
 use lib.Ieee.{Float, nan}
 use Rattle.float.specs.Ops.{mul_add}
 use Rattle.float.specs.Names.{◌⊖◌, val}

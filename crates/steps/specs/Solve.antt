@@ -17,7 +17,7 @@ term_at k term = next_term term
 unfoldable pub term_of : ℕ → Float
 term_of step = upto term_at step f1
 
--- term, factor, step size and second_order weight of a step: full sides W and H, N iterations, the run's smoothing weight
+-- term, factor, step size and second-order weight of a step: full sides W and H, N iterations, the run's smoothing weight
 unfoldable pub constants : ℕ → ℕ → ℕ → Float → ℕ → Constants
 constants W H N weight step =
     record {

@@ -4,7 +4,7 @@ ghost use Rattle.float.specs.Ops.{root};
 ghost use Rattle.float.specs.Names.{float};
 ghost use Rattle.steps.specs.Solve.{next_term, term_of, constants, pushed, PushedTo, pushed_part};
 
-// The constants of a step: term, factor, step size, second_order weight.
+// The constants of a step: term, factor, step size, second-order weight.
 #[derive(Clone, Copy)]
 pub struct Constants {
     pub term: f32,
