@@ -1,0 +1,6 @@
+-- `lines::block_rule` meets its contract.
+use Rattle.lines.proofs.LineLaws.{rules}
+use Rattle.lines.proofs.block_rule.Goals as goal
+
+pub returns-else-i-eq0 : goal.returns-else-i-eq0
+returns-else-i-eq0 c = search rules
