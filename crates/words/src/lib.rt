@@ -2,9 +2,11 @@
 // programs that replay the oracle's answers and count how many are the same. A word that is no number reads as some number.
 #![tactic(auto)]
 
-ghost use Rattle.std.specs.Prelude.{◌≡◌, ◌≤◌, ◌<◌, length};
+ghost use Rattle.std.specs.Prelude.{◌≡◌, ◌≤◌, ◌<◌, length, IfOk};
 
-use libc::{STDIN_FILENO, STDOUT_FILENO};
+use filling::read_full;
+use std::io;
+use std::io::{Print, Read};
 
 // Where what starts at `at` is ended by byte 10 or by `other`, or the text's end.
 fn piece_end(s: &[u8], at: usize, other: u8) -> usize
@@ -138,18 +140,19 @@ pub fn bytes(s: &[u8], at: usize, out: &mut [u8]) -> usize
     n
 }
 
-// Moves what stands from `from` to `to` to the front of the buffer, reads standard input behind it until the buffer is full or the
-// input ends, and answers where what was read ends.
-pub fn refill(buf: &mut [u8], from: usize, to: usize) -> usize
+// Moves what stands from `from` to `to` to the front of the buffer, reads the input behind it until the buffer is full or the input ends, and answers
+// where what was read ends. Where a read fails its error is answered, and of the buffer only its length is promised.
+pub fn refill<R: Read>(input: &mut R, buf: &mut [u8], from: usize, to: usize) -> io::Result<usize>
     requires { (from ≤ to) × (to ≤ length buf.old) }
-    ensures { (length buf.new ≡ length buf.old) × (result ≤ length buf.old) }
+    ensures len { length buf.new ≡ length buf.old }
+    ensures ends { IfOk result (λ n. n ≤ length buf.old) }
 {
     let kept = to - from;
     for i in 0..kept {
         buf[i] = buf[from + i];
     }
-    let got = io::read_full(STDIN_FILENO, &mut buf[kept..]);
-    kept + got
+    let got = read_full(input, &mut buf[kept..])?;
+    Ok(kept + got)
 }
 
 // How many answers are the same as the oracle's, and how many are not.
@@ -184,11 +187,10 @@ impl Tally {
         }
     }
 
-    // Writes both numbers as a line.
-    pub fn print(self) {
-        io::print_decimal(STDOUT_FILENO, self.same);
-        io::write_all(STDOUT_FILENO, b" same, ");
-        io::print_decimal(STDOUT_FILENO, self.other);
-        io::write_all(STDOUT_FILENO, b" other\n");
+    // Writes both numbers as a line. Where a write fails its error is answered, and a part of the line may have been written.
+    pub fn print<P: Print>(self, out: &P) -> io::Result<()> {
+        let same = self.same;
+        let other = self.other;
+        println!(out; "{same} same, {other} other")
     }
 }

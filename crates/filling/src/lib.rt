@@ -1,0 +1,31 @@
+// Reading until a buffer is full.
+#![tactic(auto)]
+
+ghost use Rattle.std.specs.Prelude.{◌≡◌, ◌≤◌, length, IfOk};
+
+use std::io;
+use std::io::{ErrorKind, Read};
+
+// Reads until the buffer is full or the input ends, and answers how many bytes stand at its front. A read that a signal interrupts is made again. Where a
+// read fails its error is answered, and what the buffer then holds is not promised but for its length.
+pub fn read_full<R: Read>(input: &mut R, buf: &mut [u8]) -> io::Result<usize>
+    ensures len { length buf.new ≡ length buf.old }
+    ensures bound { IfOk result (λ n. n ≤ length buf.old) }
+{
+    let mut done = 0;
+    for _ in 0..u64::MAX {
+        if done >= buf.len() {
+            break;
+        }
+        match input.read(&mut buf[done..]) {
+            Ok(0) => break,
+            Ok(n) => done += n,
+            Err(e) => {
+                if e.kind() != ErrorKind::Interrupted {
+                    return Err(e);
+                }
+            }
+        }
+    }
+    Ok(done)
+}
