@@ -1,12 +1,12 @@
 -- The texts of document 01's examples, and a pixel as one number.
 use mathlib.Core.Path.{◌≡◌, refl}
-use mathlib.Core.List.{List, [], ◌∷◌, ◌++◌}
+use mathlib.Core.List.{[], ◌∷◌, ◌++◌}
 use Prim.Native.Nat.{ℕ, ◌+◌, ◌*◌, ◌/◌, ◌%◌, ◌<◌}
 use native.Mathlib.Omega.{arith}
 use mathlib.Core.Bool.{false}
 use lib.IntN.{pos}
 use lib.ListN.{replicate}
-use lib.Ieee.{nan, inf, fin, binary64, to_bits}
+use lib.Ieee.{nan, inf, fin}
 use Rattle.digits.specs.Written.{decimal, hex_of}
 use Rattle.output.specs.Output.{each, picture_text, refusal_text, totals_text, clipped_text}
 
