@@ -20,9 +20,9 @@ pub struct Totals {
     pub tgv: f64,
 }
 
-// Job 3: the first_order term, then the second_order term, on the buffers of all channels. The plane is only read.
+// Job 3: the first-order term, then the second-order term, on the buffers of all channels. The plane is only read.
 // Returned are the totals of both.
-// Rules out: the second_order term of the differences before this step's, the divisor √n left out, and a held channel read or written.
+// Rules out: the second-order term of the differences before this step's, the divisor √n left out, and a held channel read or written.
 pub fn blend(
     plane: &[f32],
     gradient: &mut [f32],

@@ -1,4 +1,4 @@
-// scalar/tgv.rs, `tgv_gradient` and `tgv_gradient_px`: the second_order term. The buffers have document 01's names: gradient is obj_gradient,
+// scalar/tgv.rs, `tgv_gradient` and `tgv_gradient_px`: the second-order term. The buffers have document 01's names: gradient is obj_gradient,
 // across and down are pixel_diff.x and pixel_diff.y.
 ghost use Rattle.std.specs.Prelude.{◌≡◌, ◌-◌, ◌*◌, ◌<◌, ◌≤◌, length};
 ghost use Rattle.std.specs.Float.Ieee.{neg};

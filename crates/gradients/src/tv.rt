@@ -1,4 +1,4 @@
-// scalar/tv.rs, `tv_gradient` and `tv_gradient_px`: the first_order term. The buffers have document 01's names: plane is fdata, gradient is obj_gradient,
+// scalar/tv.rs, `tv_gradient` and `tv_gradient_px`: the first-order term. The buffers have document 01's names: plane is fdata, gradient is obj_gradient,
 // across and down are pixel_diff.x and pixel_diff.y.
 ghost use Rattle.std.specs.Prelude.{◌≡◌, ◌<◌, ◌≤◌, length};
 ghost use Rattle.gradients.specs.Held.{flag};

@@ -1,0 +1,26 @@
+use borrow.Author.Rules.{rules}
+use native.Mathlib.Omega.{arith}
+use Rattle.fold.proofs.Loops.{upto-call, upto-end}
+use Rattle.fold.specs.Fold.{upto}
+use Rattle.gradients.specs.Tgv.{tgv_differences, tgv_differences_at}
+use Rattle.gradients.proofs.tgv.differences.Goals as goal
+
+pub loop-c-init : goal.loop-c-init
+unfolding upto
+loop-c-init c = search rules
+
+-- a held channel's are left
+pub loop-c-preserved-then-held-c : goal.loop-c-preserved-then-held-c
+loop-c-preserved-then-held-c c = (search rules, upto-call _ _ _ c.before.before.loop-c.invariant.1 (rw c.if-held-c.true))
+
+pub loop-c-preserved : goal.loop-c-preserved
+unfolding tgv_differences_at
+loop-c-preserved c = (
+  search rules,
+  upto-call _ _ _ c.before.before.before.before.before.before.before.loop-c.invariant.1
+      (rw (c.before.before.before.before.before.if-held-c.false, c.midpoint.ensures, c.before.before.before.before.difference.ensures, c.before.before.before.difference-g_yx.ensures, c.before.before.difference-in-loop-c.ensures, c.before.difference-g_xy.ensures, c.before.before.before.before.before.before.before.before.before.prev-left.ensures, c.before.before.before.before.before.before.before.before.prev-above.ensures)),
+)
+
+pub returns : goal.returns
+unfolding tgv_differences
+returns c = upto-end _ _ _ _ c.before.loop-c.invariant.1 (omega arith)

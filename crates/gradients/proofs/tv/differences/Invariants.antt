@@ -1,0 +1,12 @@
+use Prim.Native.Nat.{◌-◌, ◌≤◌}
+use mathlib.Core.Path.{◌≡◌}
+use Rattle.fold.specs.Fold.{upto}
+use Rattle.gradients.specs.Held.{live, flag}
+use Rattle.gradients.specs.Tv.{tv_differences_at}
+use Rattle.gradients.proofs.tv.differences.Given as goal
+
+abbrev pub invariant-loop-c : goal.invariant-loop-c
+invariant-loop-c l = (l.c ≤ l.n) × (record { g_xs = l.g_xs; g_ys = l.g_ys } ≡ upto (live (flag l.held) (tv_differences_at l.g.w l.g.h l.plane l.y l.x)) l.c (record { g_xs = l.initial.g_xs; g_ys = l.initial.g_ys }))
+
+abbrev pub decreases-loop-c : goal.decreases-loop-c
+decreases-loop-c l = l.n - l.c
