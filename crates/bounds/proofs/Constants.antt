@@ -157,7 +157,7 @@ step_size_most W H N weight step h =
     two_floor)
     (root_one N)
 
--- the second_order weight of a weight of at most 1 is at most 1
+-- the second-order weight of a weight of at most 1 is at most 1
 pub second_weight_most : (W H N : ℕ) (weight : Float) (step : ℕ) → Most (2 ^ 149) weight → Most (2 ^ 149) (constants W H N weight step).second
 unfolding constants
 second_weight_most W H N weight step h =

@@ -1,4 +1,4 @@
--- The first_order gradient: its differences are at most twice the plane's values, and each pixel adds at most 2 ^ 4 to a place, three times a channel.
+-- The first-order gradient: its differences are at most twice the plane's values, and each pixel adds at most 2 ^ 4 to a place, three times a channel.
 use mathlib.Core.Path.{◌≡◌, refl, sym, ap, ◌∙◌, subst}
 use mathlib.Core.Bool.{Bool, true, false, cond}
 use mathlib.Core.List.{List}

@@ -31,7 +31,7 @@ rows f =
     replicate 8 (f 0) ++ (replicate 8 (f 1) ++ (replicate 8 (f 2) ++ (replicate 8 (f 3)
     ++ (replicate 8 (f 4) ++ (replicate 8 (f 5) ++ (replicate 8 (f 6) ++ replicate 8 (f 7)))))))
 
--- the first_order term of the plane whose values are 2 × row, one channel, onto zeros
+-- the first-order term of the plane whose values are 2 × row, one channel, onto zeros
 abbrev pub slope : Terms
 slope = tv_gradient 8 8 1 (λ c. false) (rows (λ y. float (y * 2))) (record { gradient = replicate 64 f0; across = replicate 64 f0; down = replicate 64 f0 })
 
@@ -84,7 +84,7 @@ pub record Table : Type 0 where
   pub start_once : (aux_init Once wide 16 8).plane ≡ lit ++ (lit ++ (lit ++ (lit ++ (lit ++ (lit ++ (lit ++ lit))))))
   -- "factor 0.5, plane 3, prior 1: push gives 4 and 3"
   pub push_gives : pushed (fin false 1 (negsuc 0)) (record { plane = float 3 ∷ []; prior = f1 ∷ [] }) ≡ record { plane = float 4 ∷ []; prior = float 3 ∷ [] }
-  -- "8 by 8 plane, each value 2 × row, one channel: first_order gradient −1 in row 0, 1 in row 7, else 0. Second order with second_order
+  -- "8 by 8 plane, each value 2 × row, one channel: first-order gradient −1 in row 0, 1 in row 7, else 0. Second order with second-order
   -- weight 1 adds −1 in row 6, 2 in row 7"
   pub first_order : slope.gradient ≡ replicate 8 (neg f1) ++ (replicate 48 f0 ++ replicate 8 f1)
   pub second_order : tgv_gradient 8 8 1 (λ c. false) f1 slope.across slope.down slope.gradient

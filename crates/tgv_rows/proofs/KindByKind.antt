@@ -1,4 +1,4 @@
--- The second_order term's row, pixel by pixel, is its changes kind by kind: right, own place, left; above right, above; below, below left.
+-- The second-order term's row, pixel by pixel, is its changes kind by kind: right, own place, left; above right, above; below, below left.
 use mathlib.Core.Path.{◌≡◌, refl, ap, ap₂, ◌∙◌, sym}
 use mathlib.Core.Logic.{◌≢◌}
 use mathlib.Core.Bool.{Bool, true, false, cond, ◌||◌}

@@ -1,4 +1,4 @@
--- A row of the second_order term: what the code does row by row is `tgv_gradient_row`.
+-- A row of the second-order term: what the code does row by row is `tgv_gradient_row`.
 use mathlib.Core.Path.{◌≡◌, refl, ap, ap₂, ◌∙◌, sym}
 use mathlib.Core.Bool.{Bool, true, false, cond, ◌||◌}
 use mathlib.Core.List.{List}

@@ -1,4 +1,4 @@
--- A row of the second_order term: its differences of differences, its norms, and its changes of channel c kind by kind.
+-- A row of the second-order term: its differences of differences, its norms, and its changes of channel c kind by kind.
 use Rattle.std.specs.Prelude.{List, ℕ, ◌+◌, ◌-◌, ◌*◌, Float}
 use Rattle.std.specs.Float.Ieee.{neg}
 use Rattle.fold.specs.Fold.{upto}

@@ -1,4 +1,4 @@
--- The first_order term's row, pixel by pixel, is its changes kind by kind: right, own place, below.
+-- The first-order term's row, pixel by pixel, is its changes kind by kind: right, own place, below.
 use mathlib.Core.Path.{◌≡◌, refl, ap, ap₂, ◌∙◌, sym}
 use mathlib.Core.Logic.{◌≢◌}
 use mathlib.Core.Bool.{Bool, true, false, cond, not}

@@ -1,4 +1,4 @@
--- A row of the first_order term: what the code does row by row is `tv_gradient_row`.
+-- A row of the first-order term: what the code does row by row is `tv_gradient_row`.
 use mathlib.Core.Path.{◌≡◌, refl, ap, ap₂, ◌∙◌, sym}
 use mathlib.Core.List.{List}
 use mathlib.Core.Bool.{true, false}

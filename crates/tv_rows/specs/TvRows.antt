@@ -1,4 +1,4 @@
--- A row of the first_order term: its differences, its norms by the kept differences, and its changes of channel c kind by kind.
+-- A row of the first-order term: its differences, its norms by the kept differences, and its changes of channel c kind by kind.
 use Rattle.std.specs.Prelude.{List, ℕ, ◌+◌, Float}
 use Rattle.std.specs.Float.{binary64}
 use Rattle.std.specs.Float.Ieee.{neg}
