@@ -1,13 +1,13 @@
 -- Steps that commute, and loops of them taken apart: a loop of two steps is two loops, where no step of the tgv_differences kind has to
 -- come before a later one of the first.
-use mathlib.Core.Path.{◌≡◌, refl, ap, ap₂, ◌∙◌, sym}
+use mathlib.Core.Path.{◌≡◌, refl, ap, ◌∙◌, sym}
 use mathlib.Core.Logic.{◌≢◌}
 use mathlib.Core.Bool.{Bool, true, false, cond, ◌||◌}
 use mathlib.Core.List.{List}
-use Prim.Native.Nat.{ℕ, zero, suc, ◌+◌, ◌-◌, ◌≤◌, ◌<◌}
-use native.Mathlib.Nat.{le_refl, add-suc, add_comm}
+use Prim.Native.Nat.{ℕ, zero, suc, ◌+◌, ◌<◌}
+use native.Mathlib.Nat.{le_refl}
 use native.Mathlib.Omega.{arith}
-use lib.ListN.{set, get_or}
+use lib.ListN.{set}
 use lib.Seq.{get_or-set_other, set_comm}
 use lib.Ieee.{Float, nan, eq}
 use Rattle.fold.specs.Fold.{upto}

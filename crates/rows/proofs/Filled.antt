@@ -1,23 +1,22 @@
 -- Rows of stored values: what stands where after all channels' rows are stored, and the rows that the code stores with their edges.
-use mathlib.Core.Path.{◌≡◌, refl, ap, ap₂, ◌∙◌, sym}
+use mathlib.Core.Path.{◌≡◌, refl, ◌∙◌, sym}
 use mathlib.Core.Logic.{◌≢◌, ◌⊎◌, inl, inr}
-use mathlib.Core.Bool.{Bool, true, false, cond}
+use mathlib.Core.Bool.{Bool, true, false}
 use mathlib.Core.List.{List}
-use Prim.Native.Nat.{ℕ, zero, suc, ◌+◌, ◌-◌, ◌*◌, ◌≤◌, ◌<◌}
+use Prim.Native.Nat.{ℕ, zero, suc, ◌+◌, ◌*◌, ◌≤◌, ◌<◌}
 use native.Mathlib.Nat.{le_refl, le_antisymm, mul_comm}
 use native.Mathlib.Omega.{arith}
-use borrow.Author.Tests.{le-leb, lt-leb, ne_eqb, ltb-true, ltb-false}
+use borrow.Author.Tests.{ltb-true, ltb-false}
 use lib.Dec.{ltb}
-use lib.ListN.{length, set, get_or, length-set}
+use lib.ListN.{length, set, length-set}
 use lib.Seq.{get_or-set_same, get_or-set_other}
 use lib.Ieee.{Float, nan}
 use Rattle.fold.specs.Fold.{upto}
-use Rattle.fold.proofs.Loops.{upto_ext, upto_add, upto-keeps}
+use Rattle.fold.proofs.Loops.{upto-keeps}
 use Rattle.fold.proofs.Local.{local_at}
 use Rattle.fold.proofs.Grid.{row_end}
 use Rattle.float.specs.Names.{◌⊖◌, f0, val}
-use Rattle.gradients.specs.Tv.{px_idx, right_edge, bottom_edge, difference}
-use Rattle.gradients.specs.Tgv.{left_edge, top_edge}
+use Rattle.gradients.specs.Tv.{px_idx, difference}
 use Rattle.rows.specs.Rows.{store_from, keep_row}
 use Rattle.rows.proofs.Places.{px_before}
 

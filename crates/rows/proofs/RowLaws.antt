@@ -1,14 +1,13 @@
 -- Rows of a buffer: what a loop over one leaves, and the loops of changes with their edges.
 use mathlib.Core.Path.{◌≡◌, refl, ap, ap₂, ◌∙◌, sym}
-use mathlib.Core.Logic.{◌≢◌}
-use mathlib.Core.Bool.{Bool, true, false, cond, ◌||◌}
+use mathlib.Core.Bool.{Bool, true, false, ◌||◌}
 use mathlib.Core.List.{List}
-use Prim.Native.Nat.{ℕ, zero, suc, ◌+◌, ◌-◌, ◌*◌, ◌≤◌, ◌<◌}
+use Prim.Native.Nat.{ℕ, ◌+◌, ◌-◌, ◌≤◌, ◌<◌}
 use native.Mathlib.Nat.{zero-add, le_refl}
 use native.Mathlib.Omega.{arith}
 use borrow.Author.Tests.{le-leb, lt-leb, ne_eqb, ltb-true, ltb-false, not-false}
-use lib.Dec.{leb, eqb, ltb}
-use lib.ListN.{length, set, get_or, length-set}
+use lib.Dec.{ltb}
+use lib.ListN.{length, set, length-set}
 use lib.Seq.{get_or-set_same, get_or-set_other}
 use lib.Ieee.{Float, nan, eq, ne}
 use Rattle.fold.specs.Fold.{upto}
@@ -17,7 +16,7 @@ use Rattle.fold.proofs.Local.{local_at}
 use Rattle.float.specs.Names.{f0, val}
 use Rattle.gradients.specs.Tv.{px_idx, right_edge, bottom_edge}
 use Rattle.gradients.specs.Tgv.{left_edge, top_edge}
-use Rattle.rows.specs.Rows.{Row, Idle, store_from, hit, hit_at, own_row, right_row, left_row, below_row, above_row, above_right_row, below_left_row, none}
+use Rattle.rows.specs.Rows.{Row, Idle, store_from, hit, hit_at, own_row, right_row, left_row, below_row, above_row, above_right_row, below_left_row}
 use Rattle.rows.proofs.Commute.{upto_idle, upto_last, upto_first, hit_edge, hit_off}
 
 -- xs[x] = F x xs[x]
