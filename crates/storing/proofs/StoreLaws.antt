@@ -2,7 +2,6 @@
 use Prim.Native.Nat.{ℕ, ◌+◌, ◌<◌, ◌≤◌}
 use mathlib.Core.Path.{◌≡◌, refl, sym}
 use mathlib.Core.List.{List, [], ◌∷◌}
-use mathlib.Core.Logic.{⊎_elim}
 use native.Mathlib.Omega.{arith}
 use lib.ListN.{length, set}
 use lib.Seq.{set_out}
@@ -11,9 +10,6 @@ use lib.Signed.{mag}
 use mir.Syntax.{w16}
 use mir.Val.{to_z, of_z}
 use mir.Facts.{to_z-of_z}
-use denote.Enum.Declared.{tag_of}
-use types.Run.{OneOf}
-use Rattle.text.specs.contracts.field.Field.{the_type}
 use Rattle.text.specs.declared.field.Field.{Field}
 use Rattle.text.specs.declared.field.Field.TheVariants as field
 use Rattle.text.specs.Fields.{lows_in, highs_in, tables_in}
@@ -28,33 +24,28 @@ stored_full l n v h = record { next = omega arith; last = sym (set_out l n v h) 
 stored_one : {A : Type 0} (l : List A) (n : ℕ) (v : A) → Stored l (set l n v) n (n + 1) (v ∷ [])
 stored_one l n v = record { next = omega arith; last = refl }
 
--- none of four, and none of five
-four : {t a b c d : ℕ} → (t ≡ a → ⊥) → (t ≡ b → ⊥) → (t ≡ c → ⊥) → (t ≡ d → ⊥) → OneOf (a ∷ b ∷ c ∷ d ∷ []) t → ⊥
-four p q r s h = ⊎_elim p (⊎_elim q (⊎_elim r s)) h
-
--- a field that adds nothing to the lows: bad, a quantiser, the highest of a range, or another
-pub no_low : (f : Field) (n : ℕ) (l : List ℤ) → OneOf (0 ∷ 1 ∷ 4 ∷ 5 ∷ []) (tag_of the_type f) → Stored l l n n (lows_in f)
-no_low (field.Bad k) n l h = stored_none l n
-no_low (field.Quantiser q) n l h = stored_none l n
-no_low (field.Level z) n l h = absurd (four (λ e. omega arith) (λ e. omega arith) (λ e. omega arith) (λ e. omega arith) h)
-no_low (field.Low z) n l h = absurd (four (λ e. omega arith) (λ e. omega arith) (λ e. omega arith) (λ e. omega arith) h)
-no_low (field.High z) n l h = stored_none l n
-no_low field.Good n l h = stored_none l n
+-- a field that adds nothing to the lows: neither a level nor the lowest of a range
+pub no_low : (f : Field) (n : ℕ) (l : List ℤ) → ((z : ℤ) → f ≡ field.Level z → ⊥) → ((z : ℤ) → f ≡ field.Low z → ⊥) → Stored l l n n (lows_in f)
+no_low (field.Bad k) n l h g = stored_none l n
+no_low (field.Quantiser q) n l h g = stored_none l n
+no_low (field.Level z) n l h g = absurd (h z refl)
+no_low (field.Low z) n l h g = absurd (g z refl)
+no_low (field.High z) n l h g = stored_none l n
+no_low field.Good n l h g = stored_none l n
 
 -- and one that adds nothing to the highs
-pub no_high : (f : Field) (n : ℕ) (l : List ℤ) → OneOf (0 ∷ 1 ∷ 3 ∷ 5 ∷ []) (tag_of the_type f) → Stored l l n n (highs_in f)
-no_high (field.Bad k) n l h = stored_none l n
-no_high (field.Quantiser q) n l h = stored_none l n
-no_high (field.Level z) n l h = absurd (four (λ e. omega arith) (λ e. omega arith) (λ e. omega arith) (λ e. omega arith) h)
-no_high (field.Low z) n l h = stored_none l n
-no_high (field.High z) n l h = absurd (four (λ e. omega arith) (λ e. omega arith) (λ e. omega arith) (λ e. omega arith) h)
-no_high field.Good n l h = stored_none l n
+pub no_high : (f : Field) (n : ℕ) (l : List ℤ) → ((z : ℤ) → f ≡ field.Level z → ⊥) → ((z : ℤ) → f ≡ field.High z → ⊥) → Stored l l n n (highs_in f)
+no_high (field.Bad k) n l h g = stored_none l n
+no_high (field.Quantiser q) n l h g = stored_none l n
+no_high (field.Level z) n l h g = absurd (h z refl)
+no_high (field.Low z) n l h g = stored_none l n
+no_high (field.High z) n l h g = absurd (g z refl)
+no_high field.Good n l h g = stored_none l n
 
 -- no quantiser
-pub no_table : (f : Field) (n : ℕ) (t : List ℕ) → OneOf (0 ∷ 2 ∷ 3 ∷ 4 ∷ 5 ∷ []) (tag_of the_type f) → Stored t t n n (tables_in f)
+pub no_table : (f : Field) (n : ℕ) (t : List ℕ) → ((q : ℕ) → f ≡ field.Quantiser q → ⊥) → Stored t t n n (tables_in f)
 no_table (field.Bad k) n t h = stored_none t n
-no_table (field.Quantiser q) n t h =
-    let y : ⊥ = ⊎_elim (λ e. omega arith) (⊎_elim (λ e. omega arith) (⊎_elim (λ e. omega arith) (⊎_elim (λ e. omega arith) (λ e. omega arith)))) h in absurd y
+no_table (field.Quantiser q) n t h = absurd (h q refl)
 no_table (field.Level z) n t h = stored_none t n
 no_table (field.Low z) n t h = stored_none t n
 no_table (field.High z) n t h = stored_none t n
