@@ -1,0 +1,29 @@
+use borrow.Author.Rules.{rules}
+use native.Mathlib.Omega.{arith}
+use Rattle.fold.proofs.Loops.{upto-call, upto-end}
+use Rattle.fold.specs.Fold.{upto}
+use Rattle.start.proofs.Cover.{own_fits}
+use Rattle.fidelity.specs.DctGradient.{dct_gradient, gradient_block}
+use Rattle.fidelity.proofs.dct_gradient.dct_gradient.Goals as goal
+
+pub loop-by-init : goal.loop-by-init
+unfolding upto
+loop-by-init c = search rules
+
+pub loop-bx-init : goal.loop-bx-init
+unfolding upto
+loop-bx-init c = search rules
+
+pub cosbs_of-cosbs-requires : goal.cosbs_of-cosbs-requires
+cosbs_of-cosbs-requires c = let a = c.args in omega (arith, own_fits a.o a.w a.h c.requires.0)
+
+pub loop-bx-preserved : goal.loop-bx-preserved
+unfolding gradient_block
+loop-bx-preserved c = (search rules, search rules, upto-call _ _ _ c.loop-bx.invariant.2 (rw (← c.block_index-i.ensures.0, ← c.cosbs_of-cosbs.ensures) c.spread_block.ensures))
+
+pub loop-by-preserved : goal.loop-by-preserved
+loop-by-preserved c = (search rules, search rules, upto-call _ _ _ c.loop-by.invariant.2 (upto-end _ _ _ _ c.loop-bx.invariant.2 (omega arith)))
+
+pub returns : goal.returns
+unfolding dct_gradient
+returns c = upto-end _ _ _ _ c.loop-by.invariant.2 (omega arith)
