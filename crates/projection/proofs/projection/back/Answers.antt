@@ -1,0 +1,23 @@
+use Rattle.std.proofs.Common.{arith, rules}
+use Rattle.fold.proofs.Loops.{upto-call, upto-end}
+use Rattle.fold.specs.Fold.{upto}
+use Rattle.projection.specs.Projection.{back}
+use Rattle.projection.proofs.projection.back.Goals as goal
+
+pub loop-cy-init : goal.loop-cy-init
+unfolding upto
+loop-cy-init c = search rules
+
+pub loop-cx-init : goal.loop-cx-init
+unfolding upto
+loop-cx-init c = search rules
+
+pub loop-cx-preserved : goal.loop-cx-preserved
+loop-cx-preserved c = (search rules, search rules, upto-call _ _ _ c.loop-cx.invariant.2 (rw c.own_px-k.ensures.0 at c.add_to.ensures))
+
+pub loop-cy-preserved : goal.loop-cy-preserved
+loop-cy-preserved c = (search rules, search rules, upto-call _ _ _ c.loop-cy.invariant.2 (upto-end _ _ _ _ c.loop-cx.invariant.2 (omega arith)))
+
+pub returns : goal.returns
+unfolding back
+returns c = upto-end _ _ _ _ c.loop-cy.invariant.2 (omega arith)
