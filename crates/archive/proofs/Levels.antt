@@ -1,6 +1,6 @@
 -- A level's range, and which sums and differences fit.
 use mathlib.Core.Path.{◌≡◌, refl, sym}
-use mathlib.Core.Bool.{Bool, true, false, cond, ◌&&◌}
+use mathlib.Core.Bool.{Bool, true, false, cond}
 use mathlib.Core.List.{List}
 use Prim.Native.Nat.{ℕ, zero, suc, ◌+◌, ◌-◌, ◌%◌, ◌<◌, ◌≤◌}
 use native.Mathlib.Omega.{arith}
@@ -48,7 +48,7 @@ pub widened : (z : ℤ) → SFits w16 z → SFits w32 (to_z w16 (of_z w16 z))
 widened z f = rw (to_z-of_z f) (sfits_widen tt f)
 
 pub widened_is : (z : ℤ) → SFits w16 z → to_z w32 (of_z w32 (to_z w16 (of_z w16 z))) ≡ z
-widened_is z f = rw (to_z-of_z f) (to_z-of_z (sfits_widen {w = w16} tt f))
+widened_is z f = rw (to_z-of_z f) (to_z-of_z {w = w32} (sfits_widen {w = w16} {w' = w32} tt f))
 
 -- a level and any stored value, as the code has them
 pub sum_fits : (a b : ℤ) → SFits w32 a → SFits w16 b → level_ok a ≡ true → SFits w32 (to_z w32 (of_z w32 a) +ℤ to_z w32 (of_z w32 (to_z w16 (of_z w16 b))))
