@@ -1,21 +1,19 @@
 -- The first-order term's row, pixel by pixel, is its changes kind by kind: right, own place, below.
 use mathlib.Core.Path.{◌≡◌, refl, ap, ap₂, ◌∙◌, sym}
-use mathlib.Core.Logic.{◌≢◌}
 use mathlib.Core.Bool.{Bool, true, false, cond, not}
 use mathlib.Core.List.{List}
-use Prim.Native.Nat.{ℕ, zero, suc, ◌+◌, ◌-◌, ◌*◌, ◌≤◌, ◌<◌}
-use native.Mathlib.Nat.{mul_comm, le_refl, add-mul, one-mul}
+use Prim.Native.Nat.{ℕ, ◌+◌, ◌-◌, ◌*◌, ◌≤◌, ◌<◌}
+use native.Mathlib.Nat.{le_refl}
 use native.Mathlib.Omega.{arith}
 use borrow.Author.Tests.{leb-false}
-use lib.ListN.{length, set, replicate, length-replicate}
+use lib.ListN.{set, replicate, length-replicate}
 use lib.Ieee.{Float, nan, neg, eq, ne}
 use Rattle.fold.specs.Fold.{upto}
 use Rattle.fold.proofs.Loops.{upto_ext}
 use Rattle.fold.proofs.Stores.{stored-at}
-use Rattle.fold.proofs.Grid.{row_end}
 use Rattle.float.specs.Names.{◌⊕◌, ◌⊘◌, f0, val}
 use Rattle.gradients.specs.declared.tv.Forward.{Forward}
-use Rattle.gradients.specs.Tv.{Terms, px_idx, right_edge, bottom_edge, difference, bump, bump_unless, tv_differences, tv_differences_at, g_norm_of, tv_channel_derivatives, tv_derivatives, tv_derivatives_at}
+use Rattle.gradients.specs.Tv.{px_idx, right_edge, bottom_edge, bump, bump_unless, tv_differences, tv_differences_at, tv_channel_derivatives, tv_derivatives, tv_derivatives_at}
 use Rattle.rows.specs.Rows.{hit, own_row, right_row, below_row, none}
 use Rattle.tv_rows.specs.TvRows.{across_of, down_of, tv_turn, tv_kinds}
 use Rattle.rows.proofs.Places.{upto_part, next_row, px_before}

@@ -1,14 +1,13 @@
 -- The rows of differences that the code stores, with their edges.
-use mathlib.Core.Path.{◌≡◌, refl, ap, ap₂, ◌∙◌, sym}
+use mathlib.Core.Path.{◌≡◌, ap, ◌∙◌, sym}
 use mathlib.Core.Bool.{true, false}
 use mathlib.Core.List.{List}
-use Prim.Native.Nat.{ℕ, suc, ◌+◌, ◌-◌, ◌≤◌, ◌<◌}
+use Prim.Native.Nat.{ℕ, suc, ◌+◌, ◌-◌, ◌<◌}
 use native.Mathlib.Omega.{arith}
-use borrow.Author.Tests.{le-leb, lt-leb, ne_eqb}
-use lib.ListN.{length, set}
+use borrow.Author.Tests.{le-leb, lt-leb}
 use lib.Ieee.{Float}
 use Rattle.fold.specs.Fold.{upto}
-use Rattle.fold.proofs.Loops.{upto_ext, upto_add}
+use Rattle.fold.proofs.Loops.{upto_ext}
 use Rattle.float.specs.Names.{◌⊖◌, f0, val}
 use Rattle.gradients.specs.Tv.{px_idx, right_edge, bottom_edge}
 use Rattle.rows.specs.Rows.{store_from, keep_row}

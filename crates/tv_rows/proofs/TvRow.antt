@@ -13,7 +13,7 @@ use Rattle.float.specs.Ops.{fused_at, root, square}
 use Rattle.float.specs.Names.{◌⊕◌, ◌⊘◌, f0, val}
 use Rattle.gradients.specs.declared.tv.Forward.{Forward}
 use Rattle.gradients.specs.Tv.{Terms, px_idx, right_edge, bottom_edge, tv_differences, g_norm_at, g_norm_of, store, store_at, tv_derivatives, tv_gradient_px, tv_gradient_row, tv_total_px, tv_total_row}
-use Rattle.rows.specs.Rows.{Row, keep_row, own_row, right_row, below_row, none}
+use Rattle.rows.specs.Rows.{keep_row, own_row, right_row, below_row, none}
 use Rattle.tv_rows.specs.TvRows.{across_of, down_of, tv_squares, tv_norms, tv_turn, tv_kinds, tv_totals, kept_in}
 use Rattle.rows.proofs.Commute.{turned, upto_idle}
 use Rattle.rows.proofs.RowLaws.{hit_same, hits_idle, hits_then, at_px}

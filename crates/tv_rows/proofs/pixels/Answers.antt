@@ -1,0 +1,23 @@
+use mathlib.Core.Path.{◌∙◌}
+use native.Mathlib.Omega.{arith}
+use Rattle.fold.specs.Fold.{upto}
+use Rattle.fold.proofs.Loops.{upto-call, upto-end}
+use Rattle.float.specs.Names.{val}
+use Rattle.tv_rows.specs.TvRows.{kept_in}
+use Rattle.tv_rows.proofs.KindByKind.{tv-kinds}
+use borrow.Author.Rules.{rules}
+use Rattle.tv_rows.proofs.pixels.Goals as goal
+
+pub loop-x-init : goal.loop-x-init
+unfolding upto
+loop-x-init c = search rules
+
+pub loop-x-preserved : goal.loop-x-preserved
+loop-x-preserved c = (search rules, search rules, upto-call _ _ _ c.loop-x.invariant.2 c.pixel.ensures)
+
+pub returns : goal.returns
+returns c =
+    let a = c.args in
+    let p = c.requires in
+    upto-end _ _ _ _ c.loop-x.invariant.2 (omega arith)
+    ∙ tv-kinds a.g.w a.g.h a.alpha (λ x. val a.norm.now x) (kept_in a.g.w a.g.h a.across.now a.y) (kept_in a.g.w a.g.h a.down.now a.y) a.y p.0 a.g.n a.gradient.now
