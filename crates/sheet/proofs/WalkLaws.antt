@@ -3,7 +3,6 @@ use Prim.Native.Nat.{ℕ, zero, suc, ◌+◌, ◌-◌, ◌^◌, ◌<◌, ◌≤�
 use mathlib.Core.Path.{◌≡◌, refl, sym, ap, ◌∙◌}
 use mathlib.Core.List.{List, [], ◌∷◌, ◌++◌, append-nil}
 use mathlib.Core.Bool.{Bool, true, false, not, cond, ◌&&◌, ◌||◌}
-use mathlib.Core.Logic.{⊎_elim}
 use mathlib.Core.Option.{none, some}
 use native.Mathlib.Numerals.{add-one}
 use native.Mathlib.Nat.{zero-add}
@@ -13,9 +12,6 @@ use lib.Seq.{drop-cons, drop-drop, sets, length-sets, get_or-set_same, get_or-se
 use lib.Dec.{eqb}
 use lib.IntN.{ℤ}
 use borrow.Author.Tests.{eq-eqb, ne_eqb, lt-ltb, le-ltb, eqb-true, eqb-false}
-use denote.Enum.Declared.{tag_of}
-use types.Run.{OneOf}
-use Rattle.text.specs.contracts.field.Field.{the_type}
 use Rattle.text.specs.declared.field.Rule.{Rule}
 use Rattle.text.specs.declared.field.Rule.TheVariants as rule
 use Rattle.text.specs.declared.field.Field.{Field}
@@ -121,9 +117,9 @@ module _ (t : ℕ) (limits : Limits) (top : Header) (fs : List (List ℕ)) (e : 
   unfolding rules_of
   end_tables = rw e (tables_without end_rules fs refl)
 
-pub good_field : (f : Field) → OneOf (1 ∷ 2 ∷ 3 ∷ 4 ∷ 5 ∷ []) (tag_of the_type f) → fault_in f ≡ none
-good_field (field.Bad k) h =
-    let y : ⊥ = ⊎_elim (λ e. omega arith) (⊎_elim (λ e. omega arith) (⊎_elim (λ e. omega arith) (⊎_elim (λ e. omega arith) (λ e. omega arith)))) h in absurd y
+-- a field that is not bad
+pub good_field : (f : Field) → ((k : ℕ) → f ≡ field.Bad k → ⊥) → fault_in f ≡ none
+good_field (field.Bad k) h = absurd (h k refl)
 good_field (field.Quantiser q) h = refl
 good_field (field.Level z) h = refl
 good_field (field.Low z) h = refl
