@@ -31,7 +31,7 @@ use Rattle.lines.specs.Lines.{header_rules, channel_rules, end_rules, rules_of, 
 use Rattle.contents.specs.Marks.{block_of}
 use Rattle.contents.specs.Sheets.{Lent, lent, Marked, marked, Held, held, nothing, channels_of}
 use Rattle.progress.specs.Progress.{headed, blank, last_said, line_tag, with_setting, settled, placed, opened, covers, taken_if}
-use Rattle.sheet.specs.Reading.{Contents, contents, taken_of, nothing_left, on_taken, read_from, allowed, read_text}
+use Rattle.sheet.specs.Reading.{Contents, contents, nothing_left, on_taken, read_from, allowed, read_text}
 use Rattle.sheet.specs.Reading.Outcome.{Gives, Refused}
 use Rattle.grammar.specs.Written.{header_fields, channel_fields, block_fields, end_fields, setting_lines, block_lines, drop_held, channel_lines, mark_lines, written}
 use Rattle.grammar.specs.Accepts.{Accepts}

@@ -2,19 +2,18 @@
 use Prim.Native.Nat.{ℕ, zero, suc, ◌+◌, ◌*◌, ◌/◌, ◌<◌, ◌≤◌}
 use mathlib.Core.Path.{◌≡◌, refl, sym, ap, ◌∙◌, subst⁻¹}
 use mathlib.Core.List.{List, [], ◌∷◌, ◌++◌, append-nil, append_assoc}
-use mathlib.Core.Bool.{Bool, true, false, not, cond, ◌&&◌, ◌||◌}
+use mathlib.Core.Bool.{Bool, true, false, cond, ◌&&◌, ◌||◌}
 use mathlib.Core.Logic.{◌⊎◌, inl, inr}
 use mathlib.Core.Option.{none}
-use native.Mathlib.Nat.{le_trans, mul-le-mul}
+use native.Mathlib.Nat.{mul-le-mul}
 use native.Mathlib.Omega.{arith}
 use lib.Dec.{eqb, ltb}
 use lib.ListN.{length, get_or}
 use borrow.Author.Tests.{ltb-true, eqb-true, eqb-false, eq-eqb, ne_eqb}
 use Rattle.text.specs.declared.field.Rule.TheVariants as rule
-use Rattle.text.specs.Pieces.{split}
 use Rattle.text.specs.Numbers.{number_at}
 use Rattle.text.specs.Fields.{field_of, fault_in}
-use Rattle.digits.specs.Written.{decimal, joined, row_bytes}
+use Rattle.digits.specs.Written.{joined, row_bytes}
 use Rattle.digits.proofs.Both.{both_left, both_right}
 use Rattle.digits.proofs.Lengths.{decimal_length}
 use Rattle.text.proofs.SizeLaws.{decimal_grow}
@@ -26,13 +25,13 @@ use Rattle.contents.specs.declared.Mark.{Mark}
 use Rattle.contents.specs.declared.Sheet.{Sheet}
 use Rattle.contents.specs.Sheets.{Lent, Marked, marked, Held, held, channel_at}
 use Rattle.contents.specs.Marks.{blocks_in, blocks_before, all_blocks, block_of, has_block, among}
-use Rattle.contents.specs.Legal.{LegalChannel, LegalSheet, LegalMark, LegalMarks}
+use Rattle.contents.specs.Legal.{LegalSheet, LegalMark, LegalMarks}
 use Rattle.lines.specs.Lines.{mark_rules, mark_of, first_fault, holding}
 use Rattle.progress.specs.Progress.{placed, most_blocks, exists}
 use Rattle.grammar.specs.Written.{mark_fields}
 use Rattle.grammar.specs.Longest.{mark_sizes}
 use Rattle.sheet.proofs.WalkLaws.{among_more}
-use Rattle.lines.proofs.GoodLines.{fault_at, field_at, no_more, row_as, lows_without, highs_without, tables_without}
+use Rattle.lines.proofs.GoodLines.{fault_at, field_at, no_more, lows_without, highs_without, tables_without}
 use Rattle.grammar.proofs.RowLaws.{SmallMark}
 
 -- what is held, and a mark more

@@ -1,6 +1,6 @@
 -- A partner can't tell two texts apart that differ only in what is hidden; lines N change nothing of what the staff reads.
 use Prim.Native.Nat.{ℕ, suc}
-use mathlib.Core.Path.{◌≡◌, refl, sym, ap, ◌∙◌}
+use mathlib.Core.Path.{◌≡◌, refl, ap, ◌∙◌}
 use mathlib.Core.Bool.{Bool, true, false, cond}
 use mathlib.Core.List.{List, [], ◌∷◌}
 use lib.IntN.{ℤ, pos}
@@ -8,12 +8,11 @@ use lib.ListN.{length}
 use Rattle.contents.specs.declared.Limits.{Limits}
 use Rattle.contents.specs.declared.Sheet.{Sheet}
 use Rattle.contents.specs.declared.Reader.TheVariants as reader
-use Rattle.contents.specs.Sheets.{Lent, lent, Marked, Held, held}
+use Rattle.contents.specs.Sheets.{Lent, lent, Marked, held}
 use Rattle.contents.specs.Marks.{hidden, hide, seen_by}
-use Rattle.contents.specs.Legal.{LegalBlocks}
-use Rattle.sheet.specs.Reading.{Outcome, Contents, contents, read_text}
+use Rattle.sheet.specs.Reading.{Contents}
 use Rattle.sheet.specs.Reading.Outcome.{Gives, Refused}
-use Rattle.sheet.specs.Calls.{fits, fitted, reading, sheet_in, lent_after}
+use Rattle.sheet.specs.Calls.{fits, fitted, sheet_in, lent_after}
 use Rattle.grammar.specs.Partner.{SameShown, SameToPartner, PartnerBlind, StaffUnmarked}
 use Rattle.grammar.proofs.LegalLaws.{legal, legal_blocks}
 use Rattle.grammar.proofs.RoundTrip.{round_trip}

@@ -19,7 +19,6 @@ use Rattle.text.proofs.JoinLaws.{free, all_free, split_joined, joined_free, spli
 use Rattle.contents.specs.declared.Limits.{Limits}
 use Rattle.contents.specs.declared.Choice.{Choice}
 use Rattle.contents.specs.declared.Choice.TheVariants as choice
-use Rattle.contents.specs.declared.Hold.{Hold}
 use Rattle.contents.specs.declared.Hold.TheVariants as hold
 use Rattle.contents.specs.Hold.{measured, LegalHold}
 use Rattle.contents.proofs.HoldLaws.{measured_most}
