@@ -1,16 +1,15 @@
 -- What a legal record tells of its sizes.
-use mathlib.Core.Path.{◌≡◌, ap}
-use mathlib.Core.Logic.{◌⊎◌, inl, inr}
+use mathlib.Core.Path.{◌≡◌}
+use mathlib.Core.Logic.{inl, inr}
 use Prim.Native.Nat.{ℕ, zero, suc, ◌+◌, ◌*◌, ◌≤◌, ◌<◌}
 use native.Mathlib.Nat.{mul-le-mul_right, mul-le-mul_left, suc-mul, le_of_suc-le-suc, eq-or-lt_of_le, le_refl}
 use native.Mathlib.Omega.{arith}
-use lib.Dec.{T}
 use lib.Ieee.Fits.{and_l, and_r}
 use lib.ListN.{length, get_or}
 use Rattle.fold.proofs.Grid.{row_end}
-use Rattle.calls.specs.Run.{Sheet, own, place, coefs, levels_before, sheet_ok, places_ok}
+use Rattle.calls.specs.Run.{Sheet, own, coefs, levels_before, sheet_ok, places_ok}
 use Rattle.calls.proofs.Facts.{OwnIs, SheetIs, sheet_is, own_fits}
-use Rattle.calls.specs.Between.{PlaceIs, PlacesAre}
+use Rattle.calls.specs.Between.{PlacesAre}
 use Rattle.calls.proofs.Legal.{places_are}
 use Rattle.record.specs.Model.{Legal, sheet_of, places_of, no_channel}
 use Rattle.record.specs.declared.Run.{Run}

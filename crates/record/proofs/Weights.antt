@@ -4,9 +4,9 @@ use Prim.Native.Nat.{ℕ, zero, suc, ◌+◌, ◌-◌, ◌*◌, ◌/◌, ◌%◌
 use native.Mathlib.Nat.{le_of_lt, lt_of_le_of_lt, div-lt_iff_lt-mul, mul-lt-mul_of_pos_right, mul_right_comm, mul-pos, zero-mul, mul-le-mul_left}
 use native.Mathlib.Omega.{arith}
 use mathlib.Core.Bool.{Bool, true, false, not, ◌&&◌}
-use lib.Dec.{T, ltb, eqb, leb, ltb→lt, leb→le}
+use lib.Dec.{T, ltb, eqb, leb, ltb→lt}
 use borrow.Author.Tests.{lt-ltb, le-ltb}
-use lib.IntN.{ℤ, pos, negsuc}
+use lib.IntN.{ℤ}
 use lib.Pow.{pow_pos, pow-add}
 use lib.Ieee.{Float, nan, inf, fin, binary32, up, down, size, fits, is_nan, to_bits, ne}
 use lib.Ieee.Digits.{size-le}

@@ -1,0 +1,28 @@
+-- `legal`: the header is tested first, so that there are at most three channels to look at.
+use mathlib.Core.Path.{◌≡◌, sym, ◌∙◌}
+use mathlib.Core.Bool.{true}
+use Prim.Native.Nat.{◌≤◌}
+use native.Mathlib.Omega.{arith}
+use lib.ListN.{length}
+use Rattle.calls.specs.Run.{header_ok, sheet_ok, places_ok}
+use Rattle.record.specs.Model.{sheet_of, places_of}
+use Rattle.record.proofs.Channels.{length_parts, header_count, places_counted, each_channel}
+use borrow.Author.Rules.{rules}
+use Rattle.record.proofs.legal.legal.Goals as goal
+
+pub returns-then-not-header_ok : goal.returns-then-not-header_ok
+unfolding sheet_ok
+returns-then-not-header_ok c = rw (sym c.header_ok.ensures ∙ c.if-not-header_ok.true)
+
+pub channels_ok-requires : goal.channels_ok-requires
+channels_ok-requires c = header_count (sheet_of c.args.run) (sym c.header_ok.ensures ∙ c.if-not-header_ok.false)
+
+pub returns : goal.returns
+unfolding sheet_ok places_ok
+returns c =
+    let s = c in
+    let r = c.args.run in
+    let three : length r.channels ≡ 3 = search (rules, length_parts) in
+    let header : header_ok (sheet_of r) ≡ true = sym s.header_ok.ensures ∙ c.if-not-header_ok.false in
+    let long : r.count ≤ length r.channels = omega (arith, header_count (sheet_of r) header) in
+    rw (header, places_counted r long) (c.channels_ok.ensures ∙ each_channel (sheet_of r) (places_of r) r.count)
