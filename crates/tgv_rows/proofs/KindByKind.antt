@@ -1,26 +1,21 @@
 -- The second-order term's row, pixel by pixel, is its changes kind by kind: right, own place, left; above right, above; below, below left.
-use mathlib.Core.Path.{◌≡◌, refl, ap, ap₂, ◌∙◌, sym}
+use mathlib.Core.Path.{◌≡◌, refl, ap, ◌∙◌, sym}
 use mathlib.Core.Logic.{◌≢◌}
-use mathlib.Core.Bool.{Bool, true, false, cond, ◌||◌}
+use mathlib.Core.Bool.{Bool, false, ◌||◌}
 use mathlib.Core.List.{List}
-use Prim.Native.Nat.{ℕ, zero, suc, ◌+◌, ◌-◌, ◌*◌, ◌≤◌, ◌<◌}
+use Prim.Native.Nat.{ℕ, ◌+◌, ◌-◌, ◌*◌, ◌≤◌, ◌<◌}
 use native.Mathlib.Nat.{le_refl}
 use native.Mathlib.Omega.{arith}
 use borrow.Author.Tests.{leb-false, eqb-false}
-use lib.ListN.{set, replicate, length-replicate}
-use lib.Ieee.{Float, nan, neg, eq}
+use lib.Ieee.{Float}
 use Rattle.fold.specs.Fold.{upto}
 use Rattle.fold.proofs.Loops.{upto_ext}
-use Rattle.fold.proofs.Stores.{stored-at}
-use Rattle.float.specs.Ops.{mul_add, midpoint}
-use Rattle.float.specs.Names.{◌⊕◌, ◌⊗◌, ◌⊘◌, f0, f2, val}
 use Rattle.fold.proofs.Choice.{neither}
-use Rattle.gradients.specs.declared.tgv.Second.{Second}
-use Rattle.gradients.specs.Tv.{px_idx, right_edge, bottom_edge, difference, bump, bump_unless}
-use Rattle.gradients.specs.Tgv.{left_edge, top_edge, tgv_differences, tgv_differences_at, tgv_beside, tgv_up_down, tgv_corners, tgv_channel_derivatives, tgv_derivatives, tgv_derivatives_at}
+use Rattle.gradients.specs.Tv.{px_idx, right_edge, bottom_edge}
+use Rattle.gradients.specs.Tgv.{left_edge, top_edge}
 use Rattle.rows.specs.Rows.{hit, own_row, right_row, left_row, below_row, above_row, above_right_row, below_left_row}
-use Rattle.rows.proofs.Commute.{Comm, comm_sym, comm_then, comm_3, comm_4, apart, turned, upto_idle, hit_comm, hit_off, hit_on, hit_own}
-use Rattle.rows.proofs.Places.{upto_part, next_row, px_before}
+use Rattle.rows.proofs.Commute.{Comm, comm_sym, comm_then, comm_3, comm_4, apart, turned, hit_comm}
+use Rattle.rows.proofs.Places.{next_row, px_before}
 
 -- row y above row y - 1
 above-row : (y W : ℕ) → 0 < y → y * W ≡ (y - 1) * W + W

@@ -2,16 +2,16 @@
 use mathlib.Core.Path.{◌≡◌, refl, ap, ap₂, ◌∙◌, sym}
 use mathlib.Core.Bool.{true, false}
 use mathlib.Core.List.{List}
-use Prim.Native.Nat.{ℕ, suc, ◌+◌, ◌-◌, ◌≤◌, ◌<◌}
+use Prim.Native.Nat.{ℕ, ◌+◌, ◌-◌, ◌≤◌, ◌<◌}
 use native.Mathlib.Omega.{arith}
-use borrow.Author.Tests.{le-leb, lt-leb, ne_eqb}
+use borrow.Author.Tests.{ne_eqb}
 use lib.ListN.{length, set}
 use lib.Ieee.{Float}
 use Rattle.fold.specs.Fold.{upto}
 use Rattle.fold.proofs.Loops.{upto_ext, upto_add}
 use Rattle.float.specs.Ops.{midpoint}
 use Rattle.float.specs.Names.{◌⊖◌, f0, val}
-use Rattle.gradients.specs.Tv.{px_idx, right_edge, bottom_edge}
+use Rattle.gradients.specs.Tv.{px_idx}
 use Rattle.gradients.specs.Tgv.{left_edge, top_edge}
 use Rattle.rows.specs.Rows.{store_from}
 use Rattle.tgv_rows.specs.TgvRows.{xx_of, yy_of}

@@ -1,5 +1,5 @@
 -- A row of the second-order term: what the code does row by row is `tgv_gradient_row`.
-use mathlib.Core.Path.{◌≡◌, refl, ap, ap₂, ◌∙◌, sym}
+use mathlib.Core.Path.{◌≡◌, refl, ap, ◌∙◌, sym}
 use mathlib.Core.Bool.{Bool, true, false, cond, ◌||◌}
 use mathlib.Core.List.{List}
 use Prim.Native.Nat.{ℕ, ◌+◌, ◌-◌, ◌*◌, ◌≤◌, ◌<◌}
@@ -8,12 +8,12 @@ use lib.Ieee.{Float, nan, neg, eq}
 use Rattle.fold.specs.Fold.{upto}
 use Rattle.fold.proofs.Loops.{upto_ext}
 use Rattle.fold.proofs.Stores.{stored-at}
-use Rattle.float.specs.Ops.{mul_add, square, root, midpoint}
+use Rattle.float.specs.Ops.{mul_add, root}
 use Rattle.float.specs.Names.{◌⊕◌, ◌⊗◌, ◌⊘◌, ◌⊞◌, f0, f2, val}
 use Rattle.gradients.specs.declared.tgv.Second.{Second}
-use Rattle.gradients.specs.Tv.{px_idx, right_edge, bottom_edge, difference, bump, bump_unless}
+use Rattle.gradients.specs.Tv.{px_idx, right_edge, bottom_edge, bump, bump_unless}
 use Rattle.gradients.specs.Tgv.{left_edge, top_edge, tgv_differences, tgv_differences_at, g2_norm_at, g2_norm_of, tgv_beside, tgv_up_down, tgv_corners, tgv_channel_derivatives, tgv_derivatives, tgv_derivatives_at, tgv_gradient_px, tgv_gradient_row, tgv_total_px, tgv_total_row}
-use Rattle.rows.specs.Rows.{Row, store_from, own_row, right_row, left_row, below_row, above_row, above_right_row, below_left_row, none}
+use Rattle.rows.specs.Rows.{store_from, own_row, right_row, left_row, below_row, above_row, above_right_row, below_left_row, none}
 use Rattle.tgv_rows.specs.TgvRows.{xx_of, xy_of, yy_of, row_in, own_quot, side_quot, end_quot, corner_quot, tgv_squares, tgv_norms, tgv_turn, tgv_besides, tgv_aboves, tgv_belows, tgv_kinds, tgv_totals}
 use Rattle.rows.proofs.Commute.{upto_idle, hit_off, hit_on, hit_own}
 use Rattle.rows.proofs.Filled.{row_at}

@@ -1,0 +1,23 @@
+use mathlib.Core.Path.{◌∙◌}
+use native.Mathlib.Omega.{arith}
+use Rattle.fold.specs.Fold.{upto}
+use Rattle.fold.proofs.Loops.{upto-call, upto-end}
+use Rattle.float.specs.Names.{val}
+use Rattle.tgv_rows.specs.TgvRows.{row_in}
+use Rattle.tgv_rows.proofs.TgvRow.{by_kinds}
+use borrow.Author.Rules.{rules}
+use Rattle.tgv_rows.proofs.pixels.Goals as goal
+
+pub loop-x-init : goal.loop-x-init
+unfolding upto
+loop-x-init c = search rules
+
+pub loop-x-preserved : goal.loop-x-preserved
+loop-x-preserved c = (search rules, search rules, upto-call _ _ _ c.loop-x.invariant.2 c.pixel.ensures)
+
+pub returns : goal.returns
+returns c =
+    let a = c.args in
+    let p = c.requires in
+    upto-end _ _ _ _ c.loop-x.invariant.2 (omega arith)
+    ∙ by_kinds a.g.w a.g.h a.alpha (λ x. val a.norm.now x) (row_in a.g.w a.xx.now) (row_in a.g.w a.xy.now) (row_in a.g.w a.yy.now) a.y p.0 a.g.n a.gradient.now

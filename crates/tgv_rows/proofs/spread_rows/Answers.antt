@@ -1,0 +1,29 @@
+use native.Mathlib.Omega.{arith}
+use Rattle.fold.specs.Fold.{upto}
+use Rattle.fold.proofs.Loops.{upto-call, upto-end}
+use Rattle.float.specs.Names.{val}
+use Rattle.tgv_rows.specs.TgvRows.{row_in}
+use Rattle.tgv_rows.proofs.TgvRow.{kinds_idle}
+use borrow.Author.Rules.{rules}
+use Rattle.tgv_rows.proofs.spread_rows.Goals as goal
+
+-- each norm is 0
+pub returns-then-not-any : goal.returns-then-not-any
+returns-then-not-any c =
+    let a = c.args in
+    kinds_idle a.g.w a.g.h a.alpha (λ x. val a.norm.now x) (row_in a.g.w a.xx.now) (row_in a.g.w a.xy.now) (row_in a.g.w a.yy.now) a.y a.g.n a.gradient.now
+    (c.any.ensures (c.if-not-any.true))
+
+-- pixel by pixel
+pub returns-then-sparse : goal.returns-then-sparse
+returns-then-sparse c = c.pixels.ensures
+
+pub loop-c-init : goal.loop-c-init
+unfolding upto
+loop-c-init c = search rules
+
+pub loop-c-preserved : goal.loop-c-preserved
+loop-c-preserved c = (search rules, search rules, search rules, upto-call _ _ _ c.loop-c.invariant.3 c.channel_row.ensures)
+
+pub returns : goal.returns
+returns c = upto-end _ _ _ _ c.loop-c.invariant.3 (omega arith)
