@@ -1,4 +1,4 @@
-/* The runs of a sheet, step by step through the library's calls. By the library's theorem one-by-one-served this leaves what smoother_solve leaves. */
+/* The runs of a sheet, step by step through the library's calls. By the library's theorem one_by_one_served this leaves what smoother_solve leaves. */
 #ifndef TOOLS_SOLVE_H
 #define TOOLS_SOLVE_H
 
