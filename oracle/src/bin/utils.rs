@@ -140,7 +140,7 @@ fn compare(seed: u64, count: u64, faults: &mut Faults) -> Tally {
     let (mut r, mut tally) = (Random::new(seed), Tally::default());
     tally.kind("constants of the definitions");
     for (name, value) in CONSTANTS {
-        let line = format!("\n{name} = ofBits binary32 0x{:08x}\n", value.to_bits());
+        let line = format!("\n{name} = of_bits binary32 0x{:08x}\n", value.to_bits());
         tally.count(DEFINITIONS.contains(&line), || line);
     }
     for (word, rust, proved) in TRANSFORMS {
