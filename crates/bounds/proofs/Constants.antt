@@ -2,7 +2,7 @@
 use mathlib.Core.Path.{◌≡◌, refl, sym, ap, ◌∙◌, subst}
 use mathlib.Core.Logic.{◌⊎◌, inl, inr, ⊎_elim}
 use mathlib.Core.Bool.{Bool, true, false, ◌&&◌, cond, true≢false}
-use Prim.Native.Nat.{ℕ, zero, suc, ◌+◌, ◌-◌, ◌*◌, ◌/◌, ◌^◌, ◌≤◌, ◌<◌, zero-le}
+use Prim.Native.Nat.{ℕ, zero, suc, ◌+◌, ◌*◌, ◌/◌, ◌^◌, ◌≤◌, ◌<◌, zero-le}
 use native.Mathlib.Nat.{mul-one, one-mul, le_trans, le_of_eq, le_refl, lt_of_lt_of_le, mul_assoc, mul_comm, mul-le-mul_right, mul-mul-mul_comm, le_of_mul-le-mul_right, mul-pos, div-mul-le_self, zero-mul, not-le_of_lt, lt_of_not-le, le_of_suc-le-suc, eq-or-lt_of_le, le_antisymm, suc-mul, mul-suc, not-suc-le-zero}
 use native.Mathlib.Omega.{arith}
 use lib.Count.{count_trailing_zeros}

@@ -1,7 +1,7 @@
 -- What is in a coefficient's interval is at most 2 ^ 19: the ends of the widest are ±522,112.5. So is what start dequantises and what project clamps.
 use mathlib.Core.Path.{◌≡◌, refl, sym, subst}
 use mathlib.Core.Bool.{Bool, true, false, cond}
-use Prim.Native.Nat.{ℕ, zero, suc, ◌+◌, ◌-◌, ◌*◌, ◌/◌, ◌^◌, ◌≤◌, ◌<◌}
+use Prim.Native.Nat.{ℕ, zero, suc, ◌+◌, ◌-◌, ◌*◌, ◌/◌, ◌^◌, ◌≤◌}
 use native.Mathlib.Nat.{le_trans, le_of_eq, mul-le-mul, mul-le-mul_right, mul_assoc, mul-one}
 use native.Mathlib.Omega.{arith}
 use lib.Dec.{T, ltb, leb→le, lit≤, lit<}
