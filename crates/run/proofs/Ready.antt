@@ -1,14 +1,13 @@
 -- How a call ends, for the proofs of the public calls: refused, with all as it was, or accepted.
-use mathlib.Core.Path.{◌≡◌, refl, sym, ap, ◌∙◌, subst}
+use mathlib.Core.Path.{◌≡◌, refl, sym, ap, ◌∙◌}
 use mathlib.Core.Logic.{◌≢◌}
-use mathlib.Core.Bool.{Bool, true}
+use mathlib.Core.Bool.{true}
 use mathlib.Core.List.{List, [], ◌∷◌}
-use Prim.Native.Nat.{ℕ, zero, suc, ◌+◌, ◌*◌, ◌≤◌, ◌<◌}
-use native.Mathlib.Omega.{arith}
+use Prim.Native.Nat.{ℕ, zero, suc, ◌*◌, ◌<◌}
 use lib.Dec.{T, eqb, eqb→eq}
 use lib.Ieee.Fits.{and_l, and_r}
 use Rattle.start.specs.Coef.{Levels}
-use lib.ListN.{length, set}
+use lib.ListN.{set}
 use Rattle.start.specs.Buffers.{Buffers}
 use Rattle.calls.specs.Run.{place}
 use Rattle.calls.specs.Buffers.{put_channel}
@@ -24,7 +23,7 @@ use Rattle.record.specs.declared.Answer.TheVariants.{Refused}
 use Rattle.record.specs.Model.{Legal, sheet_of, places_of, given_of, placed, answer_of}
 use Rattle.record.proofs.Placed.{placed_same}
 use Rattle.parts.specs.Parts.{Fed}
-use Rattle.run.specs.Public.{Result, result, gave, state_of, call_of}
+use Rattle.run.specs.Public.{result, gave, state_of, call_of}
 
 -- ---- refused
 
