@@ -1,20 +1,19 @@
 -- The calls, from what judging gives.
-use Prim.Native.Nat.{ℕ, zero, suc, ◌+◌, ◌*◌, ◌^◌, ◌≤◌, ◌<◌}
-use mathlib.Core.Path.{◌≡◌, refl, sym, ap, ◌∙◌, subst}
+use Prim.Native.Nat.{ℕ, ◌+◌, ◌^◌, ◌≤◌, ◌<◌}
+use mathlib.Core.Path.{◌≡◌, refl, sym, ap, ◌∙◌}
 use mathlib.Core.List.{List, [], ◌∷◌, ◌++◌, append-nil}
-use mathlib.Core.Bool.{Bool, true, false, not, cond, ◌&&◌}
+use mathlib.Core.Bool.{Bool, true, false, cond, ◌&&◌}
 use mathlib.Core.Logic.{◌⊎◌, ⊎_elim}
 use native.Mathlib.Omega.{arith}
 use lib.Dec.{eqb, leb}
 use lib.IntN.{ℤ}
 use lib.ListN.{length, take, drop, drop_of_length-le}
 use lib.Seq.{sets, sets-eq}
-use borrow.Author.Tests.{eqb-true, eq-eqb, ne_eqb, le-leb, lt-leb, leb-true, not-true, not-false}
+use borrow.Author.Tests.{eq-eqb, ne_eqb, le-leb, lt-leb, leb-true}
 use Rattle.digits.specs.Written.{decimal}
-use Rattle.digits.proofs.Both.{both_left, both_right}
+use Rattle.digits.proofs.Both.{both_left}
 use Rattle.contents.specs.declared.Sheet.{Sheet}
-use Rattle.contents.specs.declared.Channel.{Channel}
-use Rattle.contents.specs.Sheets.{Lent, lent, Held, channels_of}
+use Rattle.contents.specs.Sheets.{lent, channels_of}
 use Rattle.contents.specs.Hold.{hold_at}
 use Rattle.contents.specs.Legal.{LegalSheet, LegalBlocks, LegalMarks}
 use Rattle.sheet.specs.declared.walk.Walked.{Walked}
@@ -22,7 +21,6 @@ use Rattle.sheet.specs.declared.walk.Walked.TheVariants as walked
 use Rattle.sheet.specs.Reading.{Outcome, Contents, contents, read_text}
 use Rattle.sheet.specs.Reading.Outcome.{Gives, Refused}
 use Rattle.sheet.specs.Walk.{walked_of, Stores, Walks}
-use Rattle.grammar.specs.Written.{written}
 use Rattle.grammar.specs.Longest.{longest}
 use Rattle.grammar.proofs.CanonicalLaws.{canonical}
 use Rattle.grammar.proofs.LegalLaws.{legal, legal_blocks, legal_marks}
@@ -32,13 +30,12 @@ use Rattle.copying.specs.Parts.{Put}
 use Rattle.stitch.specs.declared.Judged.{Judged}
 use Rattle.stitch.specs.declared.Judged.TheVariants as judged
 use Rattle.stitch.specs.declared.Measured.TheVariants as measured
-use Rattle.stitch.specs.declared.Answer.{Answer}
 use Rattle.stitch.specs.declared.Answer.TheVariants as answer
 use Rattle.seam.specs.Seam.{same_header, same_letters, same_holds, same_channels, same_sheet, same_tables, seam}
 use Rattle.stitch.specs.Stitched.{stitched_sheet, stitched_held}
 use Rattle.seam.specs.Used.{used_of, holds_used, same_used}
 use Rattle.stitch.specs.Bytes.{stitch_text}
-use Rattle.stitch.specs.Calls.{whole, Stitch, output_of, fitting, joining, stitching, measuring, sized, answering, out_after, Stitches}
+use Rattle.stitch.specs.Calls.{whole, Stitch, output_of, joining, stitching, measuring, sized, answering, out_after, Stitches}
 use Rattle.stitch.specs.Calls.Stitch.{Text, Fault}
 use Rattle.stitch.specs.Judging.{Listed, Outlines, judging, fit_of}
 use Rattle.stitch.proofs.TextLaws.{as_copied}
@@ -308,15 +305,15 @@ module _ (left right z a b : List ℕ) (n : length z ≡ 192) (w v : Walked) (s 
 -- Whether two sheets fit
 
 module _ (s t : Sheet) (a b : List ℕ) (r : Bool) (e : r ≡ same_used s t) where
-  pub fit_sheet : not r ≡ true → judged.Refused 16 0 0 ≡ fit_of s t a b
-  fit_sheet m = rw (sym e ∙ not-true r m)
+  pub fit_sheet : r ≡ false → judged.Refused 16 0 0 ≡ fit_of s t a b
+  fit_sheet m = rw (sym e ∙ m)
 
-  module _ (m : not r ≡ false) (q : Bool) (f : q ≡ same_tables a b) where
-    pub fit_tables : not q ≡ true → judged.Refused 16 0 0 ≡ fit_of s t a b
-    fit_tables n = rw (sym e ∙ not-false r m, sym f ∙ not-true q n)
+  module _ (m : r ≡ true) (q : Bool) (f : q ≡ same_tables a b) where
+    pub fit_tables : q ≡ false → judged.Refused 16 0 0 ≡ fit_of s t a b
+    fit_tables n = rw (sym e ∙ m, sym f ∙ n)
 
-    pub fit_wide : not q ≡ false → 512 < s.header.width + t.header.width → judged.Refused 2 0 0 ≡ fit_of s t a b
-    fit_wide n w = rw (sym e ∙ not-false r m, sym f ∙ not-false q n, lt-leb (s.header.width + t.header.width) 512 w)
+    pub fit_wide : q ≡ true → 512 < s.header.width + t.header.width → judged.Refused 2 0 0 ≡ fit_of s t a b
+    fit_wide n w = rw (sym e ∙ m, sym f ∙ n, lt-leb (s.header.width + t.header.width) 512 w)
 
-    pub fit_both : not q ≡ false → s.header.width + t.header.width ≤ 512 → judged.Fit s t ≡ fit_of s t a b
-    fit_both n w = rw (sym e ∙ not-false r m, sym f ∙ not-false q n, le-leb (s.header.width + t.header.width) 512 w)
+    pub fit_both : q ≡ true → s.header.width + t.header.width ≤ 512 → judged.Fit s t ≡ fit_of s t a b
+    fit_both n w = rw (sym e ∙ m, sym f ∙ n, le-leb (s.header.width + t.header.width) 512 w)

@@ -1,5 +1,5 @@
 -- Two legal sheets that fit are a legal sheet side by side.
-use Prim.Native.Nat.{ℕ, zero, suc, ◌+◌, ◌-◌, ◌*◌, ◌/◌, ◌%◌, ◌≤◌, ◌<◌}
+use Prim.Native.Nat.{ℕ, zero, suc, ◌+◌, ◌*◌, ◌/◌, ◌%◌, ◌≤◌, ◌<◌}
 use mathlib.Core.Path.{◌≡◌, refl, sym, ap, ◌∙◌, subst}
 use mathlib.Core.List.{List, [], ◌∷◌, ◌++◌, append-nil}
 use Rattle.contents.specs.declared.Mark.{Mark}
@@ -7,11 +7,9 @@ use mathlib.Core.Bool.{Bool, true, false, cond, ◌&&◌}
 use mathlib.Core.Logic.{◌⊎◌, ⊎_elim}
 use native.Mathlib.Omega.{arith}
 use native.Mathlib.Nat.{add-mul}
-use lib.Dec.{eqb, leb, ltb}
-use lib.IntN.{ℤ}
+use lib.Dec.{eqb, ltb}
 use lib.ListN.{length, take, drop, length-append, length-drop}
-use lib.Seq.{drop_at}
-use borrow.Author.Tests.{eqb-true, eq-eqb, ne_eqb, leb-true, ltb-true, ltb-false}
+use borrow.Author.Tests.{eqb-true, ne_eqb, ltb-true, ltb-false}
 use Rattle.contents.specs.declared.Header.{Header}
 use Rattle.contents.specs.declared.Channel.{Channel}
 use Rattle.contents.specs.declared.Sheet.{Sheet}
@@ -19,20 +17,18 @@ use Rattle.contents.specs.Sheets.{Lent, Marked, Held, no_channel, channel_at, le
 use Rattle.contents.specs.Hold.{measured, LegalHold}
 use Rattle.contents.specs.declared.Hold.{Hold}
 use Rattle.contents.specs.declared.Hold.TheVariants as hold
-use Rattle.contents.specs.Legal.{LegalHeader, LegalSide, LegalChannel, LegalSheet, LegalBlocks, LegalMarks}
+use Rattle.contents.specs.Legal.{LegalChannel, LegalSheet, LegalBlocks, LegalMarks}
 use Rattle.digits.proofs.Both.{both_left, both_right}
-use Rattle.sheet.specs.Reading.{Contents}
 use Rattle.grammar.specs.Written.{drop_held}
 use Rattle.grammar.proofs.LegalLaws.{blocks}
 use Rattle.grammar.proofs.MarkLaws.{Place}
 use Rattle.grammar.proofs.RoundTrip.{small_mark}
-use Rattle.seam.specs.Seam.{same_weight, same_smoothing, same_data, same_counts, same_shape, same, same_header, same_letters, same_holds, same_channel, same_channels, same_sheet, same_tables, seam}
+use Rattle.seam.specs.Seam.{same_smoothing, same_data, same_counts, same_shape, same, same_header, same_letters, same_holds, same_channel, same_channels, same_sheet}
 use Rattle.contents.specs.Marks.{blocks_in}
-use Rattle.stitch.specs.Stitched.{wider, besides, stitched_sheet, rows_in, columns_in, weave, woven, woven_held, moved_by, stitched_marks, stitched_held}
-use Rattle.seam.specs.Used.{used_of, holds_used, same_used}
+use Rattle.stitch.specs.Stitched.{wider, besides, stitched_sheet, rows_in, columns_in, weave, woven, moved_by, stitched_held}
+use Rattle.seam.specs.Used.{used_of}
 use Rattle.stitch.specs.Calls.{whole}
-use Rattle.stitch.proofs.WeaveLaws.{weave_length}
-use Rattle.stitch.proofs.BlockLaws.{Enough, Good, good_woven}
+use Rattle.stitch.proofs.BlockLaws.{Good, good_woven}
 use Rattle.stitch.proofs.MarkTextLaws.{AllSmall, kept}
 use Rattle.stitch.proofs.MarkLaws.{AllKnown, Absent, all_known, legal_both, known_kept, legal_kept}
 use Rattle.stitch.proofs.TextLaws.{Beside, AllBeside, HeldFor, pairs_of, woven_kinds, kinds_count, both_blocks, Pair}

@@ -1,8 +1,8 @@
 -- The marks of two sheets side by side: each is a block of the output, no block is marked twice, and a block is marked where it was in its own sheet.
-use Prim.Native.Nat.{ℕ, zero, suc, ◌+◌, ◌-◌, ◌*◌, ◌/◌, ◌%◌, ◌≤◌, ◌<◌}
+use Prim.Native.Nat.{ℕ, zero, suc, ◌+◌, ◌*◌, ◌/◌, ◌≤◌, ◌<◌}
 use mathlib.Core.Path.{◌≡◌, refl, sym, ap, ◌∙◌, subst}
 use mathlib.Core.List.{List, [], ◌∷◌, ◌++◌, append-nil, append_assoc}
-use mathlib.Core.Bool.{Bool, true, false, cond, ◌||◌}
+use mathlib.Core.Bool.{Bool, true, false, ◌||◌}
 use native.Mathlib.Omega.{arith}
 use native.Mathlib.Nat.{mul-le-mul_right}
 use lib.Dec.{eqb, leb}
@@ -11,7 +11,7 @@ use Rattle.contents.specs.declared.Mark.{Mark}
 use Rattle.contents.specs.declared.Sheet.{Sheet}
 use Rattle.contents.specs.Sheets.{Marked, marked, channel_at}
 use Rattle.contents.specs.Marks.{blocks_before, block_of, has_block, among}
-use Rattle.contents.specs.Legal.{LegalMark, LegalMarks}
+use Rattle.contents.specs.Legal.{LegalMarks}
 use Rattle.grammar.proofs.MarkLaws.{Place, place-of, within}
 use Rattle.stitch.proofs.MarkTextLaws.{kept, kept_both}
 

@@ -2,19 +2,18 @@
 use Prim.Native.Nat.{ℕ, zero, suc, ◌+◌, ◌/◌, ◌%◌}
 use mathlib.Core.Path.{◌≡◌, refl, sym, ap, ◌∙◌}
 use mathlib.Core.List.{List, [], ◌∷◌, ◌++◌, map, append_assoc}
-use mathlib.Core.Bool.{Bool, true, false, not, cond, ◌&&◌}
+use mathlib.Core.Bool.{Bool, true, false, cond}
 use native.Mathlib.Omega.{arith}
-use lib.Dec.{eqb, ltb}
-use lib.ListN.{length, take, drop}
+use lib.Dec.{ltb}
+use lib.ListN.{length}
 use lib.Seq.{take_at, drop_at}
-use borrow.Author.Tests.{eq-eqb, ne_eqb, ltb-true, not-true}
+use borrow.Author.Tests.{ne_eqb, ltb-true}
 use Rattle.contents.specs.declared.Mark.{Mark}
 use Rattle.contents.specs.declared.Sheet.{Sheet}
 use Rattle.contents.specs.Sheets.{Marked, marked}
 use Rattle.contents.specs.Marks.{block_of}
 use Rattle.digits.specs.Written.{digits_of, decimal, joined, ended}
-use Rattle.digits.proofs.Both.{both_left, both_right}
-use Rattle.text.specs.Pieces.{split, before}
+use Rattle.text.specs.Pieces.{split}
 use Rattle.text.proofs.JoinLaws.{free, all_free, above_decimal, above_free, joined_free, split_joined}
 use Rattle.lines.specs.Lines.{mark_of}
 use Rattle.grammar.specs.Written.{mark_fields, mark_lines, end_fields}

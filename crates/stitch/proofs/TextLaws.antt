@@ -1,12 +1,12 @@
 -- What is copied is the text of the two sheets side by side.
-use Prim.Native.Nat.{ℕ, zero, suc, ◌+◌, ◌-◌, ◌*◌, ◌/◌, ◌%◌, ◌≤◌}
+use Prim.Native.Nat.{ℕ, ◌+◌, ◌*◌, ◌/◌, ◌%◌, ◌≤◌}
 use mathlib.Core.Path.{◌≡◌, refl, sym, ap, ◌∙◌, subst}
 use mathlib.Core.List.{List, [], ◌∷◌, ◌++◌, map, append_assoc}
-use mathlib.Core.Bool.{Bool, true, false}
+use mathlib.Core.Bool.{true}
 use native.Mathlib.Omega.{arith}
 use native.Mathlib.Numerals.{add-one}
-use native.Mathlib.Nat.{mul-div_cancel_left, mul_comm}
-use lib.ListN.{length, take, drop, length-append, length-drop}
+use native.Mathlib.Nat.{mul-div_cancel_left}
+use lib.ListN.{length, take, drop, length-append}
 use lib.Seq.{length-take-le, take_at, drop_at}
 use lib.IntN.{ℤ}
 use Rattle.contents.specs.declared.Choice.{Choice}
@@ -20,12 +20,11 @@ use Rattle.contents.specs.declared.Sheet.{Sheet}
 use Rattle.contents.specs.Sheets.{lent, Marked, Held, held, channel_at, channels_of}
 use Rattle.contents.specs.Marks.{blocks_in}
 use Rattle.digits.specs.Written.{decimal, joined, ended}
-use Rattle.digits.proofs.Both.{both_left, both_right}
+use Rattle.digits.proofs.Both.{both_right}
 use Rattle.text.proofs.JoinLaws.{free, all_free, above_decimal, above_free, joined_free}
-use Rattle.lines.specs.declared.Setting.TheVariants as setting
-use Rattle.grammar.specs.Written.{header_fields, channel_fields, end_fields, setting_line, setting_lines, choice_lines, hold_lines, block_lines, drop_held, channel_lines, mark_lines, written}
+use Rattle.grammar.specs.Written.{header_fields, channel_fields, end_fields, setting_lines, choice_lines, hold_lines, block_lines, drop_held, channel_lines, mark_lines, written}
 use Rattle.grammar.proofs.RowLaws.{header_free, channel_free}
-use Rattle.grammar.proofs.RoundTrip.{free_both, free_settings, free_blocks, free_channels}
+use Rattle.grammar.proofs.RoundTrip.{free_both, free_settings, free_channels}
 use Rattle.copying.specs.Parts.{up_to, past, after_two, refitted, rows_of, past_rows}
 use Rattle.copying.proofs.PartLaws.{up_zero, past_zero}
 use Rattle.stitch.specs.Stitched.{wider, besides, stitched_sheet, rows_in, columns_in, weave, woven, woven_held, stitched_marks, stitched_held}

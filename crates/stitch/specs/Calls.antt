@@ -1,8 +1,6 @@
 -- What stitching and measuring promise. Document 02, M-107.
 use Rattle.std.specs.Prelude.{ℕ, ◌+◌, ◌≡◌, List, cond, length, eqb, leb}
-use Rattle.std.specs.Float.Ieee.{to_bits}
 use Rattle.contents.specs.declared.Limits.{Limits}
-use Rattle.contents.specs.Weights.{value_of}
 use Rattle.sheet.specs.Reading.{Outcome, Contents, read_text}
 use Rattle.sheet.specs.Reading.Outcome.{Gives, Refused}
 use Rattle.grammar.specs.Written.{written}
