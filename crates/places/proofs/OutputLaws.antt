@@ -1,32 +1,32 @@
 -- Every block of the output is the block at its place in one of the two sheets, to either reader.
-use Prim.Native.Nat.{ℕ, zero, suc, ◌+◌, ◌-◌, ◌*◌, ◌/◌, ◌≤◌, ◌<◌}
+use Prim.Native.Nat.{ℕ, ◌+◌, ◌-◌, ◌*◌, ◌/◌, ◌≤◌, ◌<◌}
 use mathlib.Core.Path.{◌≡◌, refl, sym, ap, ◌∙◌, subst}
-use mathlib.Core.List.{List, [], ◌∷◌, ◌++◌}
-use mathlib.Core.Bool.{Bool, true, false, cond, ◌||◌, ◌&&◌}
+use mathlib.Core.List.{List, []}
+use mathlib.Core.Bool.{Bool, true, false, cond, ◌||◌}
 use native.Mathlib.Omega.{arith}
-use lib.Dec.{eqb, leb, ltb}
+use lib.Dec.{leb, ltb}
 use lib.IntN.{ℤ}
-use lib.ListN.{length, take, drop}
+use lib.ListN.{take, drop}
 use borrow.Author.Tests.{ltb-true, ltb-false, leb-true}
 use Rattle.contents.specs.declared.Mark.{Mark}
 use Rattle.contents.specs.declared.Reader.{Reader}
 use Rattle.contents.specs.declared.Channel.{Channel}
 use Rattle.contents.specs.declared.Sheet.{Sheet}
-use Rattle.contents.specs.Sheets.{Marked, Held, channel_at, channels_of}
-use Rattle.contents.specs.Marks.{blocks_before, block_of, has_block, among, seen_by}
+use Rattle.contents.specs.Sheets.{Held, channel_at, channels_of}
+use Rattle.contents.specs.Marks.{blocks_before, block_of, has_block, among}
 use Rattle.contents.specs.Legal.{LegalSheet, LegalBlocks, LegalMarks}
-use Rattle.sheet.specs.Reading.{Outcome, Contents, contents, read_text}
+use Rattle.sheet.specs.Reading.{Outcome, Contents, read_text}
 use Rattle.sheet.specs.Reading.Outcome.{Gives, Refused}
 use Rattle.grammar.proofs.LegalLaws.{legal, legal_blocks, legal_marks}
 use Rattle.grammar.proofs.MarkLaws.{Place, place-of}
 use Rattle.seam.specs.Seam.{seam}
-use Rattle.stitch.specs.Stitched.{stitched_sheet, rows_in, columns_in, woven, woven_held, moved_by, stitched_marks, stitched_held}
-use Rattle.stitch.specs.Calls.{whole, Stitch, output_of, fitting, joining, stitching}
+use Rattle.stitch.specs.Stitched.{stitched_sheet, rows_in, columns_in, woven, moved_by, stitched_held}
+use Rattle.stitch.specs.Calls.{whole, output_of, joining, stitching}
 use Rattle.stitch.specs.Calls.Stitch.{Text, Fault}
 use Rattle.stitch.proofs.MarkTextLaws.{kept}
-use Rattle.stitch.proofs.MarkLaws.{AllKnown, Absent, all_known, has_of, unmarked, known_kept, among_kept, among_both}
-use Rattle.stitch.proofs.TextLaws.{AllBeside, HeldFor, Pair, pairs_of}
-use Rattle.stitch.proofs.LegalLaws.{Fits, Number, number, at_most_three, moved_one, few_channels, place_left, place_right, apart, apart_left, channel-at, each_same, pair}
+use Rattle.stitch.proofs.MarkLaws.{all_known, has_of, unmarked, known_kept, among_kept, among_both}
+use Rattle.stitch.proofs.TextLaws.{Pair, pairs_of}
+use Rattle.stitch.proofs.LegalLaws.{Fits, number, at_most_three, moved_one, few_channels, place_left, place_right, apart, apart_left, channel-at, each_same, pair}
 use Rattle.stitch.proofs.CallLaws.{fits, output_reads}
 use Rattle.places.specs.Output.{block_at, SameBlock, back_by, From, Stitched}
 use Rattle.places.proofs.SeenLaws.{seen_lows, seen_highs}

@@ -1,20 +1,18 @@
 -- Three texts: where the first two can be stitched, and the last two, both orders give one answer.
 use Prim.Native.Nat.{ℕ, ◌+◌}
 use mathlib.Core.Path.{◌≡◌, refl, sym, ap, ◌∙◌, subst}
-use mathlib.Core.List.{List, []}
+use mathlib.Core.List.{List}
 use mathlib.Core.Bool.{Bool, true, false, cond}
 use native.Mathlib.Omega.{arith}
 use native.Mathlib.Nat.{add_assoc}
 use lib.Dec.{leb}
 use borrow.Author.Tests.{leb-true}
-use Rattle.contents.specs.Sheets.{Held}
-use Rattle.contents.specs.declared.Sheet.{Sheet}
-use Rattle.sheet.specs.Reading.{Outcome, Contents, contents, read_text}
+use Rattle.sheet.specs.Reading.{Outcome, Contents, read_text}
 use Rattle.sheet.specs.Reading.Outcome.{Gives, Refused}
 use Rattle.grammar.proofs.LegalLaws.{legal, legal_blocks, legal_marks}
 use Rattle.seam.specs.Seam.{seam}
 use Rattle.stitch.specs.Stitched.{stitched_sheet, stitched_held}
-use Rattle.stitch.specs.Calls.{whole, Stitch, output_of, fitting, joining, stitching}
+use Rattle.stitch.specs.Calls.{whole, output_of, joining, stitching}
 use Rattle.stitch.specs.Calls.Stitch.{Text, Fault}
 use Rattle.stitch.proofs.TextLaws.{Pair}
 use Rattle.stitch.proofs.LegalLaws.{pair}
