@@ -1,10 +1,10 @@
 -- A list of calls on a fresh run, with demand 3 of document 01 as its contract.
-use Rattle.std.specs.Prelude.{ℕ, zero, suc, ◌<◌, ◌≡◌, ◌≢◌, Bool, false, not, ◌&&◌, List, [], ◌∷◌, map, ltb, eqb, length}
+use Rattle.std.specs.Prelude.{ℕ, ◌<◌, ◌≡◌, ◌≢◌, Bool, false, not, ◌&&◌, List, [], ◌∷◌, map, ltb, eqb, length}
 use Rattle.start.specs.Coef.{Levels}
 use Rattle.start.specs.Buffers.{Buffers}
 use Rattle.calls.specs.Run.{Given, Place, place, count, area, coefs}
 use Rattle.calls.specs.Buffers.{channel, joined}
-use Rattle.calls.specs.Jobs.{push, fidelity, move, project, Call, on, blend, fixed, kept}
+use Rattle.calls.specs.Jobs.{Call, fixed, kept}
 use Rattle.calls.specs.Calls as Calls
 use Rattle.calls.specs.Calls.{State, first, test, all, all_six, lengths, start_refusal, answers, final, none_yet, plain_answers, plain_places}
 use Rattle.calls.specs.Demand.{SavedIn}
