@@ -2,7 +2,7 @@
 -- value of the gradient than 2 ^ (62 + s). A channel that a job leaves as it was, as one that is held, has the job's bounds too.
 use mathlib.Core.Path.{◌≡◌, sym, ap, ◌∙◌, subst}
 use mathlib.Core.Bool.{Bool}
-use Prim.Native.Nat.{ℕ, zero, suc, ◌+◌, ◌-◌, ◌*◌, ◌^◌, ◌≤◌, ◌<◌}
+use Prim.Native.Nat.{ℕ, zero, suc, ◌+◌, ◌*◌, ◌^◌, ◌≤◌, ◌<◌}
 use native.Mathlib.Nat.{le_trans, le_of_eq, le_refl, add-le-add, mul-le-mul_right, one-mul}
 use native.Mathlib.Omega.{arith}
 use lib.Dec.{lit≤}
