@@ -1,9 +1,7 @@
 -- A run of all its rounds: from what start leaves to the planes after the last job, with the totals of its blends.
 use mathlib.Core.Path.{◌≡◌, refl, sym, ap, ◌∙◌, subst}
-use mathlib.Core.Logic.{◌≢◌, ⊎_elim}
-use denote.Enum.Declared.{tag_of}
-use types.Run.{OneOf}
-use mathlib.Core.Bool.{Bool, true, false, cond}
+use mathlib.Core.Logic.{◌≢◌}
+use mathlib.Core.Bool.{Bool, true, false}
 use mathlib.Core.List.{List, [], ◌∷◌, ◌++◌, map}
 use Prim.Native.Nat.{ℕ, zero, suc, ◌+◌, ◌*◌, ◌/◌, ◌%◌, ◌≤◌, ◌<◌}
 use native.Mathlib.Omega.{arith}
@@ -12,7 +10,7 @@ use lib.ListN.{length, drop, set, length-append, length-drop}
 use lib.Dec.{eqb}
 use lib.Ieee.{Float}
 use lib.Ieee.Fits.{and_r}
-use Rattle.start.specs.Coef.{Levels, pairs}
+use Rattle.start.specs.Coef.{Levels}
 use Rattle.fold.specs.Join.{join_upto}
 use Rattle.fold.specs.Part.{splice}
 use Rattle.fold.proofs.Joins.{join_length, fill_none, fill_more, fill_all}
@@ -34,7 +32,6 @@ use Rattle.demand.proofs.Laws.{laws}
 use Rattle.record.specs.declared.Run.{Run}
 use Rattle.record.specs.declared.Answer.{Answer}
 use Rattle.record.specs.declared.Answer.TheVariants.{Refused, Done, Blown, Blended}
-use Rattle.record.specs.contracts.Answer.{the_type}
 use Rattle.record.specs.Model.{sheet_of, places_of, clipped_of, given_of, answer_of}
 use Rattle.record.proofs.Placed.{sheet_stays, places_placed}
 use Rattle.run.specs.Public.{Result, state_of, StartIs}
@@ -229,11 +226,11 @@ two_set (x ∷ y ∷ []) a b h = refl
 two_set (x ∷ y ∷ z ∷ xs) a b h = absurd (omega arith)
 
 -- an answer that has no totals
-pub no_pair : (a : Answer) (k : ℕ) (T : List Float) → OneOf (0 ∷ 1 ∷ 2 ∷ []) (tag_of the_type a) → T ≡ with_pair a k T
+pub no_pair : (a : Answer) (k : ℕ) (T : List Float) → ((tv tgv : Float) → a ≡ Blended tv tgv → ⊥) → T ≡ with_pair a k T
 no_pair (Refused m) k T one = refl
 no_pair Done k T one = refl
 no_pair Blown k T one = refl
-no_pair (Blended tv tgv) k T one = let y : ⊥ = ⊎_elim (λ e. omega arith) (λ o. ⊎_elim (λ e. omega arith) (λ e. omega arith) o) one in absurd y
+no_pair (Blended tv tgv) k T one = absurd (one tv tgv refl)
 
 -- ---- start
 
@@ -243,15 +240,15 @@ fresh_at (p ∷ ps) zero = refl
 fresh_at (p ∷ ps) (suc c) = fresh_at ps c
 
 -- an answer by its case
-pub is_done : (a : Answer) → OneOf (1 ∷ []) (tag_of the_type a) → answer_of a ≡ done
-is_done (Refused m) one = let y : ⊥ = omega arith in absurd y
+pub is_done : (a : Answer) → a ≡ Done → answer_of a ≡ done
+is_done (Refused m) one = let z : ◌≡◌ {A = ℕ} 0 1 = cc in absurd (omega arith)
 is_done Done one = refl
-is_done Blown one = let y : ⊥ = omega arith in absurd y
-is_done (Blended tv tgv) one = let y : ⊥ = omega arith in absurd y
+is_done Blown one = let z : ◌≡◌ {A = ℕ} 0 1 = cc in absurd (omega arith)
+is_done (Blended tv tgv) one = let z : ◌≡◌ {A = ℕ} 0 1 = cc in absurd (omega arith)
 
-pub not_done : (a : Answer) → OneOf (0 ∷ 2 ∷ 3 ∷ []) (tag_of the_type a) → done ≡ answer_of a → ⊥
+pub not_done : (a : Answer) → (a ≡ Done → ⊥) → done ≡ answer_of a → ⊥
 not_done (Refused m) one e = let z : ◌≡◌ {A = ℕ} 0 1 = cc in omega arith
-not_done Done one e = ⊎_elim (λ e. omega arith) (λ o. ⊎_elim (λ e. omega arith) (λ e. omega arith) o) one
+not_done Done one e = one refl
 not_done Blown one e = let z : ◌≡◌ {A = ℕ} 0 1 = cc in omega arith
 not_done (Blended tv tgv) one e = let z : ◌≡◌ {A = ℕ} 0 1 = cc in omega arith
 
@@ -263,7 +260,7 @@ module _ (r : Run) (levels : Levels) (tables : List ℕ) (B : Buffers) (T : List
   s = state_of r B
 
   -- refused: as it was
-  pub refuses : OneOf (0 ∷ 2 ∷ 3 ∷ []) (tag_of the_type a) → RunIs r levels tables (loan B T) a r' (loan B' T)
+  pub refuses : (a ≡ Done → ⊥) → RunIs r levels tables (loan B T) a r' (loan B' T)
   unfolding start
   refuses one = go (start_refusal H (places_of r) (lengths all_six B)) (ap (λ (y : Result). y.answer) h) (ap (λ (y : Result). y.buffers) h)
     where
@@ -272,7 +269,7 @@ module _ (r : Run) (levels : Levels) (tables : List ℕ) (B : Buffers) (T : List
       go zero e f = absurd (not_done a one e)
       go (suc n) e f = (sym e, λ i. loan (sym f i) T)
 
-  module _ (one : OneOf (1 ∷ []) (tag_of the_type a)) where
+  module _ (one : a ≡ Done) where
     said_done : (start jobs H s).answer ≡ done
     said_done = ap (λ (y : Result). y.answer) h ∙ is_done a one
 

@@ -1,10 +1,8 @@
 -- A call in its turn, of the code: one more channel of a round has its job.
 use mathlib.Core.Path.{◌≡◌, refl, sym, ap, ◌∙◌, subst}
-use mathlib.Core.Logic.{◌≢◌, ◌⊎◌, inl, inr, ⊎_elim}
-use denote.Enum.Declared.{tag_of}
-use types.Run.{OneOf}
+use mathlib.Core.Logic.{◌≢◌, ◌⊎◌, inl, inr}
 use mathlib.Core.Bool.{Bool, true, false, ◌&&◌, cond}
-use mathlib.Core.List.{List, [], ◌∷◌, map}
+use mathlib.Core.List.{List, map}
 use Prim.Native.Nat.{ℕ, zero, suc, ◌+◌, ◌*◌, ◌%◌, ◌≤◌, ◌<◌}
 use native.Mathlib.Omega.{arith}
 use native.Mathlib.Numerals.{add-one}
@@ -18,7 +16,6 @@ use Rattle.start.specs.Buffers.{Buffers}
 use Rattle.calls.specs.Run.{Given, Sheet, Place, fresh, place, count, area, among}
 use Rattle.calls.specs.Buffers.{Plane, Prior, Gradient, Across, Down, Saved, Sized}
 use Rattle.calls.specs.Jobs.{Job, push, fidelity, move, project, Call, on, blend, turn, fixed, channel_blown, Seen, seen_at, totals_at}
-use Rattle.calls.specs.Calls as Calls
 use Rattle.calls.specs.Calls.{Called, refused, done, blown, blended, advance, onward, reply, blend_reply, call}
 use Rattle.calls.specs.Between.{GivenOk, Inv}
 use Rattle.calls.proofs.Legal.{advance_position, place_here, place_elsewhere}
@@ -29,7 +26,6 @@ use Rattle.demand.specs.Solver.{jobs}
 use Rattle.demand.proofs.Laws.{laws}
 use Rattle.record.specs.declared.Run.{Run}
 use Rattle.record.specs.declared.Answer.{Answer}
-use Rattle.record.specs.contracts.Answer.{the_type}
 use Rattle.record.specs.declared.Answer.TheVariants.{Refused, Done, Blown, Blended}
 use Rattle.record.specs.Model.{sheet_of, places_of, given_of, answer_of}
 use Rattle.record.proofs.Placed.{sheet_stays, places_placed}
@@ -398,14 +394,14 @@ module _ (r₀ : Run) (p : ℕ) (levels : Levels) (tables : List ℕ) (B₀ : Bu
 
   module _ (n i : ℕ) (is : n ≡ turns (p % 5) (count G)) (r : Run) (B : Buffers) (h : Passing G p n i r B₀ B) where
     -- a call that was answered `done`, and one that was not
-    pub goes-on : i < n → (a : Answer) (r' : Run) (B' : Buffers) → call_of r (numbered (p % 5) i) levels tables B ≡ gave a r' B' → OneOf (1 ∷ []) (tag_of the_type a)
+    pub goes-on : i < n → (a : Answer) (r' : Run) (B' : Buffers) → call_of r (numbered (p % 5) i) levels tables B ≡ gave a r' B' → a ≡ Done
         → Passing G p n (i + 1) r' B₀ B'
     goes-on more a r' B' g one = go a one (next_call G asks.ok p asks.left i r B h.within r' B' (omega arith) a g)
       where
-        go : (a : Answer) → OneOf (1 ∷ []) (tag_of the_type a) → StepIs G p i a r' B' → Passing G p n (i + 1) r' B₀ B'
+        go : (a : Answer) → a ≡ Done → StepIs G p i a r' B' → Passing G p n (i + 1) r' B₀ B'
         go (Refused m) one s = absurd s
-        go Blown one s = let y : ⊥ = omega arith in absurd y
-        go (Blended tv tgv) one s = let y : ⊥ = omega arith in absurd y
+        go Blown one s = let z : ◌≡◌ {A = ℕ} 0 1 = cc in absurd (omega arith)
+        go (Blended tv tgv) one s = let z : ◌≡◌ {A = ℕ} 0 1 = cc in absurd (omega arith)
         go Done one s =
             rw (add-one)
             record {
@@ -416,13 +412,13 @@ module _ (r₀ : Run) (p : ℕ) (levels : Levels) (tables : List ℕ) (B₀ : Bu
               kept = kept_of (count G * area G) B₀ B' asks.all.inv.sized s.0.inv.sized;
             }
 
-    pub stops : i < n → (a : Answer) (r' : Run) (B' : Buffers) → call_of r (numbered (p % 5) i) levels tables B ≡ gave a r' B' → OneOf (0 ∷ 2 ∷ 3 ∷ []) (tag_of the_type a)
+    pub stops : i < n → (a : Answer) (r' : Run) (B' : Buffers) → call_of r (numbered (p % 5) i) levels tables B ≡ gave a r' B' → (a ≡ Done → ⊥)
         → RoundIs G p a r' B'
     stops more a r' B' g one = go a one (next_call G asks.ok p asks.left i r B h.within r' B' (omega arith) a g)
       where
-        go : (a : Answer) → OneOf (0 ∷ 2 ∷ 3 ∷ []) (tag_of the_type a) → StepIs G p i a r' B' → RoundIs G p a r' B'
+        go : (a : Answer) → (a ≡ Done → ⊥) → StepIs G p i a r' B' → RoundIs G p a r' B'
         go (Refused m) one s = s
-        go Done one s = let y : ⊥ = ⊎_elim (λ e. omega arith) (λ o. ⊎_elim (λ e. omega arith) (λ e. omega arith) o) one in absurd y
+        go Done one s = absurd (one refl)
         go Blown one s = (among_true (count G) (λ c. blows_at G c p) i s.0 s.1, s.2)
         go (Blended tv tgv) one s =
             let only : turns (p % 5) (count G) ≡ 1 = ap (λ (k : ℕ). turns k (count G)) s.2 in
