@@ -1,4 +1,4 @@
-/* The spectrogram sheet smoother as a C library: libsmoother.a, made by `rt staticlib smoother`.
+/* The spectrogram sheet smoother as a C library: libsmoother.a, made by `scripts/staticlib smoother`.
  *
  *     gcc -std=c11 -Iinclude program.c target/staticlib/libsmoother.a -o program
  *

@@ -2,8 +2,8 @@
 # Builds the proved code as libraries, and compares it with the published Rust and with the oracle's own reader and calls, bit for bit.
 set -eu
 cd "$(dirname "$0")/.."
-rt staticlib probe
-rt staticlib smoother
+scripts/staticlib probe
+scripts/staticlib smoother
 ./smooth --build
 cd oracle
 cargo build --release --bins

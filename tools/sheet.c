@@ -15,7 +15,7 @@ enum status library_fits(void)
 {
     if (smoother_run_bytes() == sizeof(struct smoother_run) && smoother_sheet_numbers() == SMOOTHER_NUMBERS)
         return DONE;
-    return trouble("libsmoother.a is another than include/smoother.h: build both anew (rt staticlib smoother, make -C tools)");
+    return trouble("libsmoother.a is another than include/smoother.h: build both anew (scripts/staticlib smoother, make -C tools)");
 }
 
 struct refusal refuse(uint32_t number, size_t line)

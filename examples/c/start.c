@@ -1,6 +1,6 @@
 /* Reads a sheet, starts its run, does some steps, whose totals it reports, and prints the first row of channel 0's plane, each value as the bits of its f32.
  *
- *     rt staticlib smoother
+ *     scripts/staticlib smoother
  *     gcc -std=c11 -Wall -Wextra -Werror -Iinclude examples/c/start.c target/staticlib/libsmoother.a -o target/start
  *     target/start samples/whole.tsv          # all steps of the sheet
  *     target/start samples/colour.tsv 3       # the first three

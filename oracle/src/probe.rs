@@ -228,7 +228,7 @@ pub fn finish(rounding: u32, [w, h, width, height, channels]: [u32; 5], planes: 
 #[allow(dead_code)]
 fn missing() -> ! {
     eprintln!(
-        "built without these proved functions: run `rt staticlib probe` and `rt staticlib smoother` in the repository, then build again"
+        "built without these proved functions: run `scripts/staticlib probe` and `scripts/staticlib smoother` in the repository, then build again"
     );
     std::process::exit(2)
 }

@@ -1,4 +1,4 @@
-//! Links libsmoother.a, which `rt staticlib smoother` makes in the repository. SMOOTHER_LIB names another folder that holds it.
+//! Links libsmoother.a, which `scripts/staticlib smoother` makes in the repository. SMOOTHER_LIB names another folder that holds it.
 use std::{env, path::Path};
 
 fn main() {
@@ -9,7 +9,7 @@ fn main() {
     println!("cargo::rerun-if-changed={}", archive.display());
     if !archive.is_file() {
         println!(
-            "cargo::error=no {}: run `rt staticlib smoother` in the repository, or set SMOOTHER_LIB",
+            "cargo::error=no {}: run `scripts/staticlib smoother` in the repository, or set SMOOTHER_LIB",
             archive.display()
         );
     }
