@@ -1,12 +1,10 @@
 -- Separate mode: each channel's run on its part of what the sheet is lent.
 use mathlib.Core.Path.{◌≡◌, refl, sym, ap, ◌∙◌, subst}
-use mathlib.Core.Logic.{◌≢◌, ◌⊎◌, inl, inr, ⊎_elim}
-use denote.Enum.Declared.{tag_of}
-use types.Run.{OneOf}
+use mathlib.Core.Logic.{◌≢◌, ◌⊎◌, inl, inr}
 use mathlib.Core.Bool.{Bool, true, false, cond}
 use mathlib.Core.List.{List, [], ◌∷◌, ◌++◌}
-use Prim.Native.Nat.{ℕ, zero, suc, ◌+◌, ◌-◌, ◌*◌, ◌≤◌, ◌<◌}
-use native.Mathlib.Nat.{zero-mul, eq-or-lt_of_le, le_of_eq}
+use Prim.Native.Nat.{ℕ, zero, suc, ◌+◌, ◌*◌, ◌≤◌, ◌<◌}
+use native.Mathlib.Nat.{eq-or-lt_of_le, le_of_eq}
 use native.Mathlib.Omega.{arith}
 use native.Mathlib.Numerals.{add-one}
 use lib.ListN.{length, get_or, set, drop, length-set}
@@ -23,7 +21,7 @@ use Rattle.fold.proofs.Parts.{part_length, splice-length}
 use Rattle.fold.proofs.Joins.{filled_none, filled_more, filled_all}
 use Rattle.start.specs.Buffers.{Buffers}
 use Rattle.contents.specs.declared.Sheet.{Sheet}
-use Rattle.calls.specs.Run.{Numbers, Given, own, count, coefs, levels_before, levels_part, every, among}
+use Rattle.calls.specs.Run.{Numbers, Given, coefs, levels_before, levels_part, every, among}
 use Rattle.calls.specs.Buffers.{Plane, Prior, Gradient, Across, Down, Saved, get, joined, channel, put_channel, Sized}
 use Rattle.calls.specs.Calls.{done, blown, all, all_six, lengths, table_ok, levels_fault, lend_tests, start_refusal}
 use Rattle.calls.proofs.Parts.{channel_sized, put_sized, put_same, put_other, joined_channels}
@@ -31,7 +29,6 @@ use Rattle.calls.proofs.Tests.{every_at, among_true, all_part, faultless_of, of_
 use Rattle.record.specs.declared.Run.{Run}
 use Rattle.record.specs.declared.Answer.{Answer}
 use Rattle.record.specs.declared.Answer.TheVariants.{Refused, Done}
-use Rattle.record.specs.contracts.Answer.{the_type}
 use Rattle.record.specs.Model.{Legal, own_of, no_channel, sheet_of, places_of, clipped_of, answer_of}
 use Rattle.record.proofs.Channels.{at_own}
 use Rattle.record.proofs.Sizes.{count_3, levels_rise, levels_small}
@@ -39,7 +36,7 @@ use Rattle.rounds.specs.Whole.{six, run_blows, run_totals, Whole, last, run_of, 
 use Rattle.rounds.proofs.Steps.{Kept, kept_of}
 use Rattle.rounds.proofs.Ends.{same_lengths, totals_length, renumber, is_done, not_done}
 use Rattle.solve.specs.Solve.{joint, alone, iterations_at, steps_before, blend_count, joint_given, alone_given, levels_for, tables_for, alone_clipped, separately, whole_of, number_in, is_legal, all_legal, solve_refusal, SolveIs}
-use Rattle.solve.specs.Separate.{totals_from, loan_of, put_loan, PartsAre, AloneAsks, AloneIs, SeparateAsks, SeparateIs}
+use Rattle.solve.specs.Separate.{totals_from, loan_of, PartsAre, AloneAsks, AloneIs, SeparateAsks, SeparateIs}
 
 -- ---- what a sheet that is not refused has passed
 
@@ -463,7 +460,7 @@ module _ (S : Sheet) (levels : Levels) (tables : List ℕ) (L₀ : Loan) (asks :
         long_now : length L'.totals ≡ length L₀.totals
         long_now = now_long S levels tables L₀ z i left L.buffers long L.totals room_now a r L' said ∙ h.totals_long
 
-        pub goes-on : OneOf (1 ∷ []) (tag_of the_type a) → (k : ℕ) → k ≡ clipped_of r 0 → Parting S levels tables S.header.channels (i + 1) L₀ L' (set ks i k)
+        pub goes-on : a ≡ Done → (k : ℕ) → k ≡ clipped_of r 0 → Parting S levels tables S.header.channels (i + 1) L₀ L' (set ks i k)
         goes-on one k e =
             let d = done_run S levels tables L₀ z i left L.buffers long L.totals room_now a r L' said (is_done a one) in
             rw (add-one)
@@ -497,7 +494,7 @@ module _ (S : Sheet) (levels : Levels) (tables : List ℕ) (L₀ : Loan) (asks :
                 subst (λ (d : ℕ). number_in (set ks i k) d ≡ alone_clipped S levels tables d) same (get_or-set_same ks i k 0 few ∙ p)
             put c (inr l) p = get_or-set_other ks i c k 0 (λ e. omega arith) ∙ h.numbers c (omega arith)
 
-        pub stops : OneOf (0 ∷ 2 ∷ 3 ∷ []) (tag_of the_type a) → SeparateIs S levels tables L₀ a ks L'
+        pub stops : (a ≡ Done → ⊥) → SeparateIs S levels tables L₀ a ks L'
         unfolding separately
         stops one =
             let d = blown_run S levels tables L₀ z i left L.buffers long L.totals room_now a r L' said (not_done a one) in

@@ -14,7 +14,6 @@ use Rattle.contents.specs.Hold as Hold
 use Rattle.contents.specs.Hold.{hold_at}
 use Rattle.start.specs.declared.coef.Reorder.{Reorder}
 use Rattle.start.specs.declared.coef.Reorder.TheVariants.{Each, Once}
-use Rattle.start.specs.Buffers.{Buffers}
 use Rattle.calls.specs.Run.{Given, levels_before, levels_part, every, among, legal}
 use Rattle.calls.specs.Buffers.{joined}
 use Rattle.calls.specs.Calls.{lengths, all_six, start_refusal}
