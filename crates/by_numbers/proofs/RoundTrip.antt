@@ -1,6 +1,6 @@
 -- A sheet's record lent out as numbers and given back: what the whole run refuses and what it leaves are those of the sheet, in either form
 -- of its weights.
-use mathlib.Core.Path.{◌≡◌, refl, sym, ap, ◌∙◌, fun_ext}
+use mathlib.Core.Path.{◌≡◌, refl, ap, ◌∙◌, fun_ext}
 use mathlib.Core.Logic.{◌≢◌}
 use Prim.Native.Nat.{ℕ, zero, suc, ◌+◌, ◌*◌}
 use mathlib.Core.Bool.{Bool, true, false, cond, ◌&&◌}
@@ -8,7 +8,7 @@ use mathlib.Core.List.{List}
 use lib.Dec.{T, eqb, leb}
 use lib.ListN.{length}
 use lib.IntN.{pos}
-use lib.Ieee.{Float, binary32, of_bits, to_bits, fits, of_int}
+use lib.Ieee.{binary32, fits}
 use lib.Ieee.Bits.{of_bits-to_bits, of_bits-fits}
 use lib.Ieee.Fits.{of_int-fits}
 use Rattle.start.specs.Coef.{Levels}

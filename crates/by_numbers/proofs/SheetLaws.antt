@@ -13,9 +13,9 @@ use Rattle.sheet.specs.declared.Answer.{Answer}
 use Rattle.sheet.specs.declared.Answer.TheVariants as answer
 use Rattle.contents.specs.declared.Reader.{Reader}
 use Rattle.contents.specs.Sheets.{Lent}
-use Rattle.sheet.specs.Reading.{Outcome, Contents, read_text}
+use Rattle.sheet.specs.Reading.{Outcome, Contents}
 use Rattle.sheet.specs.Reading.Outcome.{Gives, Refused}
-use Rattle.sheet.specs.Calls.{Lengths, measured_says, answer_says, sheet_in, lengths_of, measuring, fits, fitted, reading, lent_after}
+use Rattle.sheet.specs.Calls.{Lengths, measured_says, answer_says, sheet_in, lengths_of, fits, fitted, lent_after}
 use Rattle.by_numbers.specs.Sheets.{Measures, ReadsNumbers, numbers_of, record_count, with_record, reader_from, by_reader}
 
 pub measured_lengths : (o : Outcome Lengths) (r : Measured) (n m n₀ m₀ : ℕ) → measured_says r ≡ o → r ≡ measured.Lengths n m → Measures o n₀ n m₀ m 0 0

@@ -1,6 +1,6 @@
 -- The exported whole run and picture: a sheet's record given back as the numbers that reading lent out, and what `solve` and `finish` give, with the
 -- answer as a number.
-use Rattle.std.specs.Prelude.{ℕ, zero, suc, ◌+◌, ◌≡◌, ◌≢◌, Bool, cond, ◌&&◌, List, length, get_or, eqb, leb, Float}
+use Rattle.std.specs.Prelude.{ℕ, ◌+◌, ◌≡◌, ◌≢◌, Bool, cond, ◌&&◌, List, length, get_or, eqb, leb, Float}
 use Rattle.start.specs.Coef.{Levels}
 use Rattle.contents.specs.declared.Weight.TheVariants as weight
 use Rattle.contents.specs.declared.Sheet.{Sheet}

@@ -1,0 +1,13 @@
+-- `put_clipped`: place by place.
+use mathlib.Core.Path.{◌≡◌}
+use Prim.Native.Nat.{ℕ, ◌≤◌, ◌-◌}
+use lib.ListN.{length, get_or}
+use Rattle.fold.specs.Fold.{upto}
+use Rattle.fold.proofs.Stores.{store_at}
+use Rattle.by_numbers.proofs.sheets.put_clipped.Given as goal
+
+abbrev pub invariant-loop-k : goal.invariant-loop-k
+invariant-loop-k l = (l.k ≤ l.k-end) × (length l.initial.to ≤ 3) × (length l.to ≡ length l.initial.to) × (length l.from ≡ 3) × (l.to ≡ upto (store_at 0 (λ (i : ℕ). get_or l.from i 0)) l.k l.initial.to)
+
+abbrev pub decreases-loop-k : goal.decreases-loop-k
+decreases-loop-k l = l.k-end - l.k

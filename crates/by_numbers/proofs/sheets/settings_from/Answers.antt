@@ -1,0 +1,5 @@
+-- `settings_from` meets its contract.
+use Rattle.by_numbers.proofs.sheets.settings_from.Goals as goal
+
+pub returns : goal.returns
+returns c = rw (c.choice_from-rounding.ensures, c.choice_from-start.ensures)
