@@ -19,7 +19,7 @@ use Rattle.demand.specs.Solver.{jobs}
 use Rattle.record.specs.Model.{sheet_of}
 use Rattle.rounds.specs.Whole.{job_count, run_of}
 use Rattle.rounds.proofs.Ends.{kept_most}
-use Rattle.solve.specs.Solve.{joint, alone, joint_given, alone_given, separately, whole_of, clipped_at}
+use Rattle.solve.specs.Solve.{alone, joint_given, alone_given, separately, whole_of, clipped_at}
 use Rattle.output.specs.Output.{Wrote, clipped_text, clipped_into}
 use Rattle.output.proofs.Sizes.{clipped-into, clipped_room_32}
 use Rattle.output.proofs.Fronts.{wrote_as, wrote_more}

@@ -1,5 +1,5 @@
 -- What a partner sees is a function of what reading leaves in the buffers, which hidden levels don't change; what any reader gets is legal.
-use Prim.Native.Nat.{ℕ, zero, suc}
+use Prim.Native.Nat.{ℕ, suc}
 use mathlib.Core.Path.{◌≡◌, refl, sym, ap, ◌∙◌}
 use mathlib.Core.Bool.{Bool, true, false, cond}
 use mathlib.Core.List.{List, [], ◌∷◌}
@@ -23,7 +23,7 @@ use Rattle.grammar.proofs.LegalLaws.{legal}
 use Rattle.grammar.proofs.CanonicalLaws.{accepts}
 use Rattle.grammar.proofs.PartnerLaws.{partner_blind, staff_unmarked}
 use Rattle.program.specs.Printed.{limits, says, printed}
-use Rattle.program.specs.Partner.{Seen, seen_of, seen, DifferHidden, PartnerSees, RefusedAlike, SeenLegal, StaffShown}
+use Rattle.program.specs.Partner.{seen_of, seen, DifferHidden, PartnerSees, RefusedAlike, SeenLegal, StaffShown}
 
 -- ---- two texts that differ in hidden levels
 
@@ -97,8 +97,8 @@ hide_ranges ms i (l ∷ ls) [] r = tt
 hide_ranges ms i (l ∷ ls) (h ∷ hs) r = (hide_range (hidden ms i) l h r.0, hide_ranges ms (suc i) ls hs r.1)
 
 pub legal_seen : (limits : Limits) (s : Sheet) (h : Held) → LegalSheet limits s h.lent → (who : Reader) → LegalSheet limits s (seen_by who h)
-legal_seen limits s h l reader.Staff = l
-legal_seen limits s h l reader.Partner =
+legal_seen given s h l reader.Staff = l
+legal_seen given s h l reader.Partner =
     record {
       limits_legal = l.limits_legal;
       header = l.header;

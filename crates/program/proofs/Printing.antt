@@ -1,17 +1,12 @@
 -- From what each call promises to the text that is printed.
 use mathlib.Core.Path.{◌≡◌, refl, sym, ap, ◌∙◌, subst}
-use mathlib.Core.Logic.{⊎_elim}
 use mathlib.Core.Bool.{Bool, true, false}
-use mathlib.Core.List.{List, [], ◌∷◌}
+use mathlib.Core.List.{List}
 use Prim.Native.Nat.{ℕ, zero, suc, ◌+◌, ◌-◌, ◌*◌, ◌≤◌, ◌<◌}
 use native.Mathlib.Nat.{suc-mul, mul-le-mul}
 use native.Mathlib.Omega.{arith}
-use denote.Enum.Declared.{tag_of}
-use types.Run.{OneOf}
 use borrow.Author.Tests.{eq-eqb, le-leb}
-use lib.Dec.{T, eqb}
 use lib.Ieee.{Float}
-use lib.Ieee.Fits.{and_i, eq→eqb}
 use lib.ListN.{length, take}
 use lib.Seq.{length-take-le}
 use Rattle.contents.specs.declared.Header.{Header}
@@ -21,7 +16,7 @@ use Rattle.sheet.specs.declared.Measured.TheVariants as measured
 use Rattle.sheet.specs.declared.Answer as Read
 use Rattle.sheet.specs.declared.Answer.TheVariants as read
 use Rattle.contents.specs.Legal.{LegalHeader, LegalSheet}
-use Rattle.contents.specs.Sheets.{channel_at, levels_to, Lent, Marked, held}
+use Rattle.contents.specs.Sheets.{levels_to, Lent, Marked, held}
 use Rattle.contents.specs.declared.Reader.TheVariants as reader
 use Rattle.sheet.specs.Reading.{Outcome, Contents, contents, read_text}
 use Rattle.sheet.specs.Reading.Outcome.{Gives, Refused}
@@ -32,11 +27,11 @@ use Rattle.grammar.proofs.PrefixLaws.{decides}
 use Rattle.digits.specs.Written.{decimal}
 use Rattle.start.specs.Coef.{Levels}
 use Rattle.start.specs.Buffers.{Buffers}
-use Rattle.calls.specs.Buffers.{Name, Plane, Prior, Gradient, Across, Down, Saved, get, Sized}
-use Rattle.calls.specs.Calls.{all, all_six, lengths}
+use Rattle.calls.specs.Buffers.{Plane, Prior, Gradient, Across, Down, Saved, Sized}
+use Rattle.calls.specs.Calls.{all_six, lengths}
 use Rattle.record.specs.declared.Answer.{Answer}
+use Rattle.record.specs.declared.Answer.TheVariants.{Done}
 use Rattle.record.specs.Model.{answer_of}
-use Rattle.record.specs.contracts.Answer.{the_type}
 use Rattle.calls.proofs.Tests.{sized_names}
 use Rattle.rounds.specs.Whole.{Loan, loan, ClippedAre, Ended, Ends}
 use Rattle.solve.specs.Solve.{blend_count, whole_of, planes, blows, totals_of, clipped_at, number_in, SolveIs}
@@ -47,7 +42,7 @@ use Rattle.picture.specs.Finish as Finish
 use Rattle.picture.proofs.Pixels.{picture_length}
 use Rattle.output.specs.Output.{Wrote, picture_into, refusal_text, refusal_into}
 use Rattle.output.proofs.Fronts.{wrote_as, wrote_more}
-use Rattle.program.specs.Printed.{limits, levels_of, rounding_of, painted, totals_lines, clipped_lines, sheet_text, says, printed, most_picture, most_totals, most_printed, printed_into, SixLong}
+use Rattle.program.specs.Printed.{limits, levels_of, rounding_of, painted, totals_lines, clipped_lines, sheet_text, says, printed, most_picture, most_printed, printed_into, SixLong}
 use Rattle.program.proofs.Clipped.{clipped_small, lines_same}
 use Rattle.program.proofs.Accepts.{at-most, accepts}
 use Rattle.grammar.proofs.BoundLaws.{LineTo, line_bound}
@@ -95,7 +90,7 @@ module _ (S : Sheet) (b : Lent) (l : LegalSheet limits S b) (B : Buffers)
       (accepts limits S b l (lengths all_six B) (sized_names size B sized all_six) (length T₀) room) said
 
   -- done: it did not blow, and the planes, the totals and the numbers are there
-  module _ (one : OneOf (1 ∷ []) (tag_of the_type a)) where
+  module _ (one : a ≡ Done) where
     not_blown : (b : Bool) → Ended b (whole_of S ls ts) (loan B T₀) (answer_of a) (number_in ks) L'
         → (b ≡ false) × (L' ≡ loan (whole_of S ls ts).buffers (totals_of S ls ts)) × (length L'.buffers.plane ≡ size) × ClippedAre (whole_of S ls ts) (number_in ks)
         × (length L'.totals ≡ length T₀)
@@ -127,7 +122,7 @@ module _ (S : Sheet) (b : Lent) (l : LegalSheet limits S b) (B : Buffers)
         (wrote_more (wrote_as (lines_same S.header.channels (number_in ks) (clipped_at S ls ts) numbers) k) (omega arith) (wrote_as (λ i. painted (q i) S.header (shown i)) w)))
 
   -- any other answer: it blew
-  module _ (other : OneOf (0 ∷ 2 ∷ 3 ∷ []) (tag_of the_type a)) where
+  module _ (other : a ≡ Done → ⊥) where
     blown : (b : Bool) → Ended b (whole_of S ls ts) (loan B T₀) (answer_of a) (number_in ks) L' → b ≡ true
     blown true e = refl
     blown false e = absurd (not_done a other (sym e.0))

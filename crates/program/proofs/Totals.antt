@@ -1,7 +1,7 @@
 -- The lines `T`: how many there are at most, and where each run's stand.
 use mathlib.Core.Path.{◌≡◌, refl, sym, ap, ◌∙◌}
 use mathlib.Core.Bool.{Bool, true, false, cond}
-use mathlib.Core.List.{List, [], ◌++◌}
+use mathlib.Core.List.{List, []}
 use Prim.Native.Nat.{ℕ, zero, suc, ◌+◌, ◌-◌, ◌*◌, ◌≤◌, ◌<◌}
 use native.Mathlib.Nat.{suc-mul}
 use native.Mathlib.Numerals.{add-one}
@@ -19,7 +19,7 @@ use Rattle.solve.specs.Solve.{iterations_at, steps_before, blend_count}
 use Rattle.solve.proofs.Alone.{steps_rise}
 use Rattle.output.specs.Output.{Wrote, totals_text, totals_into}
 use Rattle.output.proofs.Sizes.{totals-into, totals_room}
-use Rattle.output.proofs.Fronts.{wrote_none, wrote_as, wrote_more}
+use Rattle.output.proofs.Fronts.{wrote_as, wrote_more}
 use Rattle.program.specs.Printed.{limits, run_lines, totals_lines, most_totals, most_printed}
 use Rattle.program.proofs.Accepts.{at-most}
 

@@ -3,7 +3,6 @@
 use Rattle.std.specs.Prelude.{ℕ, ◌≡◌, List, Float}
 use Rattle.contents.specs.declared.Limits.{Limits}
 use Rattle.sheet.specs.Reading.{Contents, read_text}
-use Rattle.sheet.specs.Reading.Outcome.{Gives}
 use Rattle.solve.specs.Solve.{planes}
 use Rattle.program.specs.Printed.{levels_of, says}
 

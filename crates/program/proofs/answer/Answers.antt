@@ -1,0 +1,13 @@
+-- `program::answer` meets its contract: a refusal of measuring is the one of reading, and its line has few digits.
+use Rattle.program.proofs.Printing.{measured_room, refusal-text}
+use Rattle.program.proofs.answer.Goals as goal
+
+pub read_and_solve-requires : goal.read_and_solve-requires
+read_and_solve-requires c = let o = c.measure in (measured_room _ o.result _ _ o.ensures c.in-Lengths.is, c.requires.1)
+
+pub returns-in-Refused : goal.returns-in-Refused
+returns-in-Refused c =
+    let a = c.args in
+    let p = c.requires in
+    let o = c.measure in
+    refusal-text a.text.now p.0 o.result _ _ o.ensures c.in-Refused.is a.out.now _ _ p.1 c.write_refusal.ensures

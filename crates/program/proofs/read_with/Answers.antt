@@ -1,0 +1,23 @@
+-- `program::read_with` meets its contract: the sheet that is read is legal, and no text whose lengths were measured is refused.
+use Rattle.contents.specs.Sheets.{lent}
+use Rattle.program.proofs.Printing.{sheet_legal, sheet-text, not_refused}
+use Rattle.program.proofs.read_with.Goals as goal
+
+pub solved-requires : goal.solved-requires
+solved-requires c =
+    let a = c.args in
+    let p = c.requires in
+    let o = c.read in
+    (sheet_legal a.text.now (lent a.lows.now a.highs.now a.tables.now) _ o.result p.0 p.1 o.ensures _ c.in-Sheet.is, p.2)
+
+pub returns-in-Sheet : goal.returns-in-Sheet
+returns-in-Sheet c =
+    let a = c.args in
+    let o = c.read in
+    sheet-text a.text.now (lent a.lows.now a.highs.now a.tables.now) _ o.result c.requires.0 c.requires.1 o.ensures _ c.in-Sheet.is a.out.now _ _ c.solved.ensures
+
+pub returns-in-Refused : goal.returns-in-Refused
+returns-in-Refused c =
+    let a = c.args in
+    let o = c.read in
+    absurd (not_refused a.text.now (lent a.lows.now a.highs.now a.tables.now) _ o.result c.requires.0 c.requires.1 o.ensures _ _ c.in-Refused.is)
