@@ -1,10 +1,8 @@
 -- C's record and a call's answer in numbers: what a call gives by value, it gives in numbers, and 13 where C's record has no letter.
 use mathlib.Core.Path.{◌≡◌, refl, sym, ap, ◌∙◌, subst}
 use mathlib.Core.Bool.{true≢false}
-use mathlib.Core.Logic.{◌≢◌, ⊎_elim}
-use mathlib.Core.List.{List, [], ◌∷◌}
-use denote.Enum.Declared.{tag_of}
-use types.Run.{OneOf}
+use mathlib.Core.Logic.{◌≢◌}
+use mathlib.Core.List.{List}
 use Prim.Native.Nat.{ℕ, zero, suc, ◌≤◌, ◌<◌}
 use native.Mathlib.Omega.{arith}
 use lib.Ieee.{Float}
@@ -17,7 +15,6 @@ use Rattle.start.specs.Buffers.{Buffers}
 use Rattle.record.specs.declared.Run.{Run}
 use Rattle.record.specs.declared.Answer.{Answer}
 use Rattle.record.specs.declared.Answer.TheVariants.{Refused, Done, Blown, Blended}
-use Rattle.record.specs.contracts.Answer.{the_type}
 use Rattle.record.specs.declared.Answered.{Answered}
 use Rattle.record.specs.Model.{answer_of}
 use Rattle.calls.specs.Jobs.{blend}
@@ -77,11 +74,11 @@ module _ {x : LentRun} {B : Buffers} {f : Run → Result} where
 -- ---- blend, with its totals
 
 -- an answer that has no totals
-pub no_pair : (a : Answer) (T : List Float) → OneOf (0 ∷ 1 ∷ 2 ∷ []) (tag_of the_type a) → T ≡ pair_in (answer_of a) T
-no_pair (Refused m) T one = refl
-no_pair Done T one = refl
-no_pair Blown T one = refl
-no_pair (Blended tv tgv) T one = let y : ⊥ = ⊎_elim (λ e. omega arith) (λ o. ⊎_elim (λ e. omega arith) (λ e. omega arith) o) one in absurd y
+pub no_pair : (a : Answer) (T : List Float) → ((tv tgv : Float) → a ≡ Blended tv tgv → ⊥) → T ≡ pair_in (answer_of a) T
+no_pair (Refused m) T none = refl
+no_pair Done T none = refl
+no_pair Blown T none = refl
+no_pair (Blended tv tgv) T none = absurd (none tv tgv refl)
 
 module _ {x : LentRun} {plane gradient across down totals : List Float} where
   pub not_two : length totals ≢ 2 → (k : ℕ) → k ≡ room_refusal x → BlendNumbers x plane gradient across down totals k x gradient across down totals

@@ -2,6 +2,3 @@
 pub mod InNumbers
 pub mod NeverBlows
 pub mod OneByOne
-pub mod Lent
-pub mod Thin
-pub mod Walk

@@ -1,0 +1,12 @@
+-- `start_number`: 13 for no letter, or what `start_value` gives of the record, in numbers.
+use Rattle.smoother.proofs.InNumbers.{no_letter, in-numbers}
+use Rattle.smoother.proofs.runs.start_number.Goals as goal
+
+pub returns-then-run-gt1 : goal.returns-then-run-gt1
+returns-then-run-gt1 c = no_letter c.if-run-gt1.true
+
+pub returns : goal.returns
+returns c =
+    let f = c.run_from-r in
+    let p = c.start_value-p in
+    in-numbers c.if-run-gt1.false f.result f.ensures p.result c.in_numbers.result c.in_numbers.ensures p.ensures
