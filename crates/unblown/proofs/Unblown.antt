@@ -14,7 +14,6 @@ use Rattle.calls.specs.Run.{Numbers, Given, own, count, every, among}
 use Rattle.calls.specs.Run as Model
 use Rattle.calls.specs.Buffers.{channel}
 use Rattle.calls.specs.Jobs.{fixed, channel_blown}
-use Rattle.calls.specs.Calls as Calls
 use Rattle.calls.specs.Calls.{all_six, begin, lengths, settle, start, start_refusal}
 use Rattle.calls.specs.Between.{GivenOk}
 use Rattle.calls.proofs.Tests.{and-false, among_false, every_of, never}
