@@ -65,37 +65,37 @@ def trace(t):
 
 # modules and the names that are taken from them; those of UNFOLD are opened to compute
 USES = {
-    'lib.Count': 'trailingZeros',
-    'lib.Ieee': 'add sub mul div sum round units odd size span climb ofBits ofFields neg ne eq lt ofInt',
-    'Rattle·fold.specs.Fold': 'upto',
-    'Rattle·float.specs.Ops': 'mulAdd fused square product half midpoint isqrt halves root clamp',
-    'Rattle·utils.specs.Blocks': 'fromBlocks toBlocks',
-    'Rattle·utils.specs.Dct': 'onLine idct8 dct8 idct8x8 dct8x8',
-    'Rattle·utils.specs.Auxiliary': 'upsamplePixels',
-    'Rattle·interval.specs.Interval': 'lowest highest dequantised mid',
-    'Rattle·steps.specs.Solve': 'nextTerm termOf constants pushed',
-    'Rattle·steps.specs.Step': 'dataAlpha gradientNorm movedBy moved',
-    'Rattle·gradients.specs.Tv': 'difference bump bumpUnless tvDifferencesAt tvDifferences gNormOf tvChannelDerivatives tvDerivatives store tvGradientPx tvAlpha tvGradient',
-    'Rattle·gradients.specs.Tgv': 'tgvDifferencesAt tgvDifferences g2NormOf tgvBeside tgvUpDown tgvCorners tgvChannelDerivatives tgvDerivatives tgvGradientPx tgvAlpha tgvGradient',
-    'Rattle·gradients.specs.Blend': 'blended',
-    'Rattle·start.specs.Coef': 'dequantise imageBlock imageData initDctTarget change',
-    'Rattle·start.specs.Auxiliary': 'initPixels auxInit',
-    'Rattle·fidelity.specs.DctGradient': 'cosbOf cosbsOf spread spreadBlock gradientBlock dctGradient dataGradient',
-    'Rattle·projection.specs.Projection': 'meanOf splitAt split clampAt clampBlock clamped keep ontoBox back projectFull projectMeans projectOntoBox',
-    'Rattle·projection.specs.Blown': 'isBlown',
-    'Rattle·work.specs.Work': 'pushing dataJob blending moving projecting',
+    'lib.Count': 'count_trailing_zeros',
+    'lib.Ieee': 'add sub mul div sum round units odd size span climb of_bits of_fields neg ne eq lt of_int',
+    'Rattle.fold.specs.Fold': 'upto',
+    'Rattle.float.specs.Ops': 'mul_add fused square product half midpoint isqrt halves root clamp',
+    'Rattle.utils.specs.Blocks': 'from_blocks to_blocks',
+    'Rattle.utils.specs.Dct': 'on_line idct8 dct8 idct8x8 dct8x8',
+    'Rattle.utils.specs.Auxiliary': 'upsample_pixels',
+    'Rattle.interval.specs.Interval': 'lowest highest dequantised mid',
+    'Rattle.steps.specs.Solve': 'next_term term_of constants pushed',
+    'Rattle.steps.specs.Step': 'data_alpha gradient_norm moved_by moved',
+    'Rattle.gradients.specs.Tv': 'difference bump bump_unless tv_differences_at tv_differences g_norm_of tv_channel_derivatives tv_derivatives store tv_gradient_px tv_alpha tv_gradient',
+    'Rattle.gradients.specs.Tgv': 'tgv_differences_at tgv_differences g2_norm_of tgv_beside tgv_up_down tgv_corners tgv_channel_derivatives tgv_derivatives tgv_gradient_px tgv_alpha tgv_gradient',
+    'Rattle.gradients.specs.Blend': 'blended',
+    'Rattle.start.specs.Coef': 'dequantise image_block image_data init_dct_target',
+    'Rattle.start.specs.Auxiliary': 'init_pixels aux_init',
+    'Rattle.fidelity.specs.DctGradient': 'cosb_of cosbs_of spread spread_block gradient_block dct_gradient data_gradient',
+    'Rattle.projection.specs.Projection': 'mean_of split_at split clamp_at clamp_block clamped keep onto_box back project_full project_means project_onto_box',
+    'Rattle.projection.specs.Blown': 'is_blown',
+    'Rattle.work.specs.Work': 'pushing data_job blending moving projecting',
 }
-OTHER = '''use mathlib.Core.Path.{_≡_, refl}
+OTHER = '''use mathlib.Core.Path.{◌≡◌, refl}
 use mathlib.Core.Bool.{false}
-use mathlib.Core.List.{List, [], _∷_, map}
-use Rattle·steps.specs.declared.solve.Constants.{Constants}
-use Rattle·start.specs.declared.coef.Reorder.the-variants.{Each}
-use Rattle·start.specs.Buffers.{Buffers}
-use Rattle·start.specs.Coef.{Coef, coef}
-use Rattle·work.specs.Work.{starting}
-use Rattle·calls.specs.Jobs.{channelBlown}
+use mathlib.Core.List.{List, [], ◌∷◌, map}
+use Rattle.steps.specs.declared.solve.Constants.{Constants}
+use Rattle.start.specs.declared.coef.Reorder.TheVariants.{Each}
+use Rattle.start.specs.Buffers.{Buffers}
+use Rattle.start.specs.Coef.{Coef, coef, change}
+use Rattle.work.specs.Work.{starting}
+use Rattle.calls.specs.Jobs.{channel_blown}
 use lib.Ieee.{Float, binary32}'''
-UNFOLD = ' '.join(USES.values())
+UNFOLD = ' '.join(USES.values()).replace('mean_of', 'mean_of change')
 
 
 def items(xs):
@@ -119,14 +119,14 @@ def main(name):
     o += ['use %s.{%s}' % (m, ', '.join(v.split())) for m, v in USES.items()]
     o.append('')
     given = name.lower()
-    o.insert(-1, 'use Rattle·wrong·specs.specs.Sheet.{%s}' % given)
+    o.insert(-1, 'use Rattle.wrong.specs.Sheet.{%s}' % given)
     for c, k in enumerate(channels):  # of one channel: its levels and quantisers are all that the sheet is given
-        o.append('unfoldable pub c%d : Coef\nc%d = coef (record { width = %d; height = %d; horizontal = %d; vertical = %d }) (%s .levels) (%s .tables)\n' % (
+        o.append('unfoldable pub c%d : Coef\nc%d = coef (record { width = %d; height = %d; horizontal = %d; vertical = %d }) %s.levels %s.tables\n' % (
             c, c, k['w'], k['h'], k['across'], k['down'], given, given))
     for step, k in sorted(constants.items()):
-        values = '; '.join('%s = ofBits binary32 %d' % (f, v) for f, v in zip(['term', 'factor', '«step_size»', 'second'], k))
+        values = '; '.join('%s = of_bits binary32 %d' % (f, v) for f, v in zip(['term', 'factor', 'step_size', 'second'], k))
         o.append('unfoldable pub k%d : Constants\nk%d = record { %s }\n' % (step, step, values))
-        o.append('pub constants-%d : constants %d %d %d (ofBits binary32 %d) %d ≡ k%d\nunfolding k%d %s\nconstants-%d = refl\n' % (
+        o.append('pub constants_%d : constants %d %d %d (of_bits binary32 %d) %d ≡ k%d\nunfolding k%d %s\nconstants_%d = refl\n' % (
             step, W, H, N, bits(smoothing), step, step, step, UNFOLD, step))
     lists = {}
 
@@ -134,7 +134,7 @@ def main(name):
         key = tuple(xs)
         if key not in lists:
             lists[key] = 'l%d' % len(lists)
-            o.append('unfoldable pub %s : List Float\n%s = map (ofBits binary32) (%s)\n' % (lists[key], lists[key], items(xs)))
+            o.append('unfoldable pub %s : List Float\n%s = map (of_bits binary32) (%s)\n' % (lists[key], lists[key], items(xs)))
         return lists[key]
 
     def record(name, values):
@@ -144,10 +144,10 @@ def main(name):
     for p in range(last + 1):
         for c in range(n):
             names[p, c] = [listed(xs) for xs in buffers[p, c]]
-            record('b%d-%d' % (p, c), names[p, c])
+            record('b%d_%d' % (p, c), names[p, c])
         if n > 1 and (p % 5 in (2, 3)):  # around blend: the flat buffers of all channels
             record('b%d' % p, [' ++ ('.join(names[p, c][k] for c in range(n)) + ')' * (n - 1) for k in range(6)])
-    joined = lambda p: 'b%d' % p if n > 1 else 'b%d-0' % p
+    joined = lambda p: 'b%d' % p if n > 1 else 'b%d_0' % p
 
     def theorem(label, left, right, opened):
         used = sorted({l for b in opened for l in b[1]}, key=lambda l: int(l[1:]))
@@ -158,21 +158,21 @@ def main(name):
         if p and job == 2:
             before = [(joined(p - 1), sum((names[p - 1, c] for c in range(n)), []))]
             after = [(joined(p), sum((names[p, c] for c in range(n)), []))]
-            theorem('blend-%d' % p, 'blending %d %d %d (λ c. false) k%d %s' % (W, H, n, step, joined(p - 1)), joined(p), before + after + [('k%d' % step, [])])
+            theorem('blend_%d' % p, 'blending %d %d %d (λ c. false) k%d %s' % (W, H, n, step, joined(p - 1)), joined(p), before + after + [('k%d' % step, [])])
             continue
         for c in range(n):
-            b, d = 'b%d-%d' % (p - 1, c), 'b%d-%d' % (p, c)
+            b, d = 'b%d_%d' % (p - 1, c), 'b%d_%d' % (p, c)
             opened = [(given, []), ('c%d' % c, []), (d, names[p, c])] + ([(b, names[p - 1, c]), ('k%d' % step, [])] if p else [])
             left = ['starting Each c%d %d %d' % (c, W, H)] if p == 0 else {
                 0: ['pushing k%d %s' % (step, b)],
-                1: ['dataJob c%d %d %d (ofBits binary32 %d) %s' % (c, W, H, bits(weights[c]), b)],
+                1: ['data_job c%d %d %d (of_bits binary32 %d) %s' % (c, W, H, bits(weights[c]), b)],
                 3: ['moving k%d %s' % (step, b)],
                 4: ['projecting c%d %d %d %s' % (c, W, H, b)],
             }[job]
-            label = (['start'] if p == 0 else [['push', 'data', 'blend', 'move', 'project'][job]])[0] + '-%d-%d' % (p, c)
+            label = (['start'] if p == 0 else [['push', 'data', 'blend', 'move', 'project'][job]])[0] + '_%d_%d' % (p, c)
             theorem(label, left[0], d, opened)
             if p and job == 4:
-                theorem('mark-%d-%d' % (p, c), 'channelBlown %s %d %s' % (given, c, d), 'true' if marks[p, c] else 'false', [(given, []), (d, names[p, c])])
+                theorem('mark_%d_%d' % (p, c), 'channel_blown %s %d %s' % (given, c, d), 'true' if marks[p, c] else 'false', [(given, []), (d, names[p, c])])
     with open('crates/wrong/proofs/%s.antt' % name, 'w') as f:
         f.write('\n'.join(o))
     print(name, 'positions 0 to %d' % last, 'channels', n, 'marks', sorted(k for k in marks if marks[k]))
