@@ -8,6 +8,8 @@ mod served;
 
 ghost use Rattle.std.specs.Prelude.{◌≤◌, length};
 
+use std::io;
+use std::io::Read;
 use words::{Tally, line_end, refill};
 
 // The tally after some lines, and where the first line that has no end yet starts.
@@ -42,24 +44,25 @@ fn count_lines(s: &[u8], to: usize, tally: Tally) -> Counted
 }
 
 // Counts all lines of standard input, read into `text` piece by piece. The loop ends where nothing more is counted.
-fn count_input(text: &mut [u8]) -> Tally {
+fn count_input<R: Read>(input: &mut R, text: &mut [u8]) -> io::Result<Tally> {
     let turns: usize = 1000000;
     let mut tally = Tally::none();
     let mut from = 0;
     let mut to = 0;
     for _ in 0..turns {
-        to = refill(text, from, to);
+        to = refill(input, text, from, to)?;
         let counted = count_lines(&text[..], to, tally);
         tally = counted.tally;
         from = counted.at;
         if from == 0 {
-            return tally;
+            return Ok(tally);
         }
     }
-    tally
+    Ok(tally)
 }
 
-fn main() {
-    let mut space = io::large_buffer();
-    count_input(&mut space).print();
+fn main(rt: HostRuntime) -> io::Result<()> {
+    let mut space = [0u8; 65536];
+    let tally = count_input(&mut rt.stdin(), &mut space)?;
+    tally.print(&rt)
 }
