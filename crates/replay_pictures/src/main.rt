@@ -4,7 +4,9 @@
 
 ghost use Rattle.std.specs.Prelude.{◌≡◌, ◌≤◌, length};
 
-use libc::{STDIN_FILENO, STDOUT_FILENO};
+use filling::read_full;
+use std::io;
+use std::io::{Read, Write};
 
 fn digit(b: u8) -> usize
     ensures { result ≤ 9 }
@@ -27,35 +29,46 @@ fn length_of(d: &[u8]) -> usize
 }
 
 // The next text of standard input, and what is printed for it. Whether there was one.
-fn print_next(space: &mut [u8], out: &mut [u8]) -> bool
+fn print_next<R: Read, W: Write>(
+    input: &mut R,
+    to: &mut W,
+    space: &mut [u8],
+    out: &mut [u8],
+) -> io::Result<bool>
     requires { 65536 ≤ length space.old }
 {
     let mut d = [48u8; 5];
-    let got = io::read_full(STDIN_FILENO, &mut d);
+    let got = read_full(input, &mut d)?;
     if got < 5 {
-        return false;
+        return Ok(false);
     }
     let n = length_of(&d);
-    let m = io::read_full(STDIN_FILENO, &mut space[0..n]);
+    let m = read_full(input, &mut space[0..n])?;
     let r = program::smooth_text(&space[0..m], out);
-    io::write_all(STDOUT_FILENO, &out[0..r]);
-    true
+    to.write_all(&out[0..r])?;
+    Ok(true)
 }
 
 // All texts of standard input. The loop ends where there is no more.
-fn print_all(space: &mut [u8], out: &mut [u8])
+fn print_all<R: Read, W: Write>(
+    input: &mut R,
+    to: &mut W,
+    space: &mut [u8],
+    out: &mut [u8],
+) -> io::Result<()>
     requires { 65536 ≤ length space.old }
 {
     let turns: usize = 1000000;
     for _ in 0..turns {
-        if !print_next(space, out) {
-            return;
+        if !print_next(input, to, space, out)? {
+            return Ok(());
         }
     }
+    Ok(())
 }
 
-fn main() {
-    let mut space = io::large_buffer();
+fn main(rt: HostRuntime) -> io::Result<()> {
+    let mut space = [0u8; 65536];
     let mut out = [0u8; 139264];
-    print_all(&mut space, &mut out);
+    print_all(&mut rt.stdin(), &mut rt.stdout(), &mut space, &mut out)
 }
