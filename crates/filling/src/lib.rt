@@ -8,6 +8,7 @@ use std::io::{ErrorKind, Read};
 
 // Reads until the buffer is full or the input ends, and answers how many bytes stand at its front. A read that a signal interrupts is made again. Where a
 // read fails its error is answered, and what the buffer then holds is not promised but for its length.
+// Rules out: a count past the buffer's end; and a buffer that comes back with another length.
 pub fn read_full<R: Read>(input: &mut R, buf: &mut [u8]) -> io::Result<usize>
     ensures len { length buf.new ≡ length buf.old }
     ensures bound { IfOk result (λ n. n ≤ length buf.old) }
