@@ -1,14 +1,15 @@
 -- `sheet::read` meets its contract.
+use native.Mathlib.Omega.{arith}
 use Rattle.sheet.proofs.ReadLaws.{answers, read_sheet, read_never}
 use Rattle.sheet.proofs.read.Goals as goal
 
 pub returns-in-Sheet-walk : goal.returns-in-Sheet-walk
 returns-in-Sheet-walk c =
-    read_sheet _ _ _ _ _ _ _ c.count-counted.ensures _ _ _ _ c.in-Sheet.is c.if-n-lows.false c.if-h-highs.false c.if-m-tables.false _ _ _ _ _ c.walk.ensures _ _ _ _ c.in-Sheet-walk.is _ _ c.show.ensures c.show-in-Sheet-walk.ensures
+    read_sheet _ _ _ _ _ _ _ c.count-counted.ensures _ _ _ _ c.in-Sheet.is (omega arith) c.if-h-highs.false c.if-m-tables.false _ _ _ _ _ c.walk.ensures _ _ _ _ c.in-Sheet-walk.is _ _ c.show.ensures c.show-in-Sheet-walk.ensures
 
 pub returns-in-Refused-walk : goal.returns-in-Refused-walk
 returns-in-Refused-walk c =
-    read_never _ _ _ _ _ _ _ c.count-counted.ensures _ _ _ _ c.in-Sheet.is c.if-n-lows.false c.if-h-highs.false c.if-m-tables.false _ _ _ _ _ c.walk.ensures _ _ c.in-Refused-walk.is
+    read_never _ _ _ _ _ _ _ c.count-counted.ensures _ _ _ _ c.in-Sheet.is (omega arith) c.if-h-highs.false c.if-m-tables.false _ _ _ _ _ c.walk.ensures _ _ c.in-Refused-walk.is
 
 pub returns-then-n-lows : goal.returns-then-n-lows
 returns-then-n-lows c = search answers
