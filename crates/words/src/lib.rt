@@ -142,6 +142,7 @@ pub fn bytes(s: &[u8], at: usize, out: &mut [u8]) -> usize
 
 // Moves what stands from `from` to `to` to the front of the buffer, reads the input behind it until the buffer is full or the input ends, and answers
 // where what was read ends. Where a read fails its error is answered, and of the buffer only its length is promised.
+// Rules out: an end past the buffer's; and a buffer that comes back with another length.
 pub fn refill<R: Read>(input: &mut R, buf: &mut [u8], from: usize, to: usize) -> io::Result<usize>
     requires { (from ≤ to) × (to ≤ length buf.old) }
     ensures len { length buf.new ≡ length buf.old }

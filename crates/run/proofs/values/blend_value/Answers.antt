@@ -1,9 +1,9 @@
 -- `blend_value`: refused as it was, or both gradients of all channels.
 use mathlib.Core.Path.{◌≡◌, sym, ap, ◌∙◌}
 use mathlib.Core.Bool.{Bool, false}
-use mathlib.Core.List.{[], ◌∷◌}
+use mathlib.Core.List.{[]}
 use Prim.Native.Nat.{ℕ, ◌/◌}
-use lib.ListN.{length, get_or}
+use lib.ListN.{get_or}
 use Rattle.start.specs.Coef.{pairs}
 use Rattle.calls.specs.Run.{place, held}
 use Rattle.calls.specs.Jobs.{blend}
@@ -26,18 +26,20 @@ returns-then-r-ne0 c =
     (c.blend_refusal-r.ensures levels tables) c.if-r-ne0.true
 
 pub constants_of-k-requires : goal.constants_of-k-requires
-constants_of-k-requires c = ((blendable c.args.run (pairs [] []) [] (length c.args.plane.now ∷ length c.args.gradient.now ∷ length c.args.across.now ∷ length c.args.down.now ∷ []) (sym (c.blend_refusal-r.ensures (pairs [] []) []) ∙ c.if-r-ne0.false)).is-legal, count_1 c.args.run (blendable c.args.run (pairs [] []) [] (length c.args.plane.now ∷ length c.args.gradient.now ∷ length c.args.across.now ∷ length c.args.down.now ∷ []) (sym (c.blend_refusal-r.ensures (pairs [] []) []) ∙ c.if-r-ne0.false)).is-legal)
+constants_of-k-requires c =
+    let passed = blendable c.args.run _ _ _ (sym (c.blend_refusal-r.ensures (pairs [] []) []) ∙ c.if-r-ne0.false) in
+    (passed.is-legal, count_1 c.args.run passed.is-legal)
 
 pub held_flags-held-requires : goal.held_flags-held-requires
-held_flags-held-requires c = (blendable c.args.run (pairs [] []) [] (length c.args.plane.now ∷ length c.args.gradient.now ∷ length c.args.across.now ∷ length c.args.down.now ∷ []) (sym (c.blend_refusal-r.ensures (pairs [] []) []) ∙ c.if-r-ne0.false)).is-legal
+held_flags-held-requires c = (blendable c.args.run _ _ _ (sym (c.blend_refusal-r.ensures (pairs [] []) []) ∙ c.if-r-ne0.false)).is-legal
 
 pub blend-t-requires : goal.blend-t-requires
 blend-t-requires c =
-    let h = (blendable c.args.run (pairs [] []) [] (length c.args.plane.now ∷ length c.args.gradient.now ∷ length c.args.across.now ∷ length c.args.down.now ∷ []) (sym (c.blend_refusal-r.ensures (pairs [] []) []) ∙ c.if-r-ne0.false)) in
+    let h = (blendable c.args.run _ _ _ (sym (c.blend_refusal-r.ensures (pairs [] []) []) ∙ c.if-r-ne0.false)) in
     (count_3 c.args.run h.is-legal, h.long.0, h.long.1.0, h.long.1.1.0, h.long.1.1.1.0)
 
 pub blended-next-requires : goal.blended-next-requires
-blended-next-requires c = (blendable c.args.run (pairs [] []) [] (length c.args.plane.now ∷ length c.args.gradient.now ∷ length c.args.across.now ∷ length c.args.down.now ∷ []) (sym (c.blend_refusal-r.ensures (pairs [] []) []) ∙ c.if-r-ne0.false)).is-legal
+blended-next-requires c = (blendable c.args.run _ _ _ (sym (c.blend_refusal-r.ensures (pairs [] []) []) ∙ c.if-r-ne0.false)).is-legal
 
 pub returns : goal.returns
 unfolding blending blend_totals
@@ -54,6 +56,5 @@ returns c =
     let sums = rw c.constants_of-k.ensures at c.blend-t.ensures.1
     ∙ ap (λ (h : ℕ → Bool). totals r.w r.h r.count h (constants_of (sheet_of r) step).second a.plane.now b) are in
     λ levels tables o.
-    call_accepted r levels tables blend (for_blend o a.plane.now a.gradient.now a.across.now a.down.now)
-    (sym (c.blend_refusal-r.ensures levels tables) ∙ c.if-r-ne0.false)
+    call_accepted r levels tables blend (for_blend o a.plane.now a.gradient.now a.across.now a.down.now) (sym (c.blend_refusal-r.ensures levels tables) ∙ c.if-r-ne0.false)
     ∙ sym (λ i. record { answer = Calls.blended (sums i).tv (sums i).tgv; run = c.blended-next.ensures i; buffers = for_blend o a.plane.now (done i).gradient (done i).across (done i).down })
