@@ -4,7 +4,7 @@ use mathlib.Core.List.{List}
 use mathlib.Core.Logic.{◌≢◌}
 use Prim.Native.Nat.{ℕ, zero, suc}
 use native.Mathlib.Omega.{arith}
-use Rattle.answers.specs.Answers.{fill, filled}
+use Rattle.answers.specs.Answers.{fill}
 
 module _ {A : Type 0} where
   -- done, and the new values
@@ -16,8 +16,3 @@ module _ {A : Type 0} where
   pub fill_refused : (n : ℕ) (new old : List A) → (fill n new old).number ≢ 0 → (fill n new old).written ≡ old
   fill_refused zero new old e = absurd (e refl)
   fill_refused (suc n) new old e = refl
-
-  -- the same of the tests' number
-  pub fill_is : (n : ℕ) (new old : List A) → n ≢ 0 → filled n old ≡ fill n new old
-  fill_is zero new old e = absurd (e refl)
-  fill_is (suc n) new old e = refl

@@ -1,4 +1,4 @@
--- A test of every value of a list, one value more at a time; what tests have told; and a level's range.
+-- A test of every value of a list, one value more at a time; what tests have told; the first of tests listed by places; and a level's range.
 use mathlib.Core.Path.{◌≡◌, refl, sym, ap, ◌∙◌, subst}
 use mathlib.Core.Bool.{Bool, true, false, not, ◌&&◌}
 use mathlib.Core.List.{List, [], ◌∷◌}
@@ -10,21 +10,10 @@ use lib.Dec.{T, leb, leb-suc-suc}
 use lib.IntN.{ℤ, pos, negsuc}
 use lib.ListN.{length, get_or, take}
 use lib.Seq.{take_all}
+use Rattle.std.proofs.lemmas.List.Folds.{list_all_more}
 use lib.Signed.{le_z}
 use Rattle.answers.specs.Tests.{Tests, first, test, all, level_ok}
 use Rattle.answers.specs.Lists.{listed}
-
-and_assoc : (a b c : Bool) → (a && (b && c)) ≡ (a && b && c)
-and_assoc true b c = refl
-and_assoc false b c = refl
-
-and-true : (a : Bool) → (a && true) ≡ a
-and-true true = refl
-and-true false = refl
-
-and-false : (a : Bool) → (a && false) ≡ false
-and-false true = refl
-and-false false = refl
 
 pub and_left : (a b : Bool) → (a && b) ≡ true → a ≡ true
 and_left true b e = refl
@@ -35,14 +24,9 @@ and_right true b e = e
 and_right false b e = absurd (subst T (sym e) tt)
 
 module _ {A : Type 0} (f : A → Bool) (d : A) where
-  one_more : (xs : List A) (k : ℕ) → k < length xs → all f (take (suc k) xs) ≡ (all f (take k xs) && f (get_or xs k d))
-  one_more [] k h = absurd (not-suc-le-zero h)
-  one_more (x ∷ xs) zero h = and-true (f x)
-  one_more (x ∷ xs) (suc k) h = ap (λ (b : Bool). f x && b) (one_more xs k (le_of_suc-le-suc h)) ∙ and_assoc (f x) (all f (take k xs)) (f (get_or xs k d))
-
   -- one value more, at the code's `k + 1`
   pub all_more : (xs : List A) (k : ℕ) {b t : Bool} → k < length xs → b ≡ all f (take k xs) → t ≡ f (get_or xs k d) → (b && t) ≡ all f (take (k + 1) xs)
-  all_more xs k h e g = rw (e, g, add-one) (sym (one_more xs k h))
+  all_more xs k h e g = rw (e, g) (sym (list_all_more f xs k d h))
 
   -- all of them
   pub all_end : (xs : List A) (k : ℕ) {b : Bool} → length xs ≤ k → b ≡ all f (take k xs) → b ≡ all f xs
@@ -59,12 +43,6 @@ module _ {A : Type 0} (f : A → Bool) (d : A) where
   all_of [] h = refl
   all_of (x ∷ xs) h = rw (h zero (suc-le-suc zero-le)) (all_of xs (λ k l. h (suc k) (suc-le-suc l)))
 
-  -- what fails at k fails
-  pub all_not : (xs : List A) (k : ℕ) → k < length xs → f (get_or xs k d) ≡ false → all f xs ≡ false
-  all_not [] k h e = absurd (not-suc-le-zero h)
-  all_not (x ∷ xs) zero h e = rw e
-  all_not (x ∷ xs) (suc k) h e = rw (all_not xs k (le_of_suc-le-suc h) e) (and-false (f x))
-
 -- ---- refusals that were not given
 
 pub holds : (n : ℕ) (b : Bool) → test (suc n) (not b) ≡ 0 → b ≡ true
@@ -80,37 +58,23 @@ passed_of [] e = tt
 passed_of (zero ∷ ts) e = (refl, passed_of ts e)
 passed_of (suc n ∷ ts) e = absurd (omega arith)
 
--- ---- two answers, and tests listed by their places
-
-pub first_two : (a b : ℕ) → a ≡ 0 → b ≡ first (a ∷ b ∷ [])
-first_two a zero e = rw e
-first_two a (suc b) e = rw e
-
-pub first_stays : (a b : ℕ) → (a ≡ 0 → ⊥) → a ≡ first (a ∷ b ∷ [])
-first_stays zero b n = absurd (n refl)
-first_stays (suc a) b n = refl
+-- ---- tests listed by their places
 
 pub first_one : (t : ℕ) → first (t ∷ []) ≡ t
 first_one zero = refl
 first_one (suc t) = refl
 
--- one test more
-with_first : (v : ℕ) (xs ys : Tests) (w : ℕ) → first xs ≡ first (first ys ∷ w ∷ []) → first (v ∷ xs) ≡ first (first (v ∷ ys) ∷ w ∷ [])
-with_first zero xs ys w e = e
-with_first (suc v) xs ys w e = refl
+given : (v : ℕ) (ts : Tests) → 1 ≤ v → first (v ∷ ts) ≡ v
+given zero ts h = absurd (omega arith)
+given (suc v) ts h = refl
 
-one_listed : (f : ℕ → ℕ) (n : ℕ) → first (listed f (suc n)) ≡ first (first (listed f n) ∷ f n ∷ [])
+-- the first that gives a number
+pub first_listed : (f : ℕ → ℕ) (n t : ℕ) → t < n → ((k : ℕ) → k < t → f k ≡ 0) → 1 ≤ f t → first (listed f n) ≡ f t
 unfolding listed
-one_listed f zero = refl
-one_listed f (suc n) =
-    let g : ℕ → ℕ = λ k. f (suc k) in
-    with_first (f zero) (listed g (suc n)) (listed g n) (g n) (one_listed g n)
-
--- at the code's `n + 1`
-pub listed_more : (f : ℕ → ℕ) (n : ℕ) {a b r : ℕ} → a ≡ first (listed f n) → b ≡ f n → r ≡ first (a ∷ b ∷ []) → r ≡ first (listed f (n + 1))
-listed_more f n {a} {b} e g h =
-    h ∙ ap (λ (x : ℕ). first (x ∷ b ∷ [])) e ∙ ap (λ (y : ℕ). first (first (listed f n) ∷ y ∷ [])) g
-    ∙ sym (one_listed f n) ∙ ap (λ (m : ℕ). first (listed f m)) (sym (add-one n))
+first_listed f zero t h e g = absurd (not-suc-le-zero h)
+first_listed f (suc n) zero h e g = given (f zero) (listed (λ k. f (suc k)) n) g
+first_listed f (suc n) (suc t) h e g =
+    rw (e zero (suc-le-suc zero-le)) (first_listed (λ k. f (suc k)) n t (le_of_suc-le-suc h) (λ k l. e (suc k) (suc-le-suc l)) g)
 
 -- no test of them gives a number
 pub each_listed : (f : ℕ → ℕ) (n : ℕ) → Passed (listed f n) → (k : ℕ) → k < n → f k ≡ 0
@@ -128,4 +92,8 @@ none_listed f (suc n) h = rw (h zero (suc-le-suc zero-le)) (none_listed (λ j. f
 
 pub level_range : (d : ℤ) → (le_z (negsuc 2046) d && le_z d (pos 2047)) ≡ level_ok d
 level_range (pos n) = refl
-level_range (negsuc n) = and-true (leb n 2046) ∙ sym (leb-suc-suc n 2046)
+level_range (negsuc n) = whole (leb n 2046) ∙ sym (leb-suc-suc n 2046)
+  where
+    whole : (a : Bool) → (a && true) ≡ a
+    whole true = refl
+    whole false = refl

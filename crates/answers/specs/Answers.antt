@@ -1,16 +1,5 @@
 -- What a call on lent slices gives.
 use Rattle.std.specs.Prelude.{ℕ, zero, suc, List}
-use Rattle.answers.specs.declared.Answer.{Answer}
-use Rattle.answers.specs.declared.Answer.TheVariants as answer
-
--- an answer's number in the table; 0 for done
-abbrev pub number_of : Answer → ℕ
-number_of answer.Done = 0
-number_of answer.Quantiser = 4
-number_of answer.Level = 5
-number_of answer.Length = 8
-number_of answer.Segment = 19
-number_of answer.Precision = 20
 
 -- the answer's number, and the slice that was lent to be written, as it is afterwards
 pub record Filled (A : Type 0) : Type 0 where

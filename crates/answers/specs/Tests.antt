@@ -1,5 +1,6 @@
 -- Refusals: what each test gives, a number of the table or 0 for none, in the order of the tests.
-use Rattle.std.specs.Prelude.{ℕ, zero, suc, Bool, true, ◌&&◌, cond, List, [], ◌∷◌, leb, ℤ, nat_abs}
+use Rattle.std.specs.Prelude.{ℕ, zero, suc, Bool, ◌&&◌, cond, List, [], ◌∷◌, leb, ℤ, nat_abs}
+use Rattle.std.specs.List.{list_all}
 
 abbrev pub Tests : Type 0
 Tests = List ℕ
@@ -17,8 +18,7 @@ test n b = cond b n 0
 -- a test of every value
 module _ {A : Type 0} where
   abbrev pub all : (A → Bool) → List A → Bool
-  all f [] = true
-  all f (x ∷ xs) = f x && all f xs
+  all = list_all
 
 -- "quantiser not 1 to 255" is 4, "level beyond ±2,047" is 5
 abbrev pub table_ok : ℕ → Bool

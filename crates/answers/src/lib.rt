@@ -1,48 +1,34 @@
-// What the calls on lent slices answer. `number_of` of specs/ has the numbers of the table.
+// Tests of lent values: whether every quantiser is 1 to 255, and every level within ±2,047. For contracts to cite, specs/ has what the tests of a call give and
+// what a call leaves of the slice that it is lent.
 #![tactic(auto)]
 
-ghost use Rattle.std.specs.Prelude.{◌≡◌, [], ◌∷◌, eqb};
-ghost use Rattle.answers.specs.Tests.{first};
-ghost use Rattle.answers.specs.Answers.{number_of};
+ghost use Rattle.std.specs.Prelude.{◌≡◌};
+ghost use Rattle.answers.specs.Tests.{all, table_ok, level_ok};
 
-// Done, or why the call was refused.
-#[derive(Clone, Copy)]
-pub enum Answer {
-    Done,
-    Quantiser,
-    Level,
-    Length,
-    Segment,
-    Precision,
+// A quantiser of 1 to 255. Ruled out: true for 0; false for 255.
+pub fn table_ok(q: u16) -> bool
+    ensures { result ≡ table_ok q }
+{
+    (1..=255).contains(&q)
 }
 
-// An answer's number. Ruled out: 8 for a level beyond its range; 0 for a refusal.
-pub fn number(a: Answer) -> u32
-    ensures { result ≡ number_of a }
+// Every quantiser is 1 to 255. Ruled out: true where the last is 0; false for no quantisers.
+pub fn tables_ok(tables: &[u16]) -> bool
+    ensures { result ≡ all table_ok tables.now }
 {
-    match a {
-        Answer::Done => 0,
-        Answer::Quantiser => 4,
-        Answer::Level => 5,
-        Answer::Length => 8,
-        Answer::Segment => 19,
-        Answer::Precision => 20,
-    }
+    tables.iter().all(|&q| table_ok(q))
 }
 
-// Whether nothing is refused. Ruled out: true for a refusal; false for done.
-pub fn is_done(a: Answer) -> bool
-    ensures { result ≡ eqb (number_of a) 0 }
+// A level within ±2,047. Ruled out: true for -2,048; false for -2,047.
+pub fn level_ok(d: i32) -> bool
+    ensures { result ≡ level_ok d }
 {
-    number(a) == 0
+    d.unsigned_abs() <= 2047
 }
 
-// The first refusal of two answers. Ruled out: the second where both are refusals; done where one is.
-pub fn first(a: Answer, b: Answer) -> Answer
-    ensures { number_of result ≡ first (number_of a ∷ number_of b ∷ []) }
+// Every level is within ±2,047. Ruled out: true where the last is 2,048; false for no levels.
+pub fn levels_ok(levels: &[i16]) -> bool
+    ensures { result ≡ all level_ok levels.now }
 {
-    if is_done(a) {
-        return b;
-    }
-    a
+    levels.iter().all(|&d| level_ok(i32::from(d)))
 }

@@ -8,9 +8,8 @@ use lib.Dec.{ltb, eqb}
 use lib.IntN.{ℤ, pos, negsuc, neg_ℤ, ◌+ℤ◌, ◌-ℤ◌}
 use lib.ListN.{length}
 use lib.Signed.{mag}
-use mir.Syntax.{w16, w32}
-use mir.Val.{SFits, to_z, of_z}
-use mir.Facts.{to_z-of_z, sfits_widen}
+use mir.Syntax.{w16}
+use mir.Val.{SFits}
 use borrow.Author.Rules.{sfits_of}
 use borrow.Author.Tests.{leb-true, eqb-true}
 use Rattle.answers.specs.Tests.{all, level_ok}
@@ -42,17 +41,6 @@ level_fits d h = sfits_of (omega (arith, level_mag d h))
 -- the difference of two levels
 pub difference_fits : (a b : ℤ) → level_ok a ≡ true → level_ok b ≡ true → SFits w16 (a -ℤ b)
 difference_fits a b h k = sfits_of (omega (arith, sum_mag a (neg_ℤ b) (level_mag a h) (level_mag (neg_ℤ b) (neg_ok b k))))
-
--- an i16 as an i32
-pub widened : (z : ℤ) → SFits w16 z → SFits w32 (to_z w16 (of_z w16 z))
-widened z f = rw (to_z-of_z f) (sfits_widen tt f)
-
-pub widened_is : (z : ℤ) → SFits w16 z → to_z w32 (of_z w32 (to_z w16 (of_z w16 z))) ≡ z
-widened_is z f = rw (to_z-of_z f) (to_z-of_z {w = w32} (sfits_widen {w = w16} {w' = w32} tt f))
-
--- a level and any stored value, as the code has them
-pub sum_fits : (a b : ℤ) → SFits w32 a → SFits w16 b → level_ok a ≡ true → SFits w32 (to_z w32 (of_z w32 a) +ℤ to_z w32 (of_z w32 (to_z w16 (of_z w16 b))))
-sum_fits a b f k h = rw (to_z-of_z f, widened_is b k) (sfits_of (omega (arith, sum_mag a b (level_mag a h) k.sfits)))
 
 -- the level that a difference is taken from is a level
 pub before_ok : (levels : List ℤ) (k : ℕ) → all level_ok levels ≡ true → k < length levels → level_ok (before levels k) ≡ true

@@ -17,7 +17,6 @@ before levels k = cond (ltb k 64) (pos 0) (val levels (k - 64))
 
 -- place k of the archive: "T.81 zigzag order, the first level of each block as its difference from the block before"
 unfoldable pub stored_at : List ℤ → ℕ → ℤ
-unfolding to_raster
 stored_at levels k = cond (eqb (k % 64) 0) (val levels k -ℤ before levels k) (val levels (to_raster k))
 
 abbrev pub rearranged : List ℤ → List ℤ

@@ -1,7 +1,7 @@
 // Job 3, blend, as the run calls it: row by row where no channel is held and a row has 1 to 512 values, else pixel by pixel. Both are the same function.
 #![tactic(auto)]
 
-ghost use Rattle.std.specs.Prelude.{◌≡◌, true, false, ℕ, ◌<◌, ◌≤◌, length};
+ghost use Rattle.std.specs.Prelude.{◌≡◌, ◌<◌, ◌≤◌, length};
 ghost use Rattle.gradients.specs.Held.{flag};
 ghost use Rattle.gradients.specs.Grid.{Fills};
 ghost use Rattle.gradients.specs.Blend.{blended, totals};
@@ -10,19 +10,6 @@ ghost use Rattle.rows.specs.Rows.{none};
 use gradients::Totals;
 use gradients::grid::Grid;
 use steps::solve::Constants;
-
-// No flag is set.
-fn none_held(held: [bool; 3]) -> bool
-    ensures { result ≡ true → (c : ℕ) → flag held c ≡ false }
-{
-    if held[0] {
-        return false;
-    }
-    if held[1] {
-        return false;
-    }
-    !held[2]
-}
 
 // Row by row.
 fn by_rows(
@@ -64,14 +51,9 @@ pub fn blend(
         × (result ≡ totals g.w g.h g.n (flag g.held) k.second plane.now
         (record { gradient = gradient.old; across = across.old; down = down.old })) }
 {
-    let held = g.held;
-    let w = g.w;
-    if none_held(held) {
-        if 1 <= w {
-            if w <= 512 {
-                return by_rows(plane, gradient, across, down, g, k);
-            }
-        }
+    if g.held == [false; 3] && 1 <= g.w && g.w <= 512 {
+        by_rows(plane, gradient, across, down, g, k)
+    } else {
+        gradients::blend(plane, gradient, across, down, g, k)
     }
-    gradients::blend(plane, gradient, across, down, g, k)
 }

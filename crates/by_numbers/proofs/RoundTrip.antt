@@ -16,8 +16,9 @@ use Rattle.contents.specs.declared.Weight.{Weight}
 use Rattle.contents.specs.declared.Weight.TheVariants as weight
 use Rattle.contents.specs.Weights.{value_of}
 use Rattle.contents.specs.declared.Sheet.{Sheet}
-use Rattle.contents.specs.declared.Choice.{Choice}
-use Rattle.contents.specs.declared.Choice.TheVariants as choice
+use Rattle.std.specs.Prelude.{Option, Some, None}
+use Rattle.contents.specs.declared.Letter.{Letter}
+use Rattle.contents.specs.declared.Letter.TheVariants as letter
 use Rattle.fold.specs.Join.{join_upto}
 use Rattle.calls.specs.Run.{Given, levels_before, levels_part, every, among}
 use Rattle.calls.specs.Buffers.{joined}
@@ -54,17 +55,17 @@ same_mode true = refl
 same_mode false = refl
 
 -- the letter of line A
-same_letter : (c : Choice) → reorder_of (choice_from (choice_number c)) ≡ reorder_of c
-same_letter choice.Unsaid = refl
-same_letter choice.First = refl
-same_letter choice.Second = refl
+same_letter : (c : Option Letter) → reorder_of (choice_from (choice_number c)) ≡ reorder_of c
+same_letter None = refl
+same_letter (Some letter.First) = refl
+same_letter (Some letter.Second) = refl
 
-a_letter : (c : Choice) → leb (choice_number c) 1 ≡ true
-a_letter choice.Unsaid = refl
-a_letter choice.First = refl
-a_letter choice.Second = refl
+a_letter : (c : Option Letter) → leb (choice_number c) 1 ≡ true
+a_letter None = refl
+a_letter (Some letter.First) = refl
+a_letter (Some letter.Second) = refl
 
-both_letters : (b : Bool) (c : Choice) → (leb (cond b 1 0) 1 && leb (choice_number c) 1) ≡ true
+both_letters : (b : Bool) (c : Option Letter) → (leb (cond b 1 0) 1 && leb (choice_number c) 1) ≡ true
 both_letters true c = a_letter c
 both_letters false c = a_letter c
 

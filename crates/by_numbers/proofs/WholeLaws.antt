@@ -13,7 +13,9 @@ use borrow.Author.Tests.{eq-eqb, ne_eqb, le-leb, lt-leb}
 use Rattle.start.specs.Coef.{Levels}
 use Rattle.calls.specs.Calls as Calls
 use Rattle.calls.specs.Calls.{lengths, all_six}
-use Rattle.record.specs.declared.Answer.{Answer}
+use Rattle.std.specs.Prelude.{Result}
+use Rattle.refusal.specs.declared.Refusal.{Refusal}
+use Rattle.record.specs.declared.Accepted.{Accepted}
 use Rattle.record.specs.Model.{answer_of}
 use Rattle.serve.specs.Serve.{byte_of}
 use Rattle.contents.specs.declared.Sheet.{Sheet}
@@ -21,7 +23,6 @@ use Rattle.rounds.specs.Whole.{Whole, Loan, Ended, Ends}
 use Rattle.rounds.proofs.Ends.{renumber}
 use Rattle.solve.specs.Solve.{all_legal, solve_refusal, whole_of, number_in, SolveIs}
 use Rattle.solve.proofs.Laws.{whole_channels}
-use Rattle.picture.specs.declared.Answer as drawn
 use Rattle.picture.specs.declared.Rounding.{Rounding}
 use Rattle.picture.specs.Finish.{Finished, verdict, finishing}
 use Rattle.by_numbers.specs.Sheets.{record_count}
@@ -82,7 +83,7 @@ module _ (ns : List ℕ) (levels : Levels) (tables : List ℕ) (L : Loan) (ks : 
         pub no_room : (length ks ≡ S.header.channels → ⊥) → SolveNumbers ns levels tables L ks 8 L ks
         no_room f = with_legal 8 L ks (subst (λ (b : Bool). End (cond b R 8) 8 L ks) (sym (ne_eqb (length ks) S.header.channels f)) (refuses 7))
 
-        module _ (room : length ks ≡ S.header.channels) (a : Answer) (xs : List ℕ) (L' : Loan) (said : SolveIs S levels tables L a xs L') where
+        module _ (room : length ks ≡ S.header.channels) (a : Result Accepted Refusal) (xs : List ℕ) (L' : Loan) (said : SolveIs S levels tables L a xs L') where
           with_room : (k : ℕ) (ks' : List ℕ) → End R k L' ks' → SolveNumbers ns levels tables L ks k L' ks'
           with_room k ks' e = with_legal k L' ks' (subst (λ (b : Bool). End (cond b R 8) k L' ks') (sym (eq-eqb (length ks) S.header.channels room)) e)
 
@@ -112,7 +113,7 @@ module _ (n w h width height channels : ℕ) (planes : List Float) (rgb : List �
   unfolding finishing_by
   by_letter l = rw (le-leb n 1 l)
 
-  pub finished : n ≤ 1 → (x : Rounding) → x ≡ rounding_from n → (rgb' : List ℕ) (r : drawn.Answer) (k : ℕ)
+  pub finished : n ≤ 1 → (x : Rounding) → x ≡ rounding_from n → (rgb' : List ℕ) (r : Result Unit Refusal) (k : ℕ)
       → ◌≡◌ {A = Finished} (record { answer = verdict r; bytes = rgb' }) (finishing x w h width height channels planes rgb) → k ≡ verdict_number (verdict r)
       → FinishNumbers n w h width height channels planes rgb k rgb'
   finished l x q rgb' r k e p =

@@ -1,5 +1,5 @@
 -- The exported reading calls: what they answer and what they leave behind the pointers that they are lent.
-use Rattle.std.specs.Prelude.{ℕ, ◌≡◌, List, [], ◌∷◌, ◌++◌, cond, eqb, leb}
+use Rattle.std.specs.Prelude.{ℕ, ◌≡◌, Option, Some, None, List, [], ◌∷◌, ◌++◌, cond, eqb, leb}
 use Rattle.std.specs.Float.{binary32}
 use Rattle.std.specs.Float.Ieee.{to_bits}
 use Rattle.contents.specs.declared.Weight.{Weight}
@@ -7,8 +7,8 @@ use Rattle.contents.specs.declared.Reader.{Reader}
 use Rattle.contents.specs.declared.Reader.TheVariants as reader
 use Rattle.contents.specs.Weights.{value_of}
 use Rattle.contents.specs.declared.Sheet.{Sheet}
-use Rattle.contents.specs.declared.Choice.{Choice}
-use Rattle.contents.specs.declared.Choice.TheVariants as choice
+use Rattle.contents.specs.declared.Letter.{Letter}
+use Rattle.contents.specs.declared.Letter.TheVariants as letter
 use Rattle.contents.specs.declared.Settings.{Settings}
 use Rattle.contents.specs.declared.Header.{Header}
 use Rattle.contents.specs.declared.Channel.{Channel}
@@ -16,7 +16,8 @@ use Rattle.contents.specs.Hold.{hold_at}
 use Rattle.contents.specs.Sheets.{Lent}
 use Rattle.sheet.specs.Reading.{Outcome, Contents}
 use Rattle.sheet.specs.Reading.Outcome.{Gives, Refused}
-use Rattle.sheet.specs.Calls.{Lengths, lent_after}
+use Rattle.sheet.specs.declared.Lengths.{Lengths}
+use Rattle.sheet.specs.Calls.{lent_after}
 
 -- the number of a refusal and its line; 0 and 0 where there is none
 abbrev pub number_in : {A : Type 0} → Outcome A → ℕ
@@ -60,10 +61,10 @@ header_numbers h =
     ∷ weight_bits h.data0 ∷ weight_bits h.data1 ∷ weight_bits h.data2
     ∷ []
 
-abbrev pub choice_number : Choice → ℕ
-choice_number choice.Unsaid = 0
-choice_number choice.First = 0
-choice_number choice.Second = 1
+abbrev pub choice_number : Option Letter → ℕ
+choice_number None = 0
+choice_number (Some letter.First) = 0
+choice_number (Some letter.Second) = 1
 
 abbrev pub setting_numbers : Settings → List ℕ
 setting_numbers x = choice_number x.rounding ∷ choice_number x.start ∷ []

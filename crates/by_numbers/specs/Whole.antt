@@ -1,12 +1,11 @@
 -- The exported whole run and picture: a sheet's record given back as the numbers that reading lent out, and what `solve` and `finish` give, with the
 -- answer as a number.
-use Rattle.std.specs.Prelude.{ℕ, ◌+◌, ◌≡◌, ◌≢◌, Bool, cond, ◌&&◌, List, length, get_or, eqb, leb, Float}
+use Rattle.std.specs.Prelude.{ℕ, ◌+◌, ◌≡◌, ◌≢◌, Bool, cond, ◌&&◌, List, [], ◌∷◌, Option, Some, length, get_or, eqb, leb, Float}
 use Rattle.start.specs.Coef.{Levels}
 use Rattle.contents.specs.declared.Weight.TheVariants as weight
 use Rattle.contents.specs.declared.Sheet.{Sheet}
-use Rattle.contents.specs.declared.Choice.{Choice}
-use Rattle.contents.specs.declared.Choice.TheVariants as choice
-use Rattle.contents.specs.declared.Hold.TheVariants as hold
+use Rattle.contents.specs.declared.Letter.{Letter}
+use Rattle.contents.specs.declared.Letter.TheVariants as letter
 use Rattle.contents.specs.declared.Settings.{Settings}
 use Rattle.contents.specs.declared.Header.{Header}
 use Rattle.contents.specs.declared.Channel.{Channel}
@@ -48,12 +47,12 @@ abbrev pub channel_from : List ℕ → ℕ → Channel
 channel_from ns i =
     record { width = get_or ns i 0; height = get_or ns (i + 1) 0; across = get_or ns (i + 2) 0; down = get_or ns (i + 3) 0 }
 
-abbrev pub choice_from : ℕ → Choice
-choice_from n = cond (eqb n 1) choice.Second choice.First
+abbrev pub choice_from : ℕ → Option Letter
+choice_from n = cond (eqb n 1) (Some letter.Second) (Some letter.First)
 
 abbrev pub settings_from : List ℕ → Settings
 settings_from ns =
-    record { rounding = choice_from (get_or ns 27 0); start = choice_from (get_or ns 28 0); hold = hold.Counts (get_or ns 29 0) (get_or ns 30 0) (get_or ns 31 0) }
+    record { rounding = choice_from (get_or ns 27 0); start = choice_from (get_or ns 28 0); hold = Some (get_or ns 29 0 ∷ get_or ns 30 0 ∷ get_or ns 31 0 ∷ []) }
 
 unfoldable pub sheet_of_numbers : List ℕ → Sheet
 sheet_of_numbers ns =

@@ -1,28 +1,14 @@
 // Reading a text into lent buffers, with the sheet's record as numbers, and the reader by its number.
-ghost use Rattle.std.specs.Prelude.{◌≡◌, length};
+ghost use Rattle.std.specs.Prelude.{length};
 ghost use Rattle.contents.specs.Sheets.{lent};
 ghost use Rattle.sheet.specs.Calls.{reading};
-ghost use Rattle.by_numbers.specs.Sheets.{ReadsNumbers, with_record, reader_from, by_reader};
+ghost use Rattle.sheet.specs.Walk.{said};
+ghost use Rattle.by_numbers.specs.Sheets.{ReadsNumbers, with_record, reader_from, by_reader, line_in, number_in};
 
-use crate::{NUMBERS, numbers, put};
+use crate::{NUMBERS, numbers};
 use contents::{Limits, Reader};
-use sheet::{Answer, Measured};
-
-// A refusal's number and line; 0 and 0 where there is none.
-#[derive(Clone, Copy)]
-pub struct Told {
-    pub number: u32,
-    pub line: usize,
-}
-
-fn reader_from(n: u32) -> Reader
-    ensures { result ≡ reader_from n }
-{
-    if n == 1 {
-        return Reader::Partner;
-    }
-    Reader::Staff
-}
+use refusal::Refusal;
+use sheet::walk::Refused;
 
 // Reads for this reader. Where there is no room for the record's numbers, 8 is the last fault.
 fn read_as(
@@ -33,32 +19,20 @@ fn read_as(
     highs: &mut [i16],
     tables: &mut [u16],
     header: &mut [u32],
-) -> Told
+) -> Result<(), Refused>
     ensures { ReadsNumbers who (with_record (length header.old) (reading limits text.now (lent lows.old highs.old tables.old)))
-        (lent lows.old highs.old tables.old) (lent lows.new highs.new tables.new) header.old header.new result.line result.number }
+        (lent lows.old highs.old tables.old) (lent lows.new highs.new tables.new) header.old header.new (line_in (said result)) (number_in (said result)) }
 {
     if header.len() == NUMBERS {
-        match sheet::read(text, limits, who, lows, highs, tables) {
-            Answer::Sheet(s) => {
-                put(numbers(s), header);
-                Told { number: 0, line: 0 }
-            }
-            Answer::Refused { number, line } => Told {
-                number: number as u32,
-                line,
-            },
-        }
+        let s = sheet::read(text, limits, who, lows, highs, tables)?;
+        header.copy_from_slice(&numbers(s));
+        Ok(())
     } else {
-        match sheet::measure(text, limits) {
-            Measured::Lengths {
-                levels: _,
-                tables: _,
-            } => Told { number: 8, line: 0 },
-            Measured::Refused { number, line } => Told {
-                number: number as u32,
-                line,
-            },
-        }
+        sheet::measure(text, limits)?;
+        Err(Refused {
+            refusal: Refusal::Length,
+            line: 0,
+        })
     }
 }
 
@@ -72,13 +46,19 @@ pub fn read(
     highs: &mut [i16],
     tables: &mut [u16],
     header: &mut [u32],
-) -> Told
+) -> Result<(), Refused>
     ensures { ReadsNumbers (reader_from partner) (by_reader partner (with_record (length header.old) (reading limits text.now (lent lows.old highs.old tables.old))))
-        (lent lows.old highs.old tables.old) (lent lows.new highs.new tables.new) header.old header.new result.line result.number }
+        (lent lows.old highs.old tables.old) (lent lows.new highs.new tables.new) header.old header.new (line_in (said result)) (number_in (said result)) }
 {
-    if 1 < partner {
-        return Told { number: 2, line: 0 };
-    }
-    let who = reader_from(partner);
+    let who = match partner {
+        0 => Reader::Staff,
+        1 => Reader::Partner,
+        _ => {
+            return Err(Refused {
+                refusal: Refusal::Size,
+                line: 0,
+            });
+        }
+    };
     read_as(text, limits, who, lows, highs, tables, header)
 }

@@ -3,7 +3,7 @@ ghost use Rattle.std.specs.Prelude.{◌≡◌, ◌+◌, ◌≤◌, ◌<◌, leng
 ghost use Rattle.by_numbers.specs.Sheets.{record_count};
 ghost use Rattle.by_numbers.specs.Whole.{header_from, channel_from, choice_from, settings_from, sheet_of_numbers, rounding_from};
 
-use contents::{Channel, Choice, Header, Hold, Settings, Sheet, Weight};
+use contents::{Channel, Header, Letter, Settings, Sheet, Weight};
 use picture::Rounding;
 
 fn header_from(numbers: &[u32]) -> Header
@@ -41,26 +41,24 @@ fn channel_from(numbers: &[u32], at: usize) -> Channel
     }
 }
 
-fn choice_from(n: u32) -> Choice
+fn choice_from(n: u32) -> Option<Letter>
     ensures { result ≡ choice_from n }
 {
-    if n == 1 {
-        return Choice::Second;
-    }
-    Choice::First
+    Some(if n == 1 {
+        Letter::Second
+    } else {
+        Letter::First
+    })
 }
 
 fn settings_from(numbers: &[u32]) -> Settings
     requires { length numbers.now ≡ record_count }
     ensures { result ≡ settings_from numbers.now }
 {
-    let rounding = choice_from(numbers[27]);
-    let start = choice_from(numbers[28]);
-    let hold = Hold::Counts(numbers[29], numbers[30], numbers[31]);
     Settings {
-        rounding,
-        start,
-        hold,
+        rounding: choice_from(numbers[27]),
+        start: choice_from(numbers[28]),
+        hold: Some([numbers[29], numbers[30], numbers[31]]),
     }
 }
 
@@ -69,10 +67,9 @@ pub fn sheet_of(numbers: &[u32]) -> Sheet
     requires { length numbers.now ≡ record_count }
     ensures { result ≡ sheet_of_numbers numbers.now }
 {
-    let settings = settings_from(numbers);
     Sheet {
         header: header_from(numbers),
-        settings,
+        settings: settings_from(numbers),
         first: channel_from(numbers, 15),
         second: channel_from(numbers, 19),
         third: channel_from(numbers, 23),
@@ -84,16 +81,15 @@ pub fn put_clipped(from: [u32; 3], to: &mut [u32])
     requires { length to.old ≤ 3 }
     ensures { to.new ≡ take (length to.old) from }
 {
-    for k in 0..to.len() {
-        to[k] = from[k];
-    }
+    to.copy_from_slice(&from[..to.len()]);
 }
 
 pub fn rounding_from(n: u32) -> Rounding
     ensures { result ≡ rounding_from n }
 {
     if n == 1 {
-        return Rounding::Nearest;
+        Rounding::Nearest
+    } else {
+        Rounding::Truncate
     }
-    Rounding::Truncate
 }

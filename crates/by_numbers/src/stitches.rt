@@ -1,9 +1,22 @@
 // Stitching with its answer as numbers: 0 for done, or the table's number; the text that it is about, 1 left, 2 right, 0 neither; and its line there.
 ghost use Rattle.std.specs.Prelude.{◌≡◌};
+ghost use Rattle.refusal.specs.Refusal.{number_of};
+ghost use Rattle.stitch.specs.Numbers.{which_of};
 ghost use Rattle.stitch.specs.Calls.{stitching, sized};
 ghost use Rattle.by_numbers.specs.Stitches.{MeasuresStitched, StitchesNumbers};
 
-use stitch::{Answer, Measured};
+use stitch::Refused;
+
+// A refusal's number, with the text that it is about and its line there.
+fn told(e: Refused, which: &mut u32, line: &mut usize) -> u32
+    ensures number { result ≡ number_of e.refusal }
+    ensures text { which.new ≡ which_of e.which }
+    ensures at { line.new ≡ e.line }
+{
+    *which = u32::from(e.which_number());
+    *line = e.line;
+    u32::from(e.refusal)
+}
 
 // The output's length. A refusal leaves it as it was. Ruled out: 16 for a right text that is itself refused; the line of the left text with the right's number.
 pub fn measure(
@@ -16,21 +29,13 @@ pub fn measure(
     ensures { MeasuresStitched (stitching left.now right.now) length.old length.new which.new line.new result }
 {
     match stitch::measure(left, right) {
-        Measured::Length(n) => {
+        Ok(n) => {
             *length = n;
             *which = 0;
             *line = 0;
             0
         }
-        Measured::Refused {
-            number,
-            which: w,
-            line: l,
-        } => {
-            *which = w as u32;
-            *line = l;
-            number as u32
-        }
+        Err(e) => told(e, which, line),
     }
 }
 
@@ -39,19 +44,11 @@ pub fn stitch(left: &[u8], right: &[u8], out: &mut [u8], which: &mut u32, line: 
     ensures { StitchesNumbers (sized out.old (stitching left.now right.now)) out.old out.new which.new line.new result }
 {
     match stitch::stitch(left, right, out) {
-        Answer::Done => {
+        Ok(()) => {
             *which = 0;
             *line = 0;
             0
         }
-        Answer::Refused {
-            number,
-            which: w,
-            line: l,
-        } => {
-            *which = w as u32;
-            *line = l;
-            number as u32
-        }
+        Err(e) => told(e, which, line),
     }
 }

@@ -1,15 +1,14 @@
--- A channel's held count: by the tests that the code makes, and within its iterations.
+-- What a channel's held count is measured against, and that it is within it.
 use Prim.Native.Nat.{ℕ, zero, suc, ◌≤◌}
-use mathlib.Core.Path.{◌≡◌, sym, ◌∙◌}
+use mathlib.Core.Path.{◌≡◌}
 use mathlib.Core.Bool.{Bool, true, false, cond, ◌&&◌}
 use native.Mathlib.Omega.{arith}
 use native.Mathlib.Nat.{le_refl}
 use lib.Dec.{eqb}
+use Rattle.std.proofs.Common.{List, Option, Some, None}
 use borrow.Author.Tests.{eq-eqb, ne_eqb}
 use Rattle.contents.specs.declared.Limits.{Limits}
 use Rattle.contents.specs.declared.Header.{Header}
-use Rattle.contents.specs.declared.Hold.{Hold}
-use Rattle.contents.specs.declared.Hold.TheVariants as hold
 use Rattle.contents.specs.declared.Sheet.{Sheet}
 use Rattle.contents.specs.Hold.{of_three, iterations_at, measured, count_at, hold_at, LegalHold}
 use Rattle.contents.specs.Legal.{LegalHeader}
@@ -17,12 +16,6 @@ use Rattle.contents.specs.Legal.{LegalHeader}
 module _ (c k l m : ℕ) where
   pub three_0 : c ≡ 0 → k ≡ of_three c k l m
   three_0 e = rw (eq-eqb c 0 e)
-
-  pub three_1 : (c ≡ 0 → ⊥) → c ≡ 1 → l ≡ of_three c k l m
-  three_1 n e = rw (ne_eqb c 0 n, eq-eqb c 1 e)
-
-  pub three_2 : (c ≡ 0 → ⊥) → (c ≡ 1 → ⊥) → m ≡ of_three c k l m
-  three_2 n o = rw (ne_eqb c 0 n, ne_eqb c 1 o)
 
 module _ (h : Header) (c r : ℕ) where
   pub measured_first : h.channels ≡ 3 → h.joint ≡ true → h.iterations0 ≡ measured h c
@@ -37,17 +30,6 @@ module _ (h : Header) (c r : ℕ) where
   unfolding measured
   measured_one q n = rw (ne_eqb h.channels 3 n) q
 
-module _ (s : Sheet) (c r : ℕ) (x : Hold) where
-  pub held_unsaid : x ≡ s.settings.hold → x ≡ hold.Unsaid → r ≡ measured s.header c → r ≡ hold_at s c
-  unfolding hold_at
-  held_unsaid e u q = rw (sym e ∙ u) q
-
-  pub held_said : (k l m : ℕ) → x ≡ s.settings.hold → x ≡ hold.Counts k l m → r ≡ of_three c k l m → r ≡ hold_at s c
-  unfolding hold_at
-  held_said k l m e u q = rw (sym e ∙ u) q
-
-pub ruleset holds = (three_0, three_1, three_2, measured_first, measured_apart, measured_one, held_unsaid, held_said)
-
 -- A legal count is within the iterations that it is measured against, and these are within the caller's limit
 
 either : (b : Bool) (x y n : ℕ) → x ≤ n → y ≤ n → cond b x y ≤ n
@@ -60,13 +42,13 @@ measured_most h limits l c =
     either (eqb h.channels 3 && h.joint) _ _ _ l.iterations0
     (either (eqb c 0) _ _ _ l.iterations0 (either (eqb c 1) _ _ _ l.iterations1 l.iterations2))
 
-count_most : (x : Hold) (h : Header) → LegalHold h x → (c : ℕ) → count_at x h c ≤ measured h c
+count_most : (x : Option (List ℕ)) (h : Header) → LegalHold h x → (c : ℕ) → count_at x h c ≤ measured h c
 unfolding measured
-count_most hold.Unsaid h l c = le_refl (measured h c)
-count_most (hold.Counts a b d) h l zero = l.0
-count_most (hold.Counts a b d) h l (suc zero) = l.1.0
-count_most (hold.Counts a b d) h l (suc (suc c)) =
-    rw (ne_eqb (suc (suc c)) 0 (λ e. omega arith), ne_eqb (suc (suc c)) 1 (λ e. omega arith)) l.1.1
+count_most None h l c = le_refl (measured h c)
+count_most (Some xs) h l zero = l.1
+count_most (Some xs) h l (suc zero) = l.2
+count_most (Some xs) h l (suc (suc c)) =
+    rw (ne_eqb (suc (suc c)) 0 (λ e. omega arith), ne_eqb (suc (suc c)) 1 (λ e. omega arith)) l.3
 
 pub hold_most : (s : Sheet) → LegalHold s.header s.settings.hold → (c : ℕ) → hold_at s c ≤ measured s.header c
 unfolding hold_at

@@ -1,4 +1,3 @@
 -- Laws of the definitions.
 pub mod ValueLaws
 pub mod HoldLaws
-pub mod MarkLaws

@@ -1,12 +1,10 @@
 -- A sheet's channels, and what stands beside it: levels, tables and the kinds of its blocks.
-use Rattle.std.specs.Prelude.{ℕ, zero, suc, ◌+◌, ◌*◌, List, [], ◌∷◌, Bool, cond, false, take, eqb, ℤ}
+use Rattle.std.specs.Prelude.{ℕ, zero, suc, ◌+◌, ◌*◌, List, [], ◌∷◌, Bool, cond, false, take, eqb, ℤ, None}
 use Rattle.contents.specs.declared.Header.{Header}
 use Rattle.contents.specs.declared.Channel.{Channel}
 use Rattle.contents.specs.declared.Sheet.{Sheet}
 use Rattle.contents.specs.declared.Mark.{Mark}
 use Rattle.contents.specs.declared.Weight.TheVariants as weight
-use Rattle.contents.specs.declared.Choice.TheVariants as choice
-use Rattle.contents.specs.declared.Hold.TheVariants as hold
 use Rattle.contents.specs.declared.Settings.{Settings}
 
 -- What goes to the lent buffers: the lowest and the highest level of each place, and the tables
@@ -61,7 +59,7 @@ no_header =
     }
 
 abbrev pub no_settings : Settings
-no_settings = record { rounding = choice.Unsaid; start = choice.Unsaid; hold = hold.Unsaid }
+no_settings = record { rounding = None; start = None; hold = None }
 
 abbrev pub no_channel : Channel
 no_channel = record { width = 0; height = 0; across = 0; down = 0 }

@@ -3,26 +3,26 @@
 
 ghost use Rattle.std.specs.Prelude.{◌≡◌, ◌<◌};
 ghost use Rattle.contents.specs.Weights.{value_of};
-ghost use Rattle.contents.specs.Hold.{of_three, measured, hold_at};
+ghost use Rattle.contents.specs.Hold.{three_at, measured, hold_at};
 ghost use Rattle.contents.specs.Sheets.{channel_at};
 ghost use Rattle.contents.specs.Marks.{blocks_in, blocks_before, block_of, has_block};
 
 // A weight: the bits of an f32, or a whole number.
-#[derive(Clone, Copy)]
+#[derive(Clone, Copy, Debug, PartialEq, Eq)]
 pub enum Weight {
     Bits(u32),
     Whole(u8),
 }
 
 // What a caller allows: the largest full side and the most iterations.
-#[derive(Clone, Copy)]
+#[derive(Clone, Copy, Debug, PartialEq, Eq)]
 pub struct Limits {
     pub side: u32,
     pub iterations: u32,
 }
 
 // A header line: full sides, picture sides, channels, mode, and three each of iterations, smoothing and data weights.
-#[derive(Clone, Copy)]
+#[derive(Clone, Copy, Debug, PartialEq, Eq)]
 pub struct Header {
     pub width: u32,
     pub height: u32,
@@ -42,7 +42,7 @@ pub struct Header {
 }
 
 // A channel line but for its quantisers: own sides and factors.
-#[derive(Clone, Copy)]
+#[derive(Clone, Copy, Debug, PartialEq, Eq)]
 pub struct Channel {
     pub width: u32,
     pub height: u32,
@@ -50,31 +50,23 @@ pub struct Channel {
     pub down: u32,
 }
 
-// A setting with one of two letters: no line says it, or the first letter, or the second.
-#[derive(Clone, Copy)]
-pub enum Choice {
-    Unsaid,
+// The first or the second of the two letters that a setting's line may have.
+#[derive(Clone, Copy, Debug, PartialEq, Eq)]
+pub enum Letter {
     First,
     Second,
 }
 
-// After how many steps each channel is held: no line says it, or the three counts of line H.
-#[derive(Clone, Copy)]
-pub enum Hold {
-    Unsaid,
-    Counts(u32, u32, u32),
-}
-
-// The settings: F, the rounding, t or n; A, the start, m or o; H, the held steps.
-#[derive(Clone, Copy)]
+// The settings, each where a line says it: F, the rounding, t or n; A, the start, m or o; H, after how many steps each of three channels is held.
+#[derive(Clone, Copy, Debug, PartialEq, Eq)]
 pub struct Settings {
-    pub rounding: Choice,
-    pub start: Choice,
-    pub hold: Hold,
+    pub rounding: Option<Letter>,
+    pub start: Option<Letter>,
+    pub hold: Option<[u32; 3]>,
 }
 
 // A mark of line N: the channel, block row and block column, from 0, of a block of which a partner may see only the mean.
-#[derive(Clone, Copy)]
+#[derive(Clone, Copy, Debug, PartialEq, Eq)]
 pub struct Mark {
     pub channel: u32,
     pub row: u32,
@@ -82,14 +74,14 @@ pub struct Mark {
 }
 
 // Who reads a sheet.
-#[derive(Clone, Copy)]
+#[derive(Clone, Copy, Debug, PartialEq, Eq)]
 pub enum Reader {
     Staff,
     Partner,
 }
 
 // A sheet but for its levels and quantisers. With one channel the second and third are zero.
-#[derive(Clone, Copy)]
+#[derive(Clone, Copy, Debug, PartialEq, Eq)]
 pub struct Sheet {
     pub header: Header,
     pub settings: Settings,
@@ -106,25 +98,24 @@ pub fn weight_value(w: Weight) -> f32
     match w {
         Weight::Bits(b) => {
             if 0x7f80_0000 < b % 0x8000_0000 {
-                return 0.0 / 0.0;
+                0.0 / 0.0
+            } else {
+                f32::from_bits(b)
             }
-            f32::from_bits(b)
         }
         Weight::Whole(n) => n as f32,
     }
 }
 
 // The one of three values at the place c; every number above 1 is the third place.
-fn of_three(c: u32, first: u32, second: u32, third: u32) -> u32
-    ensures { result ≡ of_three c first second third }
+fn of_three(c: u32, values: [u32; 3]) -> u32
+    ensures { result ≡ three_at c values }
 {
-    if c == 0 {
-        return first;
+    match c {
+        0 => values[0],
+        1 => values[1],
+        _ => values[2],
     }
-    if c == 1 {
-        return second;
-    }
-    third
 }
 
 // The iteration count that a channel's held count is measured against. Ruled out: the second count of a sheet of three channels in joint mode; the
@@ -132,26 +123,20 @@ fn of_three(c: u32, first: u32, second: u32, third: u32) -> u32
 pub fn measured_by(h: Header, c: u32) -> u32
     ensures { result ≡ measured h c }
 {
-    let own = of_three(c, h.iterations0, h.iterations1, h.iterations2);
-    if h.channels == 3 {
-        if h.joint {
-            return h.iterations0;
-        }
-        return own;
+    if h.channels == 3 && h.joint {
+        h.iterations0
+    } else {
+        of_three(c, [h.iterations0, h.iterations1, h.iterations2])
     }
-    own
 }
 
 // After how many steps channel c is held; every number above 1 is the third channel. Ruled out: 0 where no line says it; the count of another channel.
 pub fn held_after(s: Sheet, c: u32) -> u32
     ensures { result ≡ hold_at s c }
 {
-    let header = s.header;
-    let settings = s.settings;
-    let hold = settings.hold;
-    match hold {
-        Hold::Unsaid => measured_by(header, c),
-        Hold::Counts(first, second, third) => of_three(c, first, second, third),
+    match s.settings.hold {
+        None => measured_by(s.header, c),
+        Some(counts) => of_three(c, counts),
     }
 }
 
@@ -159,62 +144,43 @@ pub fn held_after(s: Sheet, c: u32) -> u32
 pub fn channel_at(s: Sheet, c: u32) -> Channel
     ensures { result ≡ channel_at s c }
 {
-    if c == 0 {
-        return s.first;
+    match c {
+        0 => s.first,
+        1 => s.second,
+        _ => s.third,
     }
-    if c == 1 {
-        return s.second;
-    }
-    s.third
 }
 
 // How many blocks a channel has. The product of two u32 fits 64 bits.
 fn blocks_in(c: Channel) -> u64
     ensures { (result ≡ blocks_in c) × (result < 288230376151711744) }
 {
-    let w = c.width as u64;
-    let h = c.height as u64;
-    w * h / 64
+    u64::from(c.width) * u64::from(c.height) / 64
 }
 
 // How many blocks the channels before channel c have.
 fn blocks_before(s: Sheet, c: u32) -> u64
     ensures { (result ≡ blocks_before s c) × (result < 576460752303423488) }
 {
-    if c == 0 {
-        return 0;
+    match c {
+        0 => 0,
+        1 => blocks_in(s.first),
+        _ => blocks_in(s.first) + blocks_in(s.second),
     }
-    let first = s.first;
-    let n = blocks_in(first);
-    if c == 1 {
-        return n;
-    }
-    let second = s.second;
-    n + blocks_in(second)
 }
 
 // The number of a mark's block in the order of the text. Ruled out: a channel's blocks counted from 0; columns before rows.
 pub fn block_of(s: Sheet, m: Mark) -> u64
     ensures { result ≡ block_of s m }
 {
-    let c = channel_at(s, m.channel);
-    let before = blocks_before(s, m.channel);
-    let row = m.row as u64;
-    let across = (c.width / 8) as u64;
-    before + row * across + (m.column as u64)
+    let across = channel_at(s, m.channel).width / 8;
+    blocks_before(s, m.channel) + u64::from(m.row) * u64::from(across) + u64::from(m.column)
 }
 
 // Does the sheet have a mark's block? Ruled out: a block of a channel that the sheet has not; the row as many rows down as there are rows.
 pub fn has_block(s: Sheet, m: Mark) -> bool
     ensures { result ≡ has_block s m }
 {
-    let h = s.header;
     let c = channel_at(s, m.channel);
-    if h.channels <= m.channel {
-        return false;
-    }
-    if c.height / 8 <= m.row {
-        return false;
-    }
-    m.column < c.width / 8
+    m.channel < s.header.channels && m.row < c.height / 8 && m.column < c.width / 8
 }

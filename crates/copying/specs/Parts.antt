@@ -1,9 +1,8 @@
 -- Parts of a text, by how many tabs or line ends they have, and what copying them promises.
-use Rattle.std.specs.Prelude.{ℕ, zero, suc, ◌+◌, ◌-◌, ◌≡◌, List, [], ◌∷◌, ◌++◌, cond, eqb, length, drop}
+use Rattle.std.specs.Prelude.{ℕ, zero, suc, ◌+◌, ◌-◌, ◌≡◌, List, [], ◌∷◌, ◌++◌, cond, eqb, length}
 use Rattle.std.proofs.lemmas.List.Edits.{sets}
 use Rattle.digits.specs.Written.{decimal}
-use Rattle.copying.specs.declared.Cursor.{Cursor}
-use Rattle.copying.specs.declared.Place.{Place}
+use Rattle.copying.specs.declared.Writer.{Writer}
 
 -- the bytes up to the n-th byte b, with that byte, and what follows them
 abbrev pub up_to : ℕ → ℕ → List ℕ → List ℕ
@@ -49,18 +48,8 @@ channel_left n a xs = past_rows n a (past 10 1 (after_two xs))
 abbrev pub channel_right : ℕ → ℕ → List ℕ → List ℕ
 channel_right n b ys = past_rows n b (past 10 1 ys)
 
--- The bytes were written from place `at` on, as far as there is room, and r is where they end
-pub record Put (before : List ℕ) (at : ℕ) (bytes after : List ℕ) (r : ℕ) : Type 0 where
-  pub next : r ≡ at + length bytes
-  pub last : after ≡ sets before at bytes
-
--- and what is left of the text that they are from
-pub record Copied (text more before : List ℕ) (at : ℕ) (bytes after : List ℕ) (r : Cursor) : Type 0 where
-  pub rest : drop r.from text ≡ more
-  pub put : Put before at bytes after r.at
-
--- and of the two texts
-pub record Woven (xs ys more_left more_right before : List ℕ) (at : ℕ) (bytes after : List ℕ) (r : Place) : Type 0 where
-  pub left : drop r.left xs ≡ more_left
-  pub right : drop r.right ys ≡ more_right
-  pub put : Put before at bytes after r.at
+-- The bytes were written from `at` on into the same output, as far as there is room
+pub record Put (before : Writer) (bytes : List ℕ) (after : Writer) : Type 0 where
+  pub next : after.at ≡ before.at + length bytes
+  pub last : after.out.now ≡ sets before.out.now before.at bytes
+  pub same : after.out.ghost_name ≡ before.out.ghost_name

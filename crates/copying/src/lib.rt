@@ -1,190 +1,178 @@
 // Parts of sheet texts copied into a lent output, as far as there is room: so one function measures and writes.
 #![tactic(auto)]
 
-ghost use Rattle.std.specs.Prelude.{◌+◌, ◌^◌, ◌<◌, ◌≤◌, ◌≡◌, cond, [], ◌∷◌, eqb, length, drop, ◌-◌};
-ghost use Rattle.digits.specs.Written.{digits_of};
-ghost use Rattle.copying.specs.Parts.{up_to, past, count_of, after_two, refitted, rows_of, past_rows, channel_text, channel_left, channel_right, Put, Copied, Woven};
+ghost use Rattle.std.specs.Prelude.{◌+◌, ◌^◌, ◌<◌, ◌≤◌, ◌≡◌, [], ◌∷◌, length, take, drop};
+ghost use Rattle.std.proofs.lemmas.List.Edits.{sets};
+ghost use Rattle.digits.specs.Written.{digits_of, decimal};
+ghost use Rattle.copying.specs.Parts.{up_to, past, count_of, after_two, refitted, rows_of, past_rows, channel_text, channel_left, channel_right, Put};
 
-// Where a text is read next, and where the output is written next.
-#[derive(Clone, Copy)]
-pub struct Cursor {
-    pub from: usize,
+// A lent output and where it is written next, which counts on past its end.
+#[derive(Drop)]
+pub struct Writer<'a> {
+    pub out: &'a mut [u8],
     pub at: usize,
 }
 
-// Where two texts are read next, and where the output is written next.
+// What is left to read of two texts.
 #[derive(Clone, Copy)]
-pub struct Place {
-    pub left: usize,
-    pub right: usize,
-    pub at: usize,
+pub struct Texts<'a> {
+    pub left: &'a [u8],
+    pub right: &'a [u8],
 }
 
-// A byte. This and what follows write from place `at` on, and answer where what they wrote ends.
-// Ruled out: a byte at the last place where `at` is past the end; the end of the room answered where there is none.
-pub fn put_byte(b: u8, out: &mut [u8], at: usize) -> usize
-    requires { at + 1 < 2 ^ 64 }
-    ensures { Put out.old at (b ∷ []) out.new result }
+// Writes bytes from place `at` on, as far as there is room.
+fn paste(out: &mut [u8], at: usize, bytes: &[u8])
+    ensures { out.new ≡ sets out.old at bytes.now }
 {
-    if out.len() <= at {
-        return at + 1;
+    if at < out.len() {
+        let n = bytes.len().min(out.len() - at);
+        out[at..at + n].copy_from_slice(&bytes[..n]);
     }
-    out[at] = b;
-    at + 1
 }
 
-// The decimal digits of n, at most k of them. Ruled out: the last digit first; zeros before the first digit.
-pub fn put_digits(k: usize, n: usize, out: &mut [u8], at: usize) -> usize
-    requires { at + length (digits_of k n) < 2 ^ 64 }
-    ensures { Put out.old at (digits_of k n) out.new result }
-{
-    if k == 0 {
-        return at;
+impl<'a> Writer<'a> {
+    // An output that is written from its front on.
+    pub fn new(out: &'a mut [u8]) -> Writer<'a>
+        ensures at { result.at ≡ 0 }
+        ensures out { result.out.now ≡ out.old }
+        ensures same { result.out.ghost_name ≡ out.entry.ghost_name }
+    {
+        Writer { out, at: 0 }
     }
-    if n < 10 {
-        return put_byte(b'0' + n as u8, out, at);
+
+    // Writes a byte. Ruled out: it at the last place where `at` is past the end; `at` left at the end of the room.
+    pub fn put_byte(&mut self, b: u8)
+        requires { self.old.at + 1 < 2 ^ 64 }
+        ensures { Put self.old (b ∷ []) self.new }
+    {
+        if self.at < self.out.len() {
+            self.out[self.at] = b;
+        }
+        self.at += 1;
     }
-    let end = put_digits(k - 1, n / 10, out, at);
-    put_byte(b'0' + (n % 10) as u8, out, end)
+
+    // Writes bytes. Ruled out: a byte at the last place where `at` is past the end; `at` left at the end of the room.
+    pub fn put(&mut self, bytes: &[u8])
+        requires { self.old.at + length bytes.now < 2 ^ 64 }
+        ensures { Put self.old bytes.now self.new }
+    {
+        paste(self.out, self.at, bytes);
+        self.at += bytes.len();
+    }
+
+    // The decimal digits of n, at most k of them.
+    fn put_digits(&mut self, k: usize, n: usize)
+        requires { self.old.at + length (digits_of k n) < 2 ^ 64 }
+        ensures { Put self.old (digits_of k n) self.new }
+    {
+        if k == 0 {
+            return;
+        }
+        if n < 10 {
+            return self.put_byte(b'0' + n as u8);
+        }
+        self.put_digits(k - 1, n / 10);
+        self.put_byte(b'0' + (n % 10) as u8)
+    }
+
+    // The decimal digits of a number, at most six. Ruled out: the last digit first; zeros before the first digit.
+    pub fn put_decimal(&mut self, n: usize)
+        requires { self.old.at + length (decimal n) < 2 ^ 64 }
+        ensures { Put self.old (decimal n) self.new }
+    {
+        self.put_digits(6, n)
+    }
 }
 
-// One less if the byte x is b.
-fn counted(n: usize, x: u8, b: u8) -> usize
-    requires { 0 < n }
-    ensures { result ≡ cond (eqb x b) (n - 1) n }
+// How many bytes b there are. Ruled out: one less where the last byte is b; those of another byte.
+pub fn count(text: &[u8], b: u8) -> usize
+    ensures { result ≡ count_of b text.now }
 {
-    if x == b {
-        return n - 1;
-    }
-    n
+    text.iter().filter(|x| **x == b).count()
 }
 
-// 1 if the byte x is b, else 0.
-fn one_if(x: u8, b: u8) -> usize
-    ensures { (result ≡ cond (eqb x b) 1 0) × (result ≤ 1) }
+// The place after the n-th byte b, or the text's end where there are fewer.
+fn place_after(text: &[u8], b: u8, n: usize) -> usize
+    ensures within { result ≤ length text.now }
+    ensures before { take result text.now ≡ up_to b n text.now }
+    ensures after { drop result text.now ≡ past b n text.now }
 {
-    if x == b {
-        return 1;
-    }
-    0
-}
-
-// How many bytes b there are from place `from` on. Ruled out: those before it too; one less where the last byte is b.
-pub fn count(text: &[u8], b: u8, from: usize) -> usize
-    ensures { result ≡ count_of b (drop from text.now) }
-{
-    let mut i = from;
-    let mut n: usize = 0;
-    while i < text.len() {
-        n += one_if(text[i], b);
-        i += 1;
-    }
-    n
-}
-
-// Skips all up to the n-th byte b, and that byte. Ruled out: that byte left; a byte b skipped where n is 0.
-pub fn skip(text: &[u8], b: u8, n: usize, from: usize) -> usize
-    ensures { drop result text.now ≡ past b n (drop from text.now) }
-{
-    let mut i = from;
     let mut left = n;
-    while i < text.len() {
+    for (i, x) in text.iter().enumerate() {
         if left == 0 {
             return i;
         }
-        left = counted(left, text[i], b);
-        i += 1;
+        if *x == b {
+            left -= 1;
+        }
     }
-    i
+    text.len()
+}
+
+// What follows the n-th byte b. Ruled out: that byte left; a byte b skipped where n is 0.
+pub fn skip(text: &[u8], b: u8, n: usize) -> &[u8]
+    ensures { result.now ≡ past b n text.now }
+{
+    &text[place_after(text, b, n)..]
 }
 
 // Copies all up to the n-th byte b, and that byte. Ruled out: a byte more or less; a byte of the output changed past what is copied.
-pub fn copy(text: &[u8], b: u8, n: usize, from: usize, out: &mut [u8], at: usize) -> Cursor
-    requires { at + length (up_to b n (drop from text.now)) < 2 ^ 64 }
-    ensures { Copied text.now (past b n (drop from text.now)) out.old at (up_to b n (drop from text.now)) out.new result }
+pub fn copy<'a>(text: &'a [u8], b: u8, n: usize, to: &mut Writer) -> &'a [u8]
+    requires { to.old.at + length (up_to b n text.now) < 2 ^ 64 }
+    ensures rest { result.now ≡ past b n text.now }
+    ensures put { Put to.old (up_to b n text.now) to.new }
 {
-    let mut i = from;
-    let mut o = at;
-    let mut left = n;
-    while i < text.len() {
-        if left == 0 {
-            return Cursor { from: i, at: o };
-        }
-        let x = text[i];
-        o = put_byte(x, out, o);
-        left = counted(left, x, b);
-        i += 1;
-    }
-    Cursor { from: i, at: o }
+    let (part, rest) = text.split_at(place_after(text, b, n));
+    to.put(part);
+    rest
 }
 
 // Copies a field, and writes the number n in the place of the next one. Ruled out: the old number copied too; the rest of the line copied twice.
-pub fn refit(text: &[u8], n: usize, from: usize, out: &mut [u8], at: usize) -> Cursor
-    requires { at + length (refitted n (drop from text.now)) < 2 ^ 64 }
-    ensures { Copied text.now (after_two (drop from text.now)) out.old at (refitted n (drop from text.now)) out.new result }
+pub fn refit<'a>(text: &'a [u8], n: usize, to: &mut Writer) -> &'a [u8]
+    requires { to.old.at + length (refitted n text.now) < 2 ^ 64 }
+    ensures rest { result.now ≡ after_two text.now }
+    ensures put { Put to.old (refitted n text.now) to.new }
 {
-    let c = copy(text, b'\t', 1, from, out, at);
-    let end = put_digits(6, n, out, c.at);
-    let at = put_byte(b'\t', out, end);
-    let from = skip(text, b'\t', 1, c.from);
-    Cursor { from, at }
+    let old = copy(text, b'\t', 1, to);
+    to.put_decimal(n);
+    to.put_byte(b'\t');
+    skip(old, b'\t', 1)
 }
 
 // Copies n rows of lines, in each a lines of the left text and then b lines of the right.
 // Ruled out: all lines of the left text first; as many lines of the right text as of the left in each row.
-pub fn copy_rows(
-    left: &[u8],
-    right: &[u8],
-    n: usize,
-    a: usize,
-    b: usize,
-    from: Place,
-    out: &mut [u8],
-) -> Place
-    requires { from.at + length (rows_of n a b (drop from.left left.now) (drop from.right right.now)) < 2 ^ 64 }
-    ensures { Woven left.now right.now (past_rows n a (drop from.left left.now)) (past_rows n b (drop from.right right.now)) out.old from.at (rows_of n a b (drop from.left left.now) (drop from.right right.now)) out.new result }
+pub fn copy_rows<'a>(from: Texts<'a>, n: usize, a: usize, b: usize, to: &mut Writer) -> Texts<'a>
+    requires { to.old.at + length (rows_of n a b from.left.now from.right.now) < 2 ^ 64 }
+    ensures left { result.left.now ≡ past_rows n a from.entry.left.now }
+    ensures right { result.right.now ≡ past_rows n b from.entry.right.now }
+    ensures put { Put to.old (rows_of n a b from.entry.left.now from.entry.right.now) to.new }
 {
-    let mut l = from.left;
-    let mut r = from.right;
-    let mut o = from.at;
-    let mut m = n;
-    while 0 < m {
-        let c = copy(left, b'\n', a, l, out, o);
-        let d = copy(right, b'\n', b, r, out, c.at);
-        l = c.from;
-        r = d.from;
-        o = d.at;
-        m -= 1;
+    let mut left = from.left;
+    let mut right = from.right;
+    for row in 0..n {
+        left = copy(left, b'\n', a, to);
+        right = copy(right, b'\n', b, to);
     }
-    Place {
-        left: l,
-        right: r,
-        at: o,
-    }
+    Texts { left, right }
 }
 
 // Copies a channel: the left text's line with the width w, the rest of its fields as they are, then n rows of its blocks' lines,
 // in each a of the left text and then b of the right. Ruled out: the right text's line of the channel copied too; its quantisers.
-pub fn copy_channel(
-    left: &[u8],
-    right: &[u8],
+pub fn copy_channel<'a>(
+    from: Texts<'a>,
     w: usize,
     n: usize,
     a: usize,
     b: usize,
-    from: Place,
-    out: &mut [u8],
-) -> Place
-    requires { from.at + length (channel_text w n a b (drop from.left left.now) (drop from.right right.now)) < 2 ^ 64 }
-    ensures { Woven left.now right.now (channel_left n a (drop from.left left.now)) (channel_right n b (drop from.right right.now)) out.old from.at (channel_text w n a b (drop from.left left.now) (drop from.right right.now)) out.new result }
+    to: &mut Writer,
+) -> Texts<'a>
+    requires { to.old.at + length (channel_text w n a b from.left.now from.right.now) < 2 ^ 64 }
+    ensures left { result.left.now ≡ channel_left n a from.entry.left.now }
+    ensures right { result.right.now ≡ channel_right n b from.entry.right.now }
+    ensures put { Put to.old (channel_text w n a b from.entry.left.now from.entry.right.now) to.new }
 {
-    let c = refit(left, w, from.left, out, from.at);
-    let d = copy(left, b'\n', 1, c.from, out, c.at);
-    let right_from = skip(right, b'\n', 1, from.right);
-    let next = Place {
-        left: d.from,
-        right: right_from,
-        at: d.at,
-    };
-    copy_rows(left, right, n, a, b, next, out)
+    let factors = refit(from.left, w, to);
+    let left = copy(factors, b'\n', 1, to);
+    let right = skip(from.right, b'\n', 1);
+    copy_rows(Texts { left, right }, n, a, b, to)
 }

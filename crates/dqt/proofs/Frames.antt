@@ -1,16 +1,14 @@
 -- What the tests of a segment have told.
-use mathlib.Core.Path.{◌≡◌, refl}
-use mathlib.Core.Bool.{Bool, true, false, ◌&&◌}
+use mathlib.Core.Path.{◌≡◌}
+use mathlib.Core.Bool.{true, ◌&&◌}
 use mathlib.Core.List.{List}
-use Prim.Native.Nat.{ℕ, ◌+◌, ◌-◌, ◌*◌, ◌/◌, ◌%◌, ◌<◌, ◌≤◌}
+use Prim.Native.Nat.{ℕ, ◌-◌, ◌/◌, ◌%◌, ◌<◌, ◌≤◌}
 use native.Mathlib.Omega.{arith}
 use lib.Dec.{eqb, leb}
 use lib.ListN.{length}
 use borrow.Author.Tests.{eqb-true, leb-true}
 use Rattle.answers.specs.Tests.{table_ok}
 use Rattle.answers.proofs.Tests.{and_left, and_right}
-use Rattle.zigzag.specs.Zigzag.{to_raster}
-use Rattle.zigzag.proofs.Places.{raster_in}
 use Rattle.dqt.specs.Dqt.{val, lq, framed, head_ok}
 
 -- the least length of a framed segment
@@ -24,13 +22,6 @@ framed_long s e =
     let b = leb-true 67 (lq s) (and_right l m r) in
     omega arith
 
-is_false : (b : Bool) → (b ≡ true → ⊥) → false ≡ b
-is_false true h = absurd (h refl)
-is_false false h = refl
-
-pub framed_short : (s : List ℕ) → length s < 4 → false ≡ framed s
-framed_short s h = is_false (framed s) (λ e. let l = framed_long s e in omega arith)
-
 -- a head that passed is its destination
 pub head_small : (b : ℕ) → head_ok b ≡ true → b < 4
 head_small b e =
@@ -41,7 +32,3 @@ head_small b e =
 -- a quantiser that passed
 pub quantiser_range : (q : ℕ) → table_ok q ≡ true → (1 ≤ q) × (q ≤ 255)
 quantiser_range q e = (leb-true 1 q (and_left (leb 1 q) (leb q 255) e), leb-true q 255 (and_right (leb 1 q) (leb q 255) e))
-
--- the quantiser that byte j of destination d is
-pub source_in : (d j : ℕ) → d < 4 → j < 65 → (j ≡ 0 → ⊥) → d * 64 + to_raster (j - 1) < 256
-source_in d j h k z = omega (arith, raster_in (j - 1) 64 refl (omega arith))

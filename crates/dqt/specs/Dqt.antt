@@ -79,7 +79,6 @@ table_byte tables d j = cond (eqb j 0) d (val tables (d * 64 + to_raster (j - 1)
 
 -- byte i of "one segment of 264 bytes, destinations rising": Lq is 262
 unfoldable pub exported_at : List ℕ → ℕ → ℕ
-unfolding to_raster
 exported_at tables i =
     cond (ltb i 4) (val (0xFF ∷ 0xDB ∷ 0x01 ∷ 0x06 ∷ []) i) (table_byte tables ((i - 4) / 65) ((i - 4) % 65))
 

@@ -69,6 +69,10 @@ root (fin false (suc m) e) =
     let n = 2 * (suc m * up e * 2 ^ 149 / down e) in
     round binary32 false (halves (n * 4 ^ 32)) (2 * 2 ^ 107)
 
+-- the root of m * 2 ^ k of the format's smallest values, rounded
+abbrev pub root_of : ℕ → ℕ → Float
+root_of m k = round binary32 false (halves (2 * (m * 2 ^ k) * 4 ^ 32)) (2 ^ 108)
+
 -- `f32::clamp`: the lower end where x is below it, then the upper end where that is above it; a NaN is neither, and stays
 abbrev pub at_least : Float → Float → Float
 at_least x low = cond (lt x low) low x

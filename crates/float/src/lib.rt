@@ -9,18 +9,16 @@ pub mod parts;
 pub mod root;
 pub mod round;
 
-ghost use Rattle.std.specs.Prelude.{◌≡◌};
-ghost use Rattle.float.specs.Ops.{at_least, at_most, clamp, fused, midpoint, mul_add, root, square};
+ghost use Rattle.std.specs.Prelude.{◌≡◌, ℕ, Float};
+ghost use Rattle.float.specs.Ops.{clamp, fused, midpoint, mul_add, root, root_of, square};
+ghost use Rattle.float.specs.Whole.{IsPositive};
 
 // The method `mul_add`: a * b + c, rounded once.
 // Ruled out: the product rounded before the sum (0 for 1 + 2^-23, 1 - 2^-23, -1); -0 where the exact sum cancels.
 pub fn mul_add(a: f32, b: f32, c: f32) -> f32
     ensures { result ≡ fused a b c }
 {
-    if !parts::is_finite(a) {
-        return a * b + c;
-    }
-    if !parts::is_finite(b) {
+    if !parts::is_finite(a) || !parts::is_finite(b) {
         return a * b + c;
     }
     if !parts::is_finite(c) {
@@ -44,10 +42,7 @@ pub fn mul_add(a: f32, b: f32, c: f32) -> f32
 pub fn midpoint(a: f32, b: f32) -> f32
     ensures { result ≡ midpoint a b }
 {
-    if !parts::is_finite(a) {
-        return a + b;
-    }
-    if !parts::is_finite(b) {
+    if !parts::is_finite(a) || !parts::is_finite(b) {
         return a + b;
     }
     let p = parts::unpack(a);
@@ -58,6 +53,16 @@ pub fn midpoint(a: f32, b: f32) -> f32
 // The method `sqrt`: the square root, rounded once.
 // Ruled out: the root cut off where the next value is nearer; +0 for -0.
 pub fn sqrt(x: f32) -> f32
+    ensures { result ≡ root x }
+{
+    sqrt_by(x, root::root_of)
+}
+
+// The method `sqrt`, where `positive_root(m, k)` gives the root of m * 2^k of the format's smallest values.
+// Ruled out: the root of a value below 0 taken as that of its size; +0 for -0.
+pub fn sqrt_by<F: Fn(u64, u32) -> f32>(x: f32, positive_root: F) -> f32
+    requires callable { (m k : ℕ) → IsPositive m k → F.pre positive_root m k }
+    requires gives { (m k : ℕ) (r : Float) → IsPositive m k → F.post positive_root m k r → r ≡ root_of m k }
     ensures { result ≡ root x }
 {
     if !parts::is_finite(x) {
@@ -71,9 +76,9 @@ pub fn sqrt(x: f32) -> f32
         return x;
     }
     if p.neg {
-        return 0.0 / 0.0;
+        return f32::NAN;
     }
-    root::root_of(p.m, p.x)
+    positive_root(p.m, p.x)
 }
 
 // The macro `mul_add!`: the product is rounded, then the sum.
@@ -92,30 +97,11 @@ pub fn powi2(x: f32) -> f32
     x * x
 }
 
-// low where x is below it, else x.
-fn at_least(x: f32, low: f32) -> f32
-    ensures { result ≡ at_least x low }
-{
-    if x < low {
-        return low;
-    }
-    x
-}
-
-// high where x is above it, else x.
-fn at_most(x: f32, high: f32) -> f32
-    ensures { result ≡ at_most x high }
-{
-    if high < x {
-        return high;
-    }
-    x
-}
-
 // The method `clamp`: x, or the end that it lies beyond; a NaN stays.
 // Ruled out: an end for a NaN; +0 for a -0 that equals an end.
 pub fn clamp(x: f32, low: f32, high: f32) -> f32
     ensures { result ≡ clamp x low high }
 {
-    at_most(at_least(x, low), high)
+    let raised = if x < low { low } else { x };
+    if high < raised { high } else { raised }
 }

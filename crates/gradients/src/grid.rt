@@ -22,6 +22,7 @@ pub fn px(g: Grid, c: usize, y: usize, x: usize) -> usize
     c * (w * h) + (y * w + x)
 }
 
+// Kept: the flag edge; with an Option of a place in its stead blend takes 45.5 ms on nearly flat planes of 512 by 512, and 41.5 as it is.
 // The difference from (y, x) to (ty, tx), 0 at an edge. Rules out: its sign turned, and a value read beyond an edge.
 pub fn difference(
     edge: bool,

@@ -1,17 +1,16 @@
 -- The lines of blocks: B with 64 levels, which stand in the lows and in the highs, or G with 64 pairs.
+use Rattle.std.proofs.Common.{None, Ok, Result}
+use Rattle.refusal.specs.declared.Refusal.{Refusal}
 use Prim.Native.Nat.{ℕ, zero, suc, ◌+◌, ◌*◌, ◌≤◌}
 use mathlib.Core.Path.{◌≡◌, refl, sym, ap, ◌∙◌, subst, subst⁻¹}
 use mathlib.Core.List.{List, [], ◌∷◌, ◌++◌, map, append-nil}
 use mathlib.Core.Bool.{Bool, true, false}
-use mathlib.Core.Option.{none}
 use native.Mathlib.Omega.{arith}
 use lib.Dec.{T, eqb}
 use lib.ListN.{length, get_or, take, drop, replicate, length-drop}
 use lib.Seq.{length-take-le, drop-drop, take-append-le, drop-append-le}
 use lib.IntN.{ℤ}
 use lib.Signed.{le_z, ≤ℤ_refl}
-use Rattle.text.specs.declared.level.LevelField.{LevelField}
-use Rattle.text.specs.declared.level.LevelField.TheVariants as level-field
 use Rattle.text.specs.declared.field.Rule.{Rule}
 use Rattle.text.specs.declared.field.Rule.TheVariants as rule
 use Rattle.text.specs.Pieces.{split}
@@ -59,7 +58,7 @@ record Levels (n : ℕ) (fs : List (List ℕ)) : Type 0 where
   lows : line_adds lows_in (replicate n rule.Level) fs ≡ zs
   highs : line_adds highs_in (replicate n rule.Level) fs ≡ zs
 
-module _ (n : ℕ) (f : List ℕ) (fs : List (List ℕ)) (r : Levels n fs) (z : ℤ) (e : level_of f ≡ level-field.Is z) (l : LegalLevel z) where
+module _ (n : ℕ) (f : List ℕ) (fs : List (List ℕ)) (r : Levels n fs) (z : ℤ) (e : level_of f ≡ Ok z) (l : LegalLevel z) where
   level_more : Levels (suc n) (f ∷ fs)
   level_more =
       let t = level_canonical f z e in
@@ -72,7 +71,7 @@ module _ (n : ℕ) (f : List ℕ) (fs : List (List ℕ)) (r : Levels n fs) (z : 
         highs = rw (level-of f z e) (ap (λ (x : List ℤ). z ∷ x) r.highs);
       }
 
-levels_line : (n : ℕ) (fs : List (List ℕ)) → length fs ≡ n → first_fault (replicate n rule.Level) fs ≡ none → Levels n fs
+levels_line : (n : ℕ) (fs : List (List ℕ)) → length fs ≡ n → first_fault (replicate n rule.Level) fs ≡ None → Levels n fs
 levels_line zero [] h e = record { zs = []; count = refl; legal = tt; texts = refl; lows = refl; highs = refl }
 levels_line zero (f ∷ fs) h e = let y : ⊥ = omega arith in absurd y
 levels_line (suc n) [] h e = let y : ⊥ = omega arith in absurd y
@@ -107,7 +106,7 @@ record Pairs (n : ℕ) (fs : List (List ℕ)) : Type 0 where
   highs : line_adds highs_in (pair_rules n fs) fs ≡ hs
   tables : line_adds tables_in (pair_rules n fs) fs ≡ []
 
-module _ (n : ℕ) (f g : List ℕ) (fs : List (List ℕ)) (r : Pairs n fs) (z : ℤ) (e : level_of f ≡ level-field.Is z) (l : LegalLevel z) (y : ℤ) (q : level_of g ≡ level-field.Is y) (m : LegalLevel y)
+module _ (n : ℕ) (f g : List ℕ) (fs : List (List ℕ)) (r : Pairs n fs) (z : ℤ) (e : level_of f ≡ Ok z) (l : LegalLevel z) (y : ℤ) (q : level_of g ≡ Ok y) (m : LegalLevel y)
     (o : le_z z y ≡ true) where
   pair_more : Pairs (suc n) (f ∷ (g ∷ fs))
   pair_more =
@@ -127,7 +126,7 @@ module _ (n : ℕ) (f g : List ℕ) (fs : List (List ℕ)) (r : Pairs n fs) (z :
         tables = rw (low_of f z e, e, high_of g y q z o) r.tables;
       }
 
-pairs_line : (n : ℕ) (fs : List (List ℕ)) → length fs ≡ 2 * n → first_fault (pair_rules n fs) fs ≡ none → Pairs n fs
+pairs_line : (n : ℕ) (fs : List (List ℕ)) → length fs ≡ 2 * n → first_fault (pair_rules n fs) fs ≡ None → Pairs n fs
 pairs_line zero [] h e =
     record { ls = []; hs = []; low_count = refl; high_count = refl; low_legal = tt; high_legal = tt; ranges = tt; texts = refl; lows = refl; highs = refl; tables = refl }
 pairs_line zero (f ∷ fs) h e = let y : ⊥ = omega arith in absurd y
@@ -141,7 +140,7 @@ pairs_line (suc n) (f ∷ (g ∷ fs)) h e =
     let w = or_right (fault_in (field_of rule.Low f)) (or_else high rest) e in
     let b = high_good low g (or_left high rest w) in
     pair_more n f g fs (pairs_line n fs (omega arith) (or_right high rest w)) a.0 a.1 a.2 b.0 b.1 b.2
-    (ap (λ (r : LevelField). le_z (level_value r) b.0) (sym a.1) ∙ b.3)
+    (ap (λ (r : Result ℤ Refusal). le_z (level_value r) b.0) (sym a.1) ∙ b.3)
 
 -- A good line of a block: what it says, that it is written so, and what it adds to what is held
 pub record BlockSaid (r : Bool) (g : ℕ) (rs : List Rule) (p : List ℕ) : Type 0 where
@@ -151,7 +150,7 @@ pub record BlockSaid (r : Bool) (g : ℕ) (rs : List Rule) (p : List ℕ) : Type
   pub row : joined (block_fields r ls hs) ≡ p
   pub holds : (H : Held) (s : Sheet) → holding H s g rs (split 9 p) ≡ with_block H r ls hs
 
-one_level : (p : List ℕ) → length (split 9 p) ≡ 65 → first_fault block_rules (split 9 p) ≡ none → BlockSaid false 66 block_rules p
+one_level : (p : List ℕ) → length (split 9 p) ≡ 65 → first_fault block_rules (split 9 p) ≡ None → BlockSaid false 66 block_rules p
 one_level p n e =
     let fs = split 9 p in
     let a = levels_line 64 (drop 1 fs) (length-drop 1 fs ∙ omega arith) (fault_drop 1 block_rules fs e) in
@@ -172,7 +171,7 @@ one_level p n e =
           );
     }
 
-one_range : (p : List ℕ) → length (split 9 p) ≡ 129 → first_fault (range_rules (split 9 p)) (split 9 p) ≡ none → BlockSaid true 71 (range_rules (split 9 p)) p
+one_range : (p : List ℕ) → length (split 9 p) ≡ 129 → first_fault (range_rules (split 9 p)) (split 9 p) ≡ None → BlockSaid true 71 (range_rules (split 9 p)) p
 one_range p n e =
     let fs = split 9 p in
     let a = pairs_line 64 (drop 1 fs) (length-drop 1 fs ∙ omega arith) (fault_drop 1 (range_rules fs) fs e) in
@@ -195,7 +194,7 @@ one_range p n e =
     }
 
 pub said_block : (r : Bool) (g : ℕ) (limits : Limits) (top : Header) (p : List ℕ) → BlockTag r g
-    → length (split 9 p) ≡ length (rules_of g limits top (split 9 p)) → first_fault (rules_of g limits top (split 9 p)) (split 9 p) ≡ none
+    → length (split 9 p) ≡ length (rules_of g limits top (split 9 p)) → first_fault (rules_of g limits top (split 9 p)) (split 9 p) ≡ None
     → BlockSaid r g (rules_of g limits top (split 9 p)) p
 unfolding rules_of
 said_block r g limits top p (B-tag q t) n e =

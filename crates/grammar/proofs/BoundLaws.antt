@@ -1,7 +1,8 @@
 -- A refusal's line is one of the text's lines, or the one after: its number is small.
+use Rattle.refusal.specs.declared.Refusal.{Refusal}
+use Rattle.std.proofs.Common.{Some, None, Option, Ok, Err, Result}
 use mathlib.Core.Bool.{Bool, true, false, cond}
 use mathlib.Core.List.{List, [], ◌∷◌}
-use mathlib.Core.Option.{Option, none, some}
 use Prim.Native.Nat.{ℕ, ◌+◌, ◌≤◌}
 use native.Mathlib.Omega.{arith}
 use lib.Dec.{eqb}
@@ -10,8 +11,6 @@ use Rattle.text.specs.Pieces.{split}
 use Rattle.text.proofs.PieceLaws.{split_length}
 use Rattle.contents.specs.declared.Limits.{Limits}
 use Rattle.progress.specs.declared.State.{State}
-use Rattle.progress.specs.declared.Taken.{Taken}
-use Rattle.progress.specs.declared.Taken.TheVariants as taken
 use Rattle.lines.specs.Lines.{rules_of, holding, record_of}
 use Rattle.contents.specs.Sheets.{Held, nothing}
 use Rattle.progress.specs.Progress.{blank, line_tag}
@@ -24,12 +23,12 @@ LineTo m (Gives c) = Unit {0}
 LineTo m (Refused k line) = line ≤ m
 
 on-fault : (f : Option ℕ) (at m : ℕ) (x : Outcome Contents) → at ≤ m → LineTo m x → LineTo m (on_fault f at x)
-on-fault none at m x h l = l
-on-fault (some k) at m x h l = h
+on-fault None at m x h l = l
+on-fault (Some k) at m x h l = h
 
-on-taken : (t : Taken) (at m : ℕ) (f : State → Outcome Contents) → at ≤ m → ((s : State) → LineTo m (f s)) → LineTo m (on_taken t at f)
-on-taken (taken.Good s) at m f h l = l s
-on-taken (taken.Bad k) at m f h l = h
+on-taken : (t : Result State Refusal) (at m : ℕ) (f : State → Outcome Contents) → at ≤ m → ((s : State) → LineTo m (f s)) → LineTo m (on_taken t at f)
+on-taken (Ok s) at m f h l = l s
+on-taken (Err k) at m f h l = h
 
 on_cond : (b : Bool) (m : ℕ) (x y : Outcome Contents) → LineTo m x → LineTo m y → LineTo m (cond b x y)
 on_cond true m x y l k = l

@@ -1,9 +1,10 @@
 -- An accepted text is the written text of its contents.
+use Rattle.refusal.specs.declared.Refusal.TheVariants as refusal
+use Rattle.std.proofs.Common.{None, Ok, Err}
 use Prim.Native.Nat.{ℕ, zero, suc, ◌+◌, ◌-◌, ◌*◌, ◌/◌, ◌<◌, ◌≤◌}
 use mathlib.Core.Path.{◌≡◌, refl, sym, ap, ◌∙◌}
 use mathlib.Core.List.{List, [], ◌∷◌, ◌++◌, map, append-nil, append_assoc}
 use mathlib.Core.Bool.{Bool, true, false, cond, ◌&&◌}
-use mathlib.Core.Option.{none}
 use native.Mathlib.Omega.{arith}
 use lib.ListN.{length, get_or, take, drop, replicate, length-drop}
 use lib.Seq.{drop-drop, take-append_seam, drop-append_seam}
@@ -26,7 +27,6 @@ use Rattle.contents.specs.declared.Channel.{Channel}
 use Rattle.contents.specs.declared.Settings.{Settings}
 use Rattle.contents.specs.declared.Sheet.{Sheet}
 use Rattle.progress.specs.declared.State.{State}
-use Rattle.progress.specs.declared.Taken.TheVariants as taken
 use Rattle.lines.specs.Lines.{header_rules, channel_rules, end_rules, rules_of, first_fault, line_adds, header_of, channel_of, record_of}
 use Rattle.contents.specs.Marks.{block_of}
 use Rattle.contents.specs.Sheets.{Lent, lent, Marked, marked, Held, held, nothing, channels_of}
@@ -42,20 +42,20 @@ use Rattle.lines.proofs.GoodLines.{or_left, or_right, fault_at, fault_drop, hold
 use Rattle.grammar.proofs.SettingLaws.{place_of, Agree, lines_after, now_said, none_after, one_line, one_kept}
 use Rattle.grammar.proofs.BlockLaws.{with_block}
 use Rattle.grammar.proofs.MarkLaws.{with_mark}
-use Rattle.grammar.proofs.LegalLaws.{header_is_legal, few, some_channel, line-is, setting_read, less_block, block_read, mark_read, refusal, legal, legal_blocks, legal_marks}
+use Rattle.grammar.proofs.LegalLaws.{header_is_legal, few, some_channel, line-is, setting_read, less_block, block_read, mark_read, no_gives, legal, legal_blocks, legal_marks}
 use Rattle.grammar.proofs.RoundTrip.{during, join_held, placed_all, round_trip}
 use Rattle.grammar.proofs.PrefixLaws.{not_unended}
 
 -- Good lines are written so
 
-header_as : (limits : Limits) (fs : List (List ℕ)) → length fs ≡ 16 → first_fault (header_rules limits fs) fs ≡ none → header_fields (header_of fs) ≡ fs
+header_as : (limits : Limits) (fs : List (List ℕ)) → length fs ≡ 16 → first_fault (header_rules limits fs) fs ≡ None → header_fields (header_of fs) ≡ fs
 unfolding header_of number_at weight_at
 header_as limits fs n e =
     field_at fs 0 _ _ (omega arith) (tag_as (get_or fs 0 []) 83 (at 0 (omega arith)))
     (field_at fs 1 _ _ (omega arith) (side_as (get_or fs 1 []) limits.side (at 1 (omega arith)))
     (field_at fs 2 _ _ (omega arith) (side_as (get_or fs 2 []) limits.side (at 2 (omega arith)))
-    (field_at fs 3 _ _ (omega arith) (range_as (get_or fs 3 []) 2 1 (number_at fs 1) (at 3 (omega arith)))
-    (field_at fs 4 _ _ (omega arith) (range_as (get_or fs 4 []) 2 1 (number_at fs 2) (at 4 (omega arith)))
+    (field_at fs 3 _ _ (omega arith) (range_as (get_or fs 3 []) refusal.Size 1 (number_at fs 1) (at 3 (omega arith)))
+    (field_at fs 4 _ _ (omega arith) (range_as (get_or fs 4 []) refusal.Size 1 (number_at fs 2) (at 4 (omega arith)))
     (field_at fs 5 _ _ (omega arith) (channels_as (get_or fs 5 []) (at 5 (omega arith)))
     (field_at fs 6 _ _ (omega arith) (letters_as (get_or fs 6 []) 106 115 (at 6 (omega arith)))
     (field_at fs 7 _ _ (omega arith) (count_as (get_or fs 7 []) limits.iterations (at 7 (omega arith)))
@@ -68,10 +68,10 @@ header_as limits fs n e =
     (field_at fs 14 _ _ (omega arith) (weight_as (get_or fs 14 []) (at 14 (omega arith)))
     (field_at fs 15 _ _ (omega arith) (weight_as (get_or fs 15 []) (at 15 (omega arith))) (no_more fs 16 (omega arith)))))))))))))))))
   where
-    at : (i : ℕ) → i < 16 → fault_in (field_of (get_or (header_rules limits fs) i (rule.Tag 0)) (get_or fs i [])) ≡ none
+    at : (i : ℕ) → i < 16 → fault_in (field_of (get_or (header_rules limits fs) i (rule.Tag 0)) (get_or fs i [])) ≡ None
     at i h = fault_at (header_rules limits fs) fs i e h (omega arith)
 
-quantisers_as : (n : ℕ) (fs : List (List ℕ)) → length fs ≡ n → first_fault (replicate n rule.Quantiser) fs ≡ none → map decimal (line_adds tables_in (replicate n rule.Quantiser) fs) ≡ fs
+quantisers_as : (n : ℕ) (fs : List (List ℕ)) → length fs ≡ n → first_fault (replicate n rule.Quantiser) fs ≡ None → map decimal (line_adds tables_in (replicate n rule.Quantiser) fs) ≡ fs
 quantisers_as zero [] h e = refl
 quantisers_as zero (f ∷ fs) h e = let y : ⊥ = omega arith in absurd y
 quantisers_as (suc n) [] h e = let y : ⊥ = omega arith in absurd y
@@ -81,20 +81,20 @@ quantisers_as (suc n) (f ∷ fs) h e =
     let b = quantisers_as n fs (omega arith) (or_right (fault_in (field_of rule.Quantiser f)) (first_fault (replicate n rule.Quantiser) fs) e) in
     rw g.1 (λ i. a i ∷ b i)
 
-channel_as : (fs : List (List ℕ)) → length fs ≡ 69 → first_fault channel_rules fs ≡ none → channel_fields (channel_of fs) (line_adds tables_in (replicate 64 rule.Quantiser) (drop 5 fs)) ≡ fs
+channel_as : (fs : List (List ℕ)) → length fs ≡ 69 → first_fault channel_rules fs ≡ None → channel_fields (channel_of fs) (line_adds tables_in (replicate 64 rule.Quantiser) (drop 5 fs)) ≡ fs
 unfolding channel_of number_at
 channel_as fs n e =
     field_at fs 0 _ _ (omega arith) (tag_as (get_or fs 0 []) 67 (at 0 (omega arith)))
     (field_at fs 1 _ _ (omega arith) (side_as (get_or fs 1 []) 999999 (at 1 (omega arith)))
     (field_at fs 2 _ _ (omega arith) (side_as (get_or fs 2 []) 999999 (at 2 (omega arith)))
-    (field_at fs 3 _ _ (omega arith) (range_as (get_or fs 3 []) 3 1 4 (at 3 (omega arith)))
-    (field_at fs 4 _ _ (omega arith) (range_as (get_or fs 4 []) 3 1 4 (at 4 (omega arith)))
+    (field_at fs 3 _ _ (omega arith) (range_as (get_or fs 3 []) refusal.Factor 1 4 (at 3 (omega arith)))
+    (field_at fs 4 _ _ (omega arith) (range_as (get_or fs 4 []) refusal.Factor 1 4 (at 4 (omega arith)))
     (quantisers_as 64 (drop 5 fs) (length-drop 5 fs ∙ omega arith) (fault_drop 5 channel_rules fs e))))))
   where
-    at : (i : ℕ) → i < 69 → fault_in (field_of (get_or channel_rules i (rule.Tag 0)) (get_or fs i [])) ≡ none
+    at : (i : ℕ) → i < 69 → fault_in (field_of (get_or channel_rules i (rule.Tag 0)) (get_or fs i [])) ≡ None
     at i h = fault_at channel_rules fs i e h (omega arith)
 
-end_as : (fs : List (List ℕ)) → length fs ≡ 1 → first_fault (rule.Tag 69 ∷ []) fs ≡ none → end_fields ≡ fs
+end_as : (fs : List (List ℕ)) → length fs ≡ 1 → first_fault (rule.Tag 69 ∷ []) fs ≡ None → end_fields ≡ fs
 end_as fs n e = field_at fs 0 _ _ (omega arith) (tag_as (get_or fs 0 []) 69 (fault_at (rule.Tag 69 ∷ []) fs 0 e (omega arith) (omega arith))) (no_more fs 1 (omega arith))
 
 -- the marks and the end
@@ -195,10 +195,10 @@ module _ (limits : Limits) (p : List ℕ) (rest : List (List ℕ)) (C : Contents
       qs : List ℕ
       qs = line_adds tables_in (replicate 64 rule.Quantiser) (drop 5 (split 9 p))
 
-      covered : (x : Bool) → covers s.sheet.header c ≡ x → length (split 9 p) ≡ 69 → first_fault channel_rules (split 9 p) ≡ none
-          → on_taken (cond x (taken.Good (opened s c)) (taken.Bad 2)) k (λ t. read_from limits t (with_table H qs) (k + 1) rest) ≡ Gives C
+      covered : (x : Bool) → covers s.sheet.header c ≡ x → length (split 9 p) ≡ 69 → first_fault channel_rules (split 9 p) ≡ None
+          → on_taken (cond x (Ok (opened s c)) (Err refusal.Size)) k (λ t. read_from limits t (with_table H qs) (k + 1) rest) ≡ Gives C
           → Rest s H (p ∷ rest) C
-      covered false i n f o = refusal 2 k C o
+      covered false i n f o = no_gives 2 k C o
       covered true i n f o =
           let a = all_quantisers 64 (drop 5 (split 9 p)) (length-drop 5 (split 9 p) ∙ omega arith) (fault_drop 5 channel_rules (split 9 p) f) in
           let r = ih (opened s c) (with_table H qs) (k + 1) (record { begun = refl; upto = omega arith }) (omega arith) o in
@@ -238,8 +238,8 @@ module _ (limits : Limits) (p : List ℕ) (rest : List (List ℕ)) (C : Contents
             count = omega (arith, b.upto);
             held = rw (append-nil H.lent.lows, append-nil H.lent.highs, append-nil H.lent.tables, append-nil H.ranged, append-nil H.marks) y;
           }
-      last ([] ∷ (r ∷ ps)) w o q f = refusal 7 (k + 1) C o
-      last ((x ∷ r) ∷ ps) w o q f = refusal 7 (k + 1) C o
+      last ([] ∷ (r ∷ ps)) w o q f = no_gives 7 (k + 1) C o
+      last ((x ∷ r) ∷ ps) w o q f = no_gives 7 (k + 1) C o
 
   mark_rest : 0 < s.read → s.left ≤ 0 → s.sheet.header.channels ≤ s.read → line_tag s (split 9 p) ≡ 78 → read_from limits s H k (p ∷ rest) ≡ Gives C → Rest s H (p ∷ rest) C
   mark_rest z u v g e =
@@ -273,7 +273,7 @@ module _ (limits : Limits) (p : List ℕ) (rest : List (List ℕ)) (C : Contents
       by (Mark-line q u v g) = mark_rest m u v g e
 
 rest_from : (limits : Limits) (ps : List (List ℕ)) (C : Contents) (s : State) (H : Held) (k : ℕ) → Under s → 0 < s.read → read_from limits s H k ps ≡ Gives C → Rest s H ps C
-rest_from limits [] C s H k b m e = refusal 7 k C e
+rest_from limits [] C s H k b m e = no_gives 7 k C e
 rest_from limits (p ∷ rest) C s H k b m e = any_rest limits p rest C (rest_from limits rest C) s H k b m e
 
 -- After the header and the settings of the sheet t: the lines of more settings, or none
@@ -304,7 +304,7 @@ module _ (limits : Limits) (p : List ℕ) (rest : List (List ℕ)) (C : Contents
       let z = r.x in
       let u : last_said x < place_of z = omega (arith, h, r.place) in
       let o = ih (settled t (with_setting x z)) (k + 1) few r.more in
-      let n = now_said x z p u r.row in
+      let n = now_said x z u in
       let a : Agree (place_of z) (with_setting x z) o.y = rw n at o.agree in
       record {
         y = o.y;
@@ -327,7 +327,7 @@ module _ (limits : Limits) (p : List ℕ) (rest : List (List ℕ)) (C : Contents
       no_setting (end_rest limits p rest C (rest_from limits rest C) (during t 0 0) nothing k (record { begun = refl; upto = omega arith }) v w g e)
 
 opening : (limits : Limits) (ps : List (List ℕ)) (C : Contents) (t : Sheet) (k : ℕ) → 1 ≤ t.header.channels → read_from limits (during t 0 0) nothing k ps ≡ Gives C → Opening t ps C
-opening limits [] C t k few e = refusal 7 k C e
+opening limits [] C t k few e = no_gives 7 k C e
 opening limits (p ∷ rest) C t k few e = opening_line limits p rest C (opening limits rest C) t k e few (stands (during t 0 0) (split 9 p) (line_tag (during t 0 0) (split 9 p)) refl)
 
 -- The header's line, and the whole text
@@ -358,7 +358,7 @@ Pieces C ps = ps ≡ joined (header_fields C.sheet.header) ∷ (setting_lines C.
 
 pieces_are : (limits : Limits) (ps : List (List ℕ)) (C : Contents) → read_from limits blank nothing 1 ps ≡ Gives C → Pieces C ps
 unfolding rules_of taken_if record_of
-pieces_are limits [] C e = refusal 7 1 C e
+pieces_are limits [] C e = no_gives 7 1 C e
 pieces_are limits (p ∷ rest) C e =
     let l = line-is (header_rules limits (split 9 p)) 1 p rest _ C (rw (first_tag (split 9 p)) at e) in
     let fs = split 9 p in
@@ -391,7 +391,7 @@ canonical limits text s H e = two (allowed limits) e
 
     two : (b : Bool) → cond b (read_from limits blank nothing 1 (split 10 text)) (Refused 2 0) ≡ contents s H → text ≡ written s H
     two true o = by o
-    two false o = refusal 2 0 (record { sheet = s; held = H }) o
+    two false o = no_gives 2 0 (record { sheet = s; held = H }) o
 
 -- A text is accepted exactly when it is the written text of a legal sheet
 pub accepts : (limits : Limits) (text : List ℕ) (s : Sheet) (H : Held) → Accepts limits text s H

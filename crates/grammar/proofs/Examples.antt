@@ -24,7 +24,8 @@ use Rattle.lines.specs.Lines.{rules_of, fields_fault, header_of, channel_of, hol
 use Rattle.contents.specs.Sheets.{lent, held, no_settings, no_channel}
 use Rattle.progress.specs.Progress.{blank, line_tag, exists, taken_if}
 use Rattle.sheet.specs.Reading.{Outcome, Contents, contents, line_fault, read_text}
-use Rattle.sheet.specs.Calls.{Lengths, measuring, reading}
+use Rattle.sheet.specs.declared.Lengths.{Lengths}
+use Rattle.sheet.specs.Calls.{measuring, reading}
 use Rattle.sheet.specs.Reading.Outcome.{Gives, Refused}
 
 -- the bytes of a text

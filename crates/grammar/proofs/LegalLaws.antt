@@ -1,10 +1,11 @@
 -- Every sheet that is read is legal.
+use Rattle.refusal.specs.declared.Refusal.TheVariants as refusal
+use Rattle.std.proofs.Common.{Some, None, Option, Ok, Err}
 use Prim.Native.Nat.{ℕ, zero, suc, ◌+◌, ◌-◌, ◌*◌, ◌/◌, ◌%◌, ◌<◌, ◌≤◌}
 use mathlib.Core.Path.{◌≡◌, refl, sym, ap, ◌∙◌, subst, subst⁻¹}
 use mathlib.Core.List.{List, [], ◌∷◌, ◌++◌}
 use mathlib.Core.Bool.{Bool, true, false, not, cond, ◌&&◌}
 use mathlib.Core.Logic.{⊎_elim}
-use mathlib.Core.Option.{Option, none, some}
 use native.Mathlib.Numerals.{add-one}
 use native.Mathlib.Nat.{mul-div_cancel_left, mul-le-mul_left}
 use native.Mathlib.Omega.{arith}
@@ -29,7 +30,6 @@ use Rattle.contents.specs.declared.Channel.{Channel}
 use Rattle.contents.specs.declared.Sheet.{Sheet}
 use Rattle.lines.specs.declared.Setting.{Setting}
 use Rattle.progress.specs.declared.State.{State}
-use Rattle.progress.specs.declared.Taken.TheVariants as taken
 use Rattle.lines.specs.Lines.{header_rules, channel_rules, mark_rules, mark_of, end_rules, rules_of, first_fault, fields_fault, line_adds, holding, header_of, channel_of, record_of}
 use Rattle.contents.specs.declared.Mark.{Mark}
 use Rattle.contents.specs.Marks.{block_of, among}
@@ -47,14 +47,14 @@ use Rattle.grammar.proofs.BlockLaws.{Block, with_block, BlockSaid, said_block, b
 
 -- Good lines
 
-pub header_is_legal : (limits : Limits) (fs : List (List ℕ)) → length fs ≡ 16 → first_fault (header_rules limits fs) fs ≡ none → LegalHeader limits (header_of fs)
+pub header_is_legal : (limits : Limits) (fs : List (List ℕ)) → length fs ≡ 16 → first_fault (header_rules limits fs) fs ≡ None → LegalHeader limits (header_of fs)
 unfolding header_of number_at weight_at
 header_is_legal limits fs n e =
     record {
       width = side_good (get_or fs 1 []) limits.side (at 1 (omega arith));
       height = side_good (get_or fs 2 []) limits.side (at 2 (omega arith));
-      shown_width = range_good (get_or fs 3 []) 2 1 (number_at fs 1) (at 3 (omega arith));
-      shown_height = range_good (get_or fs 4 []) 2 1 (number_at fs 2) (at 4 (omega arith));
+      shown_width = range_good (get_or fs 3 []) refusal.Size 1 (number_at fs 1) (at 3 (omega arith));
+      shown_height = range_good (get_or fs 4 []) refusal.Size 1 (number_at fs 2) (at 4 (omega arith));
       channels = channels_good (get_or fs 5 []) (at 5 (omega arith));
       iterations0 = (count_good (get_or fs 7 []) limits.iterations (at 7 (omega arith))).2;
       iterations1 = (count_good (get_or fs 8 []) limits.iterations (at 8 (omega arith))).2;
@@ -67,7 +67,7 @@ header_is_legal limits fs n e =
       data2 = weight_good (get_or fs 15 []) (at 15 (omega arith));
     }
   where
-    at : (i : ℕ) → i < 16 → fault_in (field_of (get_or (header_rules limits fs) i (rule.Tag 0)) (get_or fs i [])) ≡ none
+    at : (i : ℕ) → i < 16 → fault_in (field_of (get_or (header_rules limits fs) i (rule.Tag 0)) (get_or fs i [])) ≡ None
     at i h = fault_at (header_rules limits fs) fs i e h (omega arith)
 
 pub allowed_is : (limits : Limits) → allowed limits ≡ true → LegalLimits limits
@@ -82,7 +82,7 @@ own-side a f m h k = omega (arith, mul-le-mul_left a h)
 own_legal : (m a n : ℕ) → LegalSide m a → a ≤ n → LegalSide n a
 own_legal m a n l h = record { whole = l.whole; low = l.low; top = h }
 
-pub channel_is_legal : (h : Header) (fs : List (List ℕ)) → length fs ≡ 69 → first_fault channel_rules fs ≡ none → covers h (channel_of fs) ≡ true → LegalChannel h (channel_of fs)
+pub channel_is_legal : (h : Header) (fs : List (List ℕ)) → length fs ≡ 69 → first_fault channel_rules fs ≡ None → covers h (channel_of fs) ≡ true → LegalChannel h (channel_of fs)
 unfolding channel_of number_at
 channel_is_legal h fs n e v =
     let c = channel_of fs in
@@ -90,8 +90,8 @@ channel_is_legal h fs n e v =
     let d = leb (c.height * c.down) h.height in
     let wide : c.width * c.across ≤ h.width = leb-true (c.width * c.across) h.width (both_left w d v) in
     let high : c.height * c.down ≤ h.height = leb-true (c.height * c.down) h.height (both_right w d v) in
-    let across : Between 1 4 c.across = range_good (get_or fs 3 []) 3 1 4 (at 3 (omega arith)) in
-    let down : Between 1 4 c.down = range_good (get_or fs 4 []) 3 1 4 (at 4 (omega arith)) in
+    let across : Between 1 4 c.across = range_good (get_or fs 3 []) refusal.Factor 1 4 (at 3 (omega arith)) in
+    let down : Between 1 4 c.down = range_good (get_or fs 4 []) refusal.Factor 1 4 (at 4 (omega arith)) in
     record {
       width = own_legal 999999 c.width h.width (side_good (get_or fs 1 []) 999999 (at 1 (omega arith))) (own-side c.width c.across h.width across.low wide);
       height = own_legal 999999 c.height h.height (side_good (get_or fs 2 []) 999999 (at 2 (omega arith))) (own-side c.height c.down h.height down.low high);
@@ -101,7 +101,7 @@ channel_is_legal h fs n e v =
       high = high;
     }
   where
-    at : (i : ℕ) → i < 69 → fault_in (field_of (get_or channel_rules i (rule.Tag 0)) (get_or fs i [])) ≡ none
+    at : (i : ℕ) → i < 69 → fault_in (field_of (get_or channel_rules i (rule.Tag 0)) (get_or fs i [])) ≡ None
     at i k = fault_at channel_rules fs i e k (omega arith)
 
 more_quantisers : (xs ys : List ℕ) → LegalQuantisers xs → LegalQuantisers ys → LegalQuantisers (xs ++ ys)
@@ -166,24 +166,24 @@ blocks w h p q =
 
 pub record Line (rs : List Rule) (fs : List (List ℕ)) (X T : Outcome Contents) : Type 0 where
   pub count : length fs ≡ length rs
-  pub fault : first_fault rs fs ≡ none
+  pub fault : first_fault rs fs ≡ None
   pub more : X ≡ T
 
-pub fields_count : (a b : ℕ) (m : Option ℕ) → cond (eqb a b) m (some 1) ≡ none → (a ≡ b) × (m ≡ none)
+pub fields_count : (a b : ℕ) (m : Option ℕ) → cond (eqb a b) m (Some 1) ≡ None → (a ≡ b) × (m ≡ None)
 fields_count a b m e = two (eqb a b) refl e
   where
-    two : (t : Bool) → eqb a b ≡ t → cond t m (some 1) ≡ none → (a ≡ b) × (m ≡ none)
+    two : (t : Bool) → eqb a b ≡ t → cond t m (Some 1) ≡ None → (a ≡ b) × (m ≡ None)
     two true p o = (eqb-true a b p, o)
     two false p o = let z : ◌≡◌ {A = ℕ} 0 1 = cc in let y : ⊥ = omega arith in absurd y
 
-pub line_fields : (u v : Bool) (m : Option ℕ) → cond u (some 1) (cond v (some 7) m) ≡ none → m ≡ none
+pub line_fields : (u v : Bool) (m : Option ℕ) → cond u (Some 1) (cond v (Some 7) m) ≡ None → m ≡ None
 line_fields true v m e = let z : ◌≡◌ {A = ℕ} 0 1 = cc in let y : ⊥ = omega arith in absurd y
 line_fields false true m e = let z : ◌≡◌ {A = ℕ} 0 1 = cc in let y : ⊥ = omega arith in absurd y
 line_fields false false m e = e
 
-no_fault : (m : Option ℕ) (k : ℕ) (X : Outcome Contents) (c : Contents) → on_fault m k X ≡ Gives c → (m ≡ none) × (X ≡ Gives c)
-no_fault none k X c e = (refl, e)
-no_fault (some j) k X c e = let z : ◌≡◌ {A = ℕ} 0 1 = cc in let y : ⊥ = omega arith in absurd y
+no_fault : (m : Option ℕ) (k : ℕ) (X : Outcome Contents) (c : Contents) → on_fault m k X ≡ Gives c → (m ≡ None) × (X ≡ Gives c)
+no_fault None k X c e = (refl, e)
+no_fault (Some j) k X c e = let z : ◌≡◌ {A = ℕ} 0 1 = cc in let y : ⊥ = omega arith in absurd y
 
 pub line-is : (rs : List Rule) (k : ℕ) (p : List ℕ) (rest : List (List ℕ)) (X : Outcome Contents) (c : Contents)
     → on_fault (line_fault rs p rest) k X ≡ Gives c → Line rs (split 9 p) X (Gives c)
@@ -284,8 +284,8 @@ mark_read limits s H k p rest C g e =
     m : Mark
     m = mark_of (split 9 p)
 
-    by : (x y : Bool) → exists s.sheet m ≡ x → among (block_of s.sheet m) H.marks ≡ y → length (split 9 p) ≡ 4 → first_fault mark_rules (split 9 p) ≡ none
-        → on_taken (cond (x && not y) (taken.Good s) (taken.Bad 18)) k (λ t. read_from limits t (with_mark H (marked m (block_of s.sheet m))) (k + 1) rest) ≡ Gives C → MarkRead limits s H k p rest C
+    by : (x y : Bool) → exists s.sheet m ≡ x → among (block_of s.sheet m) H.marks ≡ y → length (split 9 p) ≡ 4 → first_fault mark_rules (split 9 p) ≡ None
+        → on_taken (cond (x && not y) (Ok s) (Err refusal.Mark)) k (λ t. read_from limits t (with_mark H (marked m (block_of s.sheet m))) (k + 1) rest) ≡ Gives C → MarkRead limits s H k p rest C
     by true false q r n f o = record { m = m; row = row_as p (mark_fields m) (mark_as (split 9 p) n f); has = q; once = r; more = o }
     by true true q r n f o = let z : ◌≡◌ {A = ℕ} 0 1 = cc in let y : ⊥ = omega arith in absurd y
     by false y q r n f o = let z : ◌≡◌ {A = ℕ} 0 1 = cc in let y : ⊥ = omega arith in absurd y
@@ -407,8 +407,8 @@ module _ (limits : Limits) (most : LegalLimits limits) (p : List ℕ) (rest : Li
         qs : List ℕ
         qs = line_adds tables_in (replicate 64 rule.Quantiser) (drop 5 fs)
 
-        covered : (x : Bool) → covers s.sheet.header c ≡ x → length fs ≡ 69 → first_fault channel_rules fs ≡ none
-            → on_taken (cond x (taken.Good (opened s c)) (taken.Bad 2)) k (λ t. read_from limits t (with_table H qs) (k + 1) rest) ≡ Gives C
+        covered : (x : Bool) → covers s.sheet.header c ≡ x → length fs ≡ 69 → first_fault channel_rules fs ≡ None
+            → on_taken (cond x (Ok (opened s c)) (Err refusal.Size)) k (λ t. read_from limits t (with_table H qs) (k + 1) rest) ≡ Gives C
             → LegalContents limits C
         covered false i n f o = let z : ◌≡◌ {A = ℕ} 0 1 = cc in let y : ⊥ = omega arith in absurd y
         covered true i n f o =
@@ -521,12 +521,12 @@ module _ (limits : Limits) (most : LegalLimits limits) (p : List ℕ) (rest : Li
         by (End-line q u v g) = end-line u v g e
         by (Mark-line q u v g) = mark_line u v g e
 
-pub refusal : (k j : ℕ) (C : Contents) {A : Type 0} → Refused k j ≡ Gives C → A
-refusal k j C e = let z : ◌≡◌ {A = ℕ} 0 1 = cc in let y : ⊥ = omega arith in absurd y
+pub no_gives : (k j : ℕ) (C : Contents) {A : Type 0} → Refused k j ≡ Gives C → A
+no_gives k j C e = let z : ◌≡◌ {A = ℕ} 0 1 = cc in let y : ⊥ = omega arith in absurd y
 
 legal_from : (limits : Limits) → LegalLimits limits → (ps : List (List ℕ)) (C : Contents) (s : State) (H : Held) (k : ℕ)
     → Begun limits s H → read_from limits s H k ps ≡ Gives C → LegalContents limits C
-legal_from limits m [] C s H k b e = refusal 7 k C e
+legal_from limits m [] C s H k b e = no_gives 7 k C e
 legal_from limits m (p ∷ rest) C s H k b e = any_line limits m p rest C (legal_from limits m rest C) s H k b e
 
 both_legal : (limits : Limits) (text : List ℕ) (s : Sheet) (H : Held) → read_text limits text ≡ contents s H → LegalSheet limits s H.lent × LegalBlocks H × LegalMarks s [] H.marks
@@ -537,12 +537,12 @@ both_legal limits text s H e = two (allowed limits) refl e
     C = record { sheet = s; held = H }
 
     by : LegalLimits limits → (ps : List (List ℕ)) → read_from limits blank nothing 1 ps ≡ Gives C → LegalContents limits C
-    by m [] o = refusal 7 1 C o
+    by m [] o = no_gives 7 1 C o
     by m (p ∷ rest) o = first_line limits m p rest C (legal_from limits m rest C) 1 o
 
     two : (b : Bool) → allowed limits ≡ b → cond b (read_from limits blank nothing 1 (split 10 text)) (Refused 2 0) ≡ Gives C → LegalContents limits C
     two true p o = by (allowed_is limits p) (split 10 text) o
-    two false p o = refusal 2 0 C o
+    two false p o = no_gives 2 0 C o
 
 -- Every sheet that is read is legal, and so are the kinds of its blocks
 pub legal : (limits : Limits) (text : List ℕ) (s : Sheet) (H : Held) → read_text limits text ≡ contents s H → LegalSheet limits s H.lent

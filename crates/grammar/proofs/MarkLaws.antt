@@ -1,10 +1,11 @@
 -- The lines of marks: each marks a block of the sheet, and none a block that is marked.
+use Rattle.refusal.specs.declared.Refusal.TheVariants as refusal
+use Rattle.std.proofs.Common.{None}
 use Prim.Native.Nat.{ℕ, zero, suc, ◌+◌, ◌*◌, ◌/◌, ◌<◌, ◌≤◌}
 use mathlib.Core.Path.{◌≡◌, refl, sym, ap, ◌∙◌, subst⁻¹}
 use mathlib.Core.List.{List, [], ◌∷◌, ◌++◌, append-nil, append_assoc}
 use mathlib.Core.Bool.{Bool, true, false, cond, ◌&&◌, ◌||◌}
 use mathlib.Core.Logic.{◌⊎◌, inl, inr}
-use mathlib.Core.Option.{none}
 use native.Mathlib.Nat.{mul-le-mul}
 use native.Mathlib.Omega.{arith}
 use lib.Dec.{eqb, ltb}
@@ -39,15 +40,15 @@ abbrev pub with_mark : Held → Marked → Held
 with_mark H m = held H.lent H.ranged (H.marks ++ m ∷ [])
 
 -- a good line is written so, and adds its mark alone
-pub mark_as : (fs : List (List ℕ)) → length fs ≡ 4 → first_fault mark_rules fs ≡ none → mark_fields (mark_of fs) ≡ fs
+pub mark_as : (fs : List (List ℕ)) → length fs ≡ 4 → first_fault mark_rules fs ≡ None → mark_fields (mark_of fs) ≡ fs
 unfolding mark_of number_at
 mark_as fs n e =
     field_at fs 0 _ _ (omega arith) (tag_as (get_or fs 0 []) 78 (at 0 (omega arith)))
-    (field_at fs 1 _ _ (omega arith) (range_as (get_or fs 1 []) 1 0 999999 (at 1 (omega arith)))
-    (field_at fs 2 _ _ (omega arith) (range_as (get_or fs 2 []) 1 0 999999 (at 2 (omega arith)))
-    (field_at fs 3 _ _ (omega arith) (range_as (get_or fs 3 []) 1 0 999999 (at 3 (omega arith))) (no_more fs 4 (omega arith)))))
+    (field_at fs 1 _ _ (omega arith) (range_as (get_or fs 1 []) refusal.Form 0 999999 (at 1 (omega arith)))
+    (field_at fs 2 _ _ (omega arith) (range_as (get_or fs 2 []) refusal.Form 0 999999 (at 2 (omega arith)))
+    (field_at fs 3 _ _ (omega arith) (range_as (get_or fs 3 []) refusal.Form 0 999999 (at 3 (omega arith))) (no_more fs 4 (omega arith)))))
   where
-    at : (i : ℕ) → i < 4 → fault_in (field_of (get_or mark_rules i (rule.Tag 0)) (get_or fs i [])) ≡ none
+    at : (i : ℕ) → i < 4 → fault_in (field_of (get_or mark_rules i (rule.Tag 0)) (get_or fs i [])) ≡ None
     at i h = fault_at mark_rules fs i e h (omega arith)
 
 pub holds_mark : (H : Held) (s : Sheet) (fs : List (List ℕ)) → holding H s 78 mark_rules fs ≡ with_mark H (marked (mark_of fs) (block_of s (mark_of fs)))

@@ -1,10 +1,12 @@
 -- The limit of iterations: it speaks in the header's line alone, and there by 15.
+use Rattle.refusal.specs.declared.Refusal.{Refusal}
+use Rattle.std.proofs.Common.{Some, None, Ok, Err, Option, Result}
+use Rattle.refusal.specs.declared.Refusal.TheVariants as refusal
 use Prim.Native.Nat.{ℕ, ◌+◌, ◌≤◌}
 use mathlib.Core.Path.{◌≡◌, refl, sym, ap, ◌∙◌}
 use mathlib.Core.List.{List, [], ◌∷◌, ◌++◌}
 use mathlib.Core.Bool.{Bool, true, false, not, cond, ◌&&◌}
 use mathlib.Core.Logic.{◌⊎◌, inl, inr}
-use mathlib.Core.Option.{Option, none, some}
 use native.Mathlib.Nat.{le_trans}
 use lib.ListN.{length, replicate}
 use lib.Dec.{eqb, leb, ltb}
@@ -12,8 +14,6 @@ use borrow.Author.Tests.{leb-true, le-leb}
 use Rattle.text.specs.declared.field.Rule.{Rule}
 use Rattle.text.specs.declared.field.Rule.TheVariants as rule
 use Rattle.text.specs.declared.field.Field.TheVariants as field
-use Rattle.text.specs.declared.number.Number.{Number}
-use Rattle.text.specs.declared.number.Number.TheVariants as number
 use Rattle.text.specs.Pieces.{split}
 use Rattle.text.specs.Numbers.{number_of, number_at}
 use Rattle.text.specs.Fields.{is_side, count_field, field_of, fault_in}
@@ -24,8 +24,6 @@ use Rattle.contents.specs.Marks.{block_of, among}
 use Rattle.lines.specs.declared.Record.{Record}
 use Rattle.lines.specs.declared.Record.TheVariants as line
 use Rattle.progress.specs.declared.State.{State}
-use Rattle.progress.specs.declared.Taken.{Taken}
-use Rattle.progress.specs.declared.Taken.TheVariants as taken
 use Rattle.lines.specs.Lines.{mode, header_rules, rules_of, or_else, first_fault, fields_fault, holding, header_of, record_of}
 use Rattle.progress.specs.Progress.{headed, blank, line_tag, opened, covers, exists, taken_if}
 use Rattle.sheet.specs.Reading.{Outcome, Contents, contents, taken_of, is_last, line_fault, nothing_left, on_fault, on_taken, read_from, allowed, read_text}
@@ -36,7 +34,7 @@ use Rattle.progress.proofs.StateLaws.Stands.{Header-line, Setting-line, Block-li
 use Rattle.progress.proofs.StateLaws.SettingTag.{F-tag, A-tag, H-tag}
 use Rattle.progress.proofs.StateLaws.BlockTag.{B-tag, G-tag}
 use Rattle.lines.proofs.GoodLines.{holds_none}
-use Rattle.grammar.proofs.LegalLaws.{line-is, refusal}
+use Rattle.grammar.proofs.LegalLaws.{line-is, no_gives}
 
 -- After the header
 
@@ -54,29 +52,29 @@ rules_later one other s fs b tag (End-line p l r o) = rw o
 rules_later one other s fs b tag (Mark-line p l r o) = rw o
 
 -- a header stays read
-abbrev begun_in : Taken → Bool
-begun_in (taken.Good t) = t.begun
-begun_in (taken.Bad k) = true
+abbrev begun_in : Result State Refusal → Bool
+begun_in (Ok t) = t.begun
+begun_in (Err k) = true
 
 begun_kept : (s : State) (ms : List Marked) (r : Record) → s.begun ≡ true → begun_in (taken_of s ms r) ≡ true
 unfolding taken_if
 begun_kept s ms (line.Header h) b = refl
 begun_kept s ms (line.Channel c) b = two (covers s.sheet.header c)
   where
-    two : (x : Bool) → begun_in (cond x (taken.Good (opened s c)) (taken.Bad 2)) ≡ true
+    two : (x : Bool) → begun_in (cond x (Ok (opened s c)) (Err refusal.Size)) ≡ true
     two true = refl
     two false = refl
 begun_kept s ms (line.Setting x) b = b
 begun_kept s ms line.Block b = b
 begun_kept s ms (line.Mark m) b = two (exists s.sheet m && not (among (block_of s.sheet m) ms))
   where
-    two : (x : Bool) → begun_in (cond x (taken.Good s) (taken.Bad 18)) ≡ true
+    two : (x : Bool) → begun_in (cond x (Ok s) (Err refusal.Mark)) ≡ true
     two true = b
     two false = refl
 
-taken_same : (r : Taken) → begun_in r ≡ true → (k : ℕ) (f g : State → Outcome Contents) → ((t : State) → t.begun ≡ true → f t ≡ g t) → on_taken r k f ≡ on_taken r k g
-taken_same (taken.Good t) b k f g h = h t b
-taken_same (taken.Bad j) b k f g h = refl
+taken_same : (r : Result State Refusal) → begun_in r ≡ true → (k : ℕ) (f g : State → Outcome Contents) → ((t : State) → t.begun ≡ true → f t ≡ g t) → on_taken r k f ≡ on_taken r k g
+taken_same (Ok t) b k f g h = h t b
+taken_same (Err j) b k f g h = refl
 
 after_header : (one other : Limits) (ps : List (List ℕ)) (s : State) (H : Held) (k : ℕ) → s.begun ≡ true → read_from one s H k ps ≡ read_from other s H k ps
 after_header one other [] s H k b = refl
@@ -116,11 +114,11 @@ read_on limits text C e = two (allowed limits) e
   where
     two : (b : Bool) → cond b (read_from limits blank nothing 1 (split 10 text)) (Refused 2 0) ≡ Gives C → read_from limits blank nothing 1 (split 10 text) ≡ Gives C
     two true o = o
-    two false o = refusal 2 0 C o
+    two false o = no_gives 2 0 C o
 
 same_from : (one other : Limits) (ps : List (List ℕ)) (C D : Contents)
     → read_from one blank nothing 1 ps ≡ Gives C → read_from other blank nothing 1 ps ≡ Gives D → Gives C ≡ Gives D
-same_from one other [] C D e f = refusal 7 1 C e
+same_from one other [] C D e f = no_gives 7 1 C e
 same_from one other (p ∷ rest) C D e f =
     let l = line-is (header_rules one (split 9 p)) 1 p rest (read_from one (begin p) nothing 2 rest) C (sym (first_line one p rest) ∙ e) in
     let m = line-is (header_rules other (split 9 p)) 1 p rest (read_from other (begin p) nothing 2 rest) D (sym (first_line other p rest) ∙ f) in
@@ -134,13 +132,13 @@ both_callers one other text =
 
 -- the fault a of a field or line at a limit, and b at a larger one
 abbrev Paged : Option ℕ → Option ℕ → Type 0
-Paged a b = (a ≡ some 15) ⊎ (a ≡ b)
+Paged a b = (a ≡ Some 15) ⊎ (a ≡ b)
 
 or_paged : (a b c d : Option ℕ) → Paged a b → Paged c d → Paged (or_else a c) (or_else b d)
 or_paged a b c d (inl e) h = inl (rw e)
-or_paged none b c d (inr e) (inl f) = inl f
-or_paged none b c d (inr e) (inr f) = inr (rw (← e) f)
-or_paged (some k) b c d (inr e) h = inr (rw (← e))
+or_paged None b c d (inr e) (inl f) = inl f
+or_paged None b c d (inr e) (inr f) = inr (rw (← e) f)
+or_paged (Some k) b c d (inr e) h = inr (rw (← e))
 
 module _ (most more : ℕ) (h : most ≤ more) where
   count_paged : (f : List ℕ) → Paged (fault_in (field_of (rule.Count most) f)) (fault_in (field_of (rule.Count more) f))
@@ -148,14 +146,14 @@ module _ (most more : ℕ) (h : most ≤ more) where
   count_paged f = by (number_of f)
     where
       two : (n : ℕ) (a b : Bool) → leb n 1000 ≡ a → leb n most ≡ b
-          → Paged (fault_in (cond a (cond b field.Good (field.Bad 15)) (field.Bad 2))) (fault_in (cond a (cond (leb n more) field.Good (field.Bad 15)) (field.Bad 2)))
+          → Paged (fault_in (cond a (cond b (Ok field.Good) (Err refusal.Page)) (Err refusal.Size))) (fault_in (cond a (cond (leb n more) (Ok field.Good) (Err refusal.Page)) (Err refusal.Size)))
       two n false b p q = inr refl
       two n true false p q = inl refl
       two n true true p q = inr (rw (le-leb n more (le_trans (leb-true n most q) h)))
 
-      by : (r : Number) → Paged (fault_in (count_field most r)) (fault_in (count_field more r))
-      by (number.Is n) = two n (leb n 1000) (leb n most) refl refl
-      by number.Not = inr refl
+      by : (r : Option ℕ) → Paged (fault_in (count_field most r)) (fault_in (count_field more r))
+      by (Some n) = two n (leb n 1000) (leb n most) refl refl
+      by None = inr refl
 
   count_first : (rs qs : List Rule) → ((fs : List (List ℕ)) → Paged (first_fault rs fs) (first_fault qs fs)) → (fs : List (List ℕ))
       → Paged (first_fault (rule.Count most ∷ rs) fs) (first_fault (rule.Count more ∷ qs) fs)
@@ -174,7 +172,7 @@ header_paged limits most h fs =
     let weights = replicate 6 rule.Weight in
     let a = rule.Count limits.iterations in
     let b = rule.Count most in
-    same_first (rule.Tag 83 ∷ side ∷ side ∷ rule.Range 2 1 (number_at fs 1) ∷ rule.Range 2 1 (number_at fs 2) ∷ rule.Channels ∷ mode ∷ []) (a ∷ a ∷ a ∷ weights) (b ∷ b ∷ b ∷ weights)
+    same_first (rule.Tag 83 ∷ side ∷ side ∷ rule.Range refusal.Size 1 (number_at fs 1) ∷ rule.Range refusal.Size 1 (number_at fs 2) ∷ rule.Channels ∷ mode ∷ []) (a ∷ a ∷ a ∷ weights) (b ∷ b ∷ b ∷ weights)
     (count_first limits.iterations most h (a ∷ a ∷ weights) (b ∷ b ∷ weights)
     (count_first limits.iterations most h (a ∷ weights) (b ∷ weights)
     (count_first limits.iterations most h weights weights (λ fs. inr refl))))
@@ -191,7 +189,7 @@ line_paged limits most h p rest = by (ltb 1024 (length p)) (is_last rest) (eqb (
     b : Option ℕ
     b = first_fault (header_rules (raised_to limits most) (split 9 p)) (split 9 p)
 
-    by : (u v w : Bool) → Paged (cond u (some 1) (cond v (some 7) (cond w a (some 1)))) (cond u (some 1) (cond v (some 7) (cond w b (some 1))))
+    by : (u v w : Bool) → Paged (cond u (Some 1) (cond v (Some 7) (cond w a (Some 1)))) (cond u (Some 1) (cond v (Some 7) (cond w b (Some 1))))
     by true v w = inr refl
     by false true w = inr refl
     by false false false = inr refl
@@ -240,7 +238,7 @@ raised limits most text b =
     B = read_text (raised_to limits most) text
 
     given : (c : Contents) → A ≡ Gives c → (A ≡ Refused 15 1) ⊎ (A ≡ B) → B ≡ Gives c
-    given c e (inl f) = refusal 15 1 c (sym f ∙ e)
+    given c e (inl f) = no_gives 15 1 c (sym f ∙ e)
     given c e (inr f) = sym f ∙ e
 
     other : (n line : ℕ) → (n ≡ 15 → ⊥) → A ≡ Refused n line → (A ≡ Refused 15 1) ⊎ (A ≡ B) → B ≡ Refused n line

@@ -1,10 +1,13 @@
 -- The first bytes of a text decide it.
+use Rattle.refusal.specs.declared.Refusal.{Refusal}
+use Rattle.refusal.specs.Refusal as table
+use Rattle.std.proofs.Common.{Some, None, Option, Ok, Err, Result}
+use Rattle.refusal.specs.declared.Refusal.TheVariants as refusal
 use Prim.Native.Nat.{ℕ, zero, suc, ◌+◌, ◌-◌, ◌*◌, ◌/◌, ◌<◌, ◌≤◌}
 use mathlib.Core.Path.{◌≡◌, refl, sym, ap, ◌∙◌, subst, subst⁻¹}
 use mathlib.Core.List.{List, [], ◌∷◌, ◌++◌, append-nil}
 use mathlib.Core.Bool.{Bool, true, false, not, cond, ◌&&◌, ◌||◌}
 use mathlib.Core.Logic.{◌⊎◌, inl, inr}
-use mathlib.Core.Option.{Option, none, some}
 use native.Mathlib.Nat.{mul-le-mul, mul-le-mul_right, le_trans, suc-mul}
 use native.Mathlib.Omega.{arith}
 use lib.ListN.{length, get_or, take, drop, replicate, length-drop, length-take, drop_of_length-le}
@@ -29,8 +32,6 @@ use Rattle.contents.specs.Hold.{measured}
 use Rattle.contents.proofs.HoldLaws.{measured_most}
 use Rattle.contents.specs.declared.Settings.{Settings}
 use Rattle.progress.specs.declared.State.{State}
-use Rattle.progress.specs.declared.Taken.{Taken}
-use Rattle.progress.specs.declared.Taken.TheVariants as taken
 use Rattle.lines.specs.Lines.{header_rules, channel_rules, mark_rules, mark_of, marks_in, rules_of, first_fault, fields_fault, holding, header_of, channel_of, record_of}
 use Rattle.contents.specs.declared.Channel.{Channel}
 use Rattle.contents.specs.declared.Mark.{Mark}
@@ -50,15 +51,19 @@ use Rattle.sheet.proofs.WalkLaws.{line_long, split_head, not_last, some_after}
 use Rattle.lines.proofs.GoodLines.{or_left, or_right, fault_at, fault_drop, row_as}
 use Rattle.grammar.proofs.SettingLaws.{place_of, settings_left, said_line, now_said, setting_spent}
 use Rattle.grammar.proofs.BlockLaws.{said_block, block_record, block_bytes}
-use Rattle.grammar.proofs.LegalLaws.{header_is_legal, allowed_is, channel_is_legal, few, fields_count, line_fields, line-is, refusal, with_set, less_block}
+use Rattle.grammar.proofs.LegalLaws.{header_is_legal, allowed_is, channel_is_legal, few, fields_count, line_fields, line-is, no_gives, with_set, less_block}
 
 -- The length of a good line
 
 row-bytes : (p : List ℕ) (ms : List ℕ) → Within (split 9 p) ms → length p + 1 ≤ row_bytes ms
 row-bytes p ms w = subst (λ (x : List ℕ). length x + 1 ≤ row_bytes ms) (joined_split p) (joined_length (split 9 p) ms (split_some 9 p) w)
 
+-- a line that was taken
+abbrev good : State → Result State Refusal
+good s = Ok s
+
 -- 64 fields of one rule
-same_rule : (r : Rule) (m : ℕ) → ((f : List ℕ) → fault_in (field_of r f) ≡ none → length f ≤ m) → (n : ℕ) (fs : List (List ℕ)) → length fs ≡ n → first_fault (replicate n r) fs ≡ none
+same_rule : (r : Rule) (m : ℕ) → ((f : List ℕ) → fault_in (field_of r f) ≡ None → length f ≤ m) → (n : ℕ) (fs : List (List ℕ)) → length fs ≡ n → first_fault (replicate n r) fs ≡ None
     → Within fs (replicate n m)
 same_rule r m short zero [] l e = tt
 same_rule r m short zero (f ∷ fs) l e = let y : ⊥ = omega arith in absurd y
@@ -66,8 +71,8 @@ same_rule r m short (suc n) [] l e = let y : ⊥ = omega arith in absurd y
 same_rule r m short (suc n) (f ∷ fs) l e =
     (short f (or_left (fault_in (field_of r f)) (first_fault (replicate n r) fs) e), same_rule r m short n fs (omega arith) (or_right (fault_in (field_of r f)) (first_fault (replicate n r) fs) e))
 
-four : (f : List ℕ) → fault_in (field_of (rule.Range 3 1 4) f) ≡ none → length f ≤ 1
-four f e = le_trans (range_short f 3 1 4 4 (omega arith) e) (decimal_length 0 4 (omega arith))
+four : (f : List ℕ) → fault_in (field_of (rule.Range refusal.Factor 1 4) f) ≡ None → length f ≤ 1
+four f e = le_trans (range_short f refusal.Factor 1 4 4 (omega arith) e) (decimal_length 0 4 (omega arith))
 
 -- field i, and those after it
 within_at : (fs : List (List ℕ)) (i m : ℕ) (ms : List ℕ) → i < length fs → length (get_or fs i []) ≤ m → Within (drop (suc i) fs) ms → Within (drop i fs) (m ∷ ms)
@@ -80,15 +85,15 @@ module _ (limits : Limits) (most : LegalLimits limits) where
   d : ℕ
   d = length (decimal limits.side)
 
-  header_within : (fs : List (List ℕ)) → length fs ≡ 16 → first_fault (header_rules limits fs) fs ≡ none → Within fs (header_sizes d)
+  header_within : (fs : List (List ℕ)) → length fs ≡ 16 → first_fault (header_rules limits fs) fs ≡ None → Within fs (header_sizes d)
   unfolding header_of number_at d
   header_within fs n e =
       let l = header_is_legal limits fs n e in
       within_at fs 0 1 _ (omega arith) (tag_short (get_or fs 0 []) 83 (at 0 (omega arith)))
       (within_at fs 1 d _ (omega arith) (side_short (get_or fs 1 []) limits.side limits.side l.width.top (at 1 (omega arith)))
       (within_at fs 2 d _ (omega arith) (side_short (get_or fs 2 []) limits.side limits.side l.height.top (at 2 (omega arith)))
-      (within_at fs 3 d _ (omega arith) (range_short (get_or fs 3 []) 2 1 (number_at fs 1) limits.side l.width.top (at 3 (omega arith)))
-      (within_at fs 4 d _ (omega arith) (range_short (get_or fs 4 []) 2 1 (number_at fs 2) limits.side l.height.top (at 4 (omega arith)))
+      (within_at fs 3 d _ (omega arith) (range_short (get_or fs 3 []) refusal.Size 1 (number_at fs 1) limits.side l.width.top (at 3 (omega arith)))
+      (within_at fs 4 d _ (omega arith) (range_short (get_or fs 4 []) refusal.Size 1 (number_at fs 2) limits.side l.height.top (at 4 (omega arith)))
       (within_at fs 5 1 _ (omega arith) (channels_short (get_or fs 5 []) (at 5 (omega arith)))
       (within_at fs 6 1 _ (omega arith) (letters_short (get_or fs 6 []) 106 115 (at 6 (omega arith)))
       (within_at fs 7 4 _ (omega arith) (count_short (get_or fs 7 []) limits.iterations (at 7 (omega arith)))
@@ -101,10 +106,10 @@ module _ (limits : Limits) (most : LegalLimits limits) where
       (within_at fs 14 9 _ (omega arith) (weight_short (get_or fs 14 []) (at 14 (omega arith)))
       (within_at fs 15 9 _ (omega arith) (weight_short (get_or fs 15 []) (at 15 (omega arith))) (within_end fs 16 (omega arith)))))))))))))))))
     where
-      at : (i : ℕ) → i < 16 → fault_in (field_of (get_or (header_rules limits fs) i (rule.Tag 0)) (get_or fs i [])) ≡ none
+      at : (i : ℕ) → i < 16 → fault_in (field_of (get_or (header_rules limits fs) i (rule.Tag 0)) (get_or fs i [])) ≡ None
       at i h = fault_at (header_rules limits fs) fs i e h (omega arith)
 
-  channel_within : (fs : List (List ℕ)) → length fs ≡ 69 → first_fault channel_rules fs ≡ none → (channel_of fs).width ≤ limits.side → (channel_of fs).height ≤ limits.side → Within fs (channel_sizes d)
+  channel_within : (fs : List (List ℕ)) → length fs ≡ 69 → first_fault channel_rules fs ≡ None → (channel_of fs).width ≤ limits.side → (channel_of fs).height ≤ limits.side → Within fs (channel_sizes d)
   unfolding channel_of number_at d
   channel_within fs n e w v =
       within_at fs 0 1 _ (omega arith) (tag_short (get_or fs 0 []) 67 (at 0 (omega arith)))
@@ -114,7 +119,7 @@ module _ (limits : Limits) (most : LegalLimits limits) where
       (within_at fs 4 1 _ (omega arith) (four (get_or fs 4 []) (at 4 (omega arith)))
       (same_rule rule.Quantiser 3 (λ g q. quantiser_short g q) 64 (drop 5 fs) (length-drop 5 fs ∙ omega arith) (fault_drop 5 channel_rules fs e))))))
     where
-      at : (i : ℕ) → i < 69 → fault_in (field_of (get_or channel_rules i (rule.Tag 0)) (get_or fs i [])) ≡ none
+      at : (i : ℕ) → i < 69 → fault_in (field_of (get_or channel_rules i (rule.Tag 0)) (get_or fs i [])) ≡ None
       at i h = fault_at channel_rules fs i e h (omega arith)
 
 -- What is left of a legal text, at most
@@ -171,10 +176,10 @@ record Spent (limits : Limits) (s : State) (ms : List Marked) (p : List ℕ) (t 
   stage : On limits t
   bytes : length p + 1 + room limits t ns ≤ room limits s ms
 
-good_inj : (s t : State) → taken.Good s ≡ taken.Good t → s ≡ t
+good_inj : (s t : State) → ◌≡◌ {A = Result State Refusal} (Ok s) (Ok t) → s ≡ t
 good_inj s t e = cc
 
-bad_good : {k : ℕ} {t : State} {A : Type 0} → taken.Bad k ≡ taken.Good t → A
+bad_good : {k : Refusal} {t : State} {A : Type 0} → Err k ≡ Ok t → A
 bad_good e = let z : ◌≡◌ {A = ℕ} 0 1 = cc in let y : ⊥ = omega arith in absurd y
 
 no_setting_mark : (i g : ℕ) → SettingTag i g → eqb g 78 ≡ false
@@ -187,8 +192,8 @@ no_block_mark r g (B-tag q t) = rw t
 no_block_mark r g (G-tag q t) = rw t
 
 module _ (limits : Limits) (most : LegalLimits limits) (p : List ℕ) where
-  spent_header : (t : State) → length (split 9 p) ≡ 16 → first_fault (header_rules limits (split 9 p)) (split 9 p) ≡ none
-      → taken.Good (record { begun = true; sheet = headed (header_of (split 9 p)); read = 0; left = 0 }) ≡ taken.Good t → (ms : List Marked) → Spent limits blank ms p t ms
+  spent_header : (t : State) → length (split 9 p) ≡ 16 → first_fault (header_rules limits (split 9 p)) (split 9 p) ≡ None
+      → good (record { begun = true; sheet = headed (header_of (split 9 p)); read = 0; left = 0 }) ≡ Ok t → (ms : List Marked) → Spent limits blank ms p t ms
   unfolding blank longest d
   spent_header t n e o ms =
       let fs = split 9 p in
@@ -206,11 +211,11 @@ module _ (limits : Limits) (most : LegalLimits limits) (p : List ℕ) where
 
   module _ (s : State) (ms : List Marked) (b : On limits s) where
     spent_block : (t : State) (r : Bool) (g : ℕ) → BlockTag r g → length (split 9 p) ≡ length (rules_of g limits s.sheet.header (split 9 p))
-        → first_fault (rules_of g limits s.sheet.header (split 9 p)) (split 9 p) ≡ none → 0 < s.left → taken_of s ms (record_of g (split 9 p)) ≡ taken.Good t → Spent limits s ms p t ms
+        → first_fault (rules_of g limits s.sheet.header (split 9 p)) (split 9 p) ≡ None → 0 < s.left → taken_of s ms (record_of g (split 9 p)) ≡ Ok t → Spent limits s ms p t ms
     unfolding taken_if
     spent_block t r g q n e h o =
         let w = said_block r g limits s.sheet.header p q n e in
-        let z : taken.Good (less_block s) ≡ taken.Good t = rw (block_record r g (split 9 p) q) at o in
+        let z : good (less_block s) ≡ Ok t = rw (block_record r g (split 9 p) q) at o in
         subst (λ (x : State). Spent limits s ms p x ms) (good_inj _ t z)
         (record {
           stage = record { begun = b.begun; wide = b.wide; high = b.high; few = b.few; counts = b.counts; first = b.first; second = b.second; third = b.third };
@@ -218,24 +223,24 @@ module _ (limits : Limits) (most : LegalLimits limits) (p : List ℕ) where
         })
 
     spent_setting : (t : State) (i g : ℕ) → may_stand i s ≡ true → SettingTag i g → length (split 9 p) ≡ length (rules_of g limits s.sheet.header (split 9 p))
-        → first_fault (rules_of g limits s.sheet.header (split 9 p)) (split 9 p) ≡ none → taken_of s ms (record_of g (split 9 p)) ≡ taken.Good t → Spent limits s ms p t ms
+        → first_fault (rules_of g limits s.sheet.header (split 9 p)) (split 9 p) ≡ None → taken_of s ms (record_of g (split 9 p)) ≡ Ok t → Spent limits s ms p t ms
     unfolding taken_if
     spent_setting t i g m q n e o =
         let w = said_line i g limits s.sheet.header p q n e in
         let x : Settings = s.sheet.settings in
         let r = both_right s.begun (eqb s.read 0 && ltb (last_said x) i) m in
         let h : last_said x < place_of w.x = omega (arith, ltb-true (last_said x) i (both_right (eqb s.read 0) (ltb (last_said x) i) r), w.place) in
-        let z : taken.Good (with_set s w.x) ≡ taken.Good t = rw w.says at o in
+        let z : good (with_set s w.x) ≡ Ok t = rw w.says at o in
         subst (λ (x : State). Spent limits s ms p x ms) (good_inj _ t z)
         (record {
           stage = record { begun = b.begun; wide = b.wide; high = b.high; few = b.few; counts = b.counts; first = b.first; second = b.second; third = b.third };
           bytes =
-              rw (b.begun, both_left (eqb s.read 0) (ltb (last_said x) i) r, now_said x w.x p h w.row)
+              rw (b.begun, both_left (eqb s.read 0) (ltb (last_said x) i) r, now_said x w.x h)
               (omega (arith, setting_spent s.sheet.header b.counts w.x w.legal p (last_said x) h w.row));
         })
 
-    spent_channel : (t : State) → length (split 9 p) ≡ 69 → first_fault channel_rules (split 9 p) ≡ none → s.left ≤ 0 → s.read < s.sheet.header.channels
-        → covers s.sheet.header (channel_of (split 9 p)) ≡ true → taken.Good (opened s (channel_of (split 9 p))) ≡ taken.Good t → Spent limits s ms p t ms
+    spent_channel : (t : State) → length (split 9 p) ≡ 69 → first_fault channel_rules (split 9 p) ≡ None → s.left ≤ 0 → s.read < s.sheet.header.channels
+        → covers s.sheet.header (channel_of (split 9 p)) ≡ true → good (opened s (channel_of (split 9 p))) ≡ Ok t → Spent limits s ms p t ms
     unfolding d
     spent_channel t n e z h v o =
         let fs = split 9 p in
@@ -274,15 +279,15 @@ module _ (limits : Limits) (most : LegalLimits limits) (p : List ℕ) where
     none_marked : (t : State) (g : ℕ) → eqb g 78 ≡ false → Spent limits s ms p t ms → Spent limits s ms p t (ms ++ marks_in s.sheet g (split 9 p))
     none_marked t g e l = rw (e, append-nil ms) l
 
-    spent_mark : s.left ≤ 0 → s.sheet.header.channels ≤ s.read → (t : State) → length (split 9 p) ≡ 4 → first_fault mark_rules (split 9 p) ≡ none
-        → cond (exists s.sheet (mark_of (split 9 p)) && not (among (block_of s.sheet (mark_of (split 9 p))) ms)) (taken.Good s) (taken.Bad 18) ≡ taken.Good t
+    spent_mark : s.left ≤ 0 → s.sheet.header.channels ≤ s.read → (t : State) → length (split 9 p) ≡ 4 → first_fault mark_rules (split 9 p) ≡ None
+        → cond (exists s.sheet (mark_of (split 9 p)) && not (among (block_of s.sheet (mark_of (split 9 p))) ms)) (good s) (Err refusal.Mark) ≡ Ok t
         → Spent limits s ms p t (ms ++ marked (mark_of (split 9 p)) (block_of s.sheet (mark_of (split 9 p))) ∷ [])
     spent_mark l v t n e o = by (exists s.sheet m) (among (block_of s.sheet m) ms) refl refl o
       where
         m : Mark
         m = mark_of (split 9 p)
 
-        by : (x y : Bool) → exists s.sheet m ≡ x → among (block_of s.sheet m) ms ≡ y → cond (x && not y) (taken.Good s) (taken.Bad 18) ≡ taken.Good t
+        by : (x y : Bool) → exists s.sheet m ≡ x → among (block_of s.sheet m) ms ≡ y → cond (x && not y) (good s) (Err refusal.Mark) ≡ Ok t
             → Spent limits s ms p t (ms ++ marked m (block_of s.sheet m) ∷ [])
         by true true q r w = bad_good w
         by false y q r w = bad_good w
@@ -303,7 +308,7 @@ module _ (limits : Limits) (most : LegalLimits limits) (p : List ℕ) where
 
     -- by the line that may stand
     spent_on : (t : State) (g : ℕ) → Stands s g → (g ≡ 69 → ⊥) → length (split 9 p) ≡ length (rules_of g limits s.sheet.header (split 9 p))
-        → first_fault (rules_of g limits s.sheet.header (split 9 p)) (split 9 p) ≡ none → taken_of s ms (record_of g (split 9 p)) ≡ taken.Good t
+        → first_fault (rules_of g limits s.sheet.header (split 9 p)) (split 9 p) ≡ None → taken_of s ms (record_of g (split 9 p)) ≡ Ok t
         → Spent limits s ms p t (ms ++ marks_in s.sheet g (split 9 p))
     unfolding rules_of record_of taken_if
     spent_on t g (Header-line q r) x n e o = unbegun s b.begun q
@@ -311,8 +316,8 @@ module _ (limits : Limits) (most : LegalLimits limits) (p : List ℕ) where
     spent_on t g (Block-line r q l y) x n e o = none_marked t g (no_block_mark r g y) (spent_block t r g y n e l o)
     spent_on t g (Channel-line q l c r) x n e o = none_marked t g (rw r) (covering (covers s.sheet.header (channel_of (split 9 p))) refl (rw r at n) (rw r at e) l c (rw r at o))
       where
-        covering : (c : Bool) → covers s.sheet.header (channel_of (split 9 p)) ≡ c → length (split 9 p) ≡ 69 → first_fault channel_rules (split 9 p) ≡ none
-            → s.left ≤ 0 → s.read < s.sheet.header.channels → cond c (taken.Good (opened s (channel_of (split 9 p)))) (taken.Bad 2) ≡ taken.Good t → Spent limits s ms p t ms
+        covering : (c : Bool) → covers s.sheet.header (channel_of (split 9 p)) ≡ c → length (split 9 p) ≡ 69 → first_fault channel_rules (split 9 p) ≡ None
+            → s.left ≤ 0 → s.read < s.sheet.header.channels → cond c (good (opened s (channel_of (split 9 p)))) (Err refusal.Size) ≡ Ok t → Spent limits s ms p t ms
         covering true v m f i j w = spent_channel t m f i j v w
         covering false v m f i j w = bad_good w
     spent_on t g (End-line q l c r) x n e o = absurd (x r)
@@ -320,8 +325,8 @@ module _ (limits : Limits) (most : LegalLimits limits) (p : List ℕ) where
 
   abbrev Spends : State → List Marked → State → Type 0
   Spends s ms t =
-      length (split 9 p) ≡ length (rules_of (line_tag s (split 9 p)) limits s.sheet.header (split 9 p)) → first_fault (rules_of (line_tag s (split 9 p)) limits s.sheet.header (split 9 p)) (split 9 p) ≡ none
-      → taken_of s ms (record_of (line_tag s (split 9 p)) (split 9 p)) ≡ taken.Good t → Spent limits s ms p t (ms ++ marks_in s.sheet (line_tag s (split 9 p)) (split 9 p))
+      length (split 9 p) ≡ length (rules_of (line_tag s (split 9 p)) limits s.sheet.header (split 9 p)) → first_fault (rules_of (line_tag s (split 9 p)) limits s.sheet.header (split 9 p)) (split 9 p) ≡ None
+      → taken_of s ms (record_of (line_tag s (split 9 p)) (split 9 p)) ≡ Ok t → Spent limits s ms p t (ms ++ marks_in s.sheet (line_tag s (split 9 p)) (split 9 p))
 
   spent_first : (ms : List Marked) (t : State) → Spends blank ms t
   unfolding rules_of record_of taken_if
@@ -334,7 +339,7 @@ module _ (limits : Limits) (most : LegalLimits limits) (p : List ℕ) where
 
 -- Two texts with the same first line
 
-good_line : (rs : List Rule) (p : List ℕ) (rest : List (List ℕ)) → line_fault rs p rest ≡ none → (length (split 9 p) ≡ length rs) × (first_fault rs (split 9 p) ≡ none)
+good_line : (rs : List Rule) (p : List ℕ) (rest : List (List ℕ)) → line_fault rs p rest ≡ None → (length (split 9 p) ≡ length rs) × (first_fault rs (split 9 p) ≡ None)
 unfolding line_fault fields_fault
 good_line rs p rest e =
     fields_count (length (split 9 p)) (length rs) (first_fault rs (split 9 p)) (line_fields (ltb 1024 (length p)) (is_last rest) (fields_fault rs (split 9 p)) e)
@@ -345,7 +350,7 @@ same_fault rs p rest more e = rw e
 
 module _ (limits : Limits) (s : State) (H : Held) (k : ℕ) (p : List ℕ) (rest more : List (List ℕ)) where
   same_line : is_last rest ≡ is_last more → nothing_left rest ≡ nothing_left more
-      → (line_fault (rules_of (line_tag s (split 9 p)) limits s.sheet.header (split 9 p)) p more ≡ none → (line_tag s (split 9 p) ≡ 69 → ⊥) → (t : State) → taken_of s H.marks (record_of (line_tag s (split 9 p)) (split 9 p)) ≡ taken.Good t
+      → (line_fault (rules_of (line_tag s (split 9 p)) limits s.sheet.header (split 9 p)) p more ≡ None → (line_tag s (split 9 p) ≡ 69 → ⊥) → (t : State) → taken_of s H.marks (record_of (line_tag s (split 9 p)) (split 9 p)) ≡ Ok t
       → (K : Held) → K.marks ≡ H.marks ++ marks_in s.sheet (line_tag s (split 9 p)) (split 9 p) → read_from limits t K (k + 1) rest ≡ read_from limits t K (k + 1) more)
       → read_from limits s H k (p ∷ rest) ≡ read_from limits s H k (p ∷ more)
   same_line a b ih =
@@ -357,12 +362,12 @@ module _ (limits : Limits) (s : State) (H : Held) (k : ℕ) (p : List ℕ) (rest
       E : Outcome Contents
       E = cond (nothing_left more) (contents s.sheet H) (Refused 7 (k + 1))
 
-      taking : (x : Taken) → taken_of s H.marks (record_of (line_tag s (split 9 p)) (split 9 p)) ≡ x → line_fault (rules_of (line_tag s (split 9 p)) limits s.sheet.header (split 9 p)) p more ≡ none → (line_tag s (split 9 p) ≡ 69 → ⊥)
+      taking : (x : Result State Refusal) → taken_of s H.marks (record_of (line_tag s (split 9 p)) (split 9 p)) ≡ x → line_fault (rules_of (line_tag s (split 9 p)) limits s.sheet.header (split 9 p)) p more ≡ None → (line_tag s (split 9 p) ≡ 69 → ⊥)
           → on_taken x k (λ t. read_from limits t K (k + 1) rest) ≡ on_taken x k (λ t. read_from limits t K (k + 1) more)
-      taking (taken.Good t) q f g = ih f g t q K refl
-      taking (taken.Bad j) q f g = refl
+      taking (Ok t) q f g = ih f g t q K refl
+      taking (Err j) q f g = refl
 
-      tag : (x : Bool) → eqb (line_tag s (split 9 p)) 69 ≡ x → line_fault (rules_of (line_tag s (split 9 p)) limits s.sheet.header (split 9 p)) p more ≡ none
+      tag : (x : Bool) → eqb (line_tag s (split 9 p)) 69 ≡ x → line_fault (rules_of (line_tag s (split 9 p)) limits s.sheet.header (split 9 p)) p more ≡ None
           → cond x E (on_taken (taken_of s H.marks (record_of (line_tag s (split 9 p)) (split 9 p))) k (λ t. read_from limits t K (k + 1) rest))
           ≡ cond x E (on_taken (taken_of s H.marks (record_of (line_tag s (split 9 p)) (split 9 p))) k (λ t. read_from limits t K (k + 1) more))
       tag true q f = refl
@@ -371,8 +376,8 @@ module _ (limits : Limits) (s : State) (H : Held) (k : ℕ) (p : List ℕ) (rest
       fault : (x : Option ℕ) → line_fault (rules_of (line_tag s (split 9 p)) limits s.sheet.header (split 9 p)) p more ≡ x
           → on_fault x k (cond (eqb (line_tag s (split 9 p)) 69) E (on_taken (taken_of s H.marks (record_of (line_tag s (split 9 p)) (split 9 p))) k (λ t. read_from limits t K (k + 1) rest)))
           ≡ on_fault x k (cond (eqb (line_tag s (split 9 p)) 69) E (on_taken (taken_of s H.marks (record_of (line_tag s (split 9 p)) (split 9 p))) k (λ t. read_from limits t K (k + 1) more)))
-      fault none q = tag (eqb (line_tag s (split 9 p)) 69) refl q
-      fault (some j) q = refl
+      fault None q = tag (eqb (line_tag s (split 9 p)) 69) refl q
+      fault (Some j) q = refl
 
 -- The first bytes
 
@@ -465,14 +470,14 @@ decides limits text n h = two (allowed limits) refl
 -- No legal text is longer than `longest`
 
 -- the end's line
-end_bytes : (limits : Limits) (top : Header) (g : ℕ) (p : List ℕ) → g ≡ 69 → length (split 9 p) ≡ length (rules_of g limits top (split 9 p)) → first_fault (rules_of g limits top (split 9 p)) (split 9 p) ≡ none
+end_bytes : (limits : Limits) (top : Header) (g : ℕ) (p : List ℕ) → g ≡ 69 → length (split 9 p) ≡ length (rules_of g limits top (split 9 p)) → first_fault (rules_of g limits top (split 9 p)) (split 9 p) ≡ None
     → length p + 1 ≤ 2
 unfolding rules_of
 end_bytes limits top g p q n e = row-bytes p (1 ∷ []) (one (split 9 p) (rw q at n) (rw q at e))
   where
-    one : (fs : List (List ℕ)) → length fs ≡ 1 → first_fault (rule.Tag 69 ∷ []) fs ≡ none → Within fs (1 ∷ [])
+    one : (fs : List (List ℕ)) → length fs ≡ 1 → first_fault (rule.Tag 69 ∷ []) fs ≡ None → Within fs (1 ∷ [])
     one [] l f = let y : ⊥ = omega arith in absurd y
-    one (f ∷ []) l e = (tag_short f 69 (or_left (fault_in (field_of (rule.Tag 69) f)) none e), tt)
+    one (f ∷ []) l e = (tag_short f 69 (or_left (fault_in (field_of (rule.Tag 69) f)) None e), tt)
     one (f ∷ (h ∷ fs)) l e = let y : ⊥ = omega arith in absurd y
 
 longest_some : (limits : Limits) → 2 ≤ longest limits.side
@@ -493,17 +498,17 @@ module _ (limits : Limits) (most : LegalLimits limits) (s : State) (H : Held) (k
 
   at-end : (b : Bool) → nothing_left (split 10 later) ≡ b → cond b (contents s.sheet H) (Refused 7 (k + 1)) ≡ Gives C → length later ≤ 0
   at-end true q o = none_left (ltb 0 (length later)) refl q
-  at-end false q o = refusal 7 (k + 1) C o
+  at-end false q o = no_gives 7 (k + 1) C o
 
-  module _ (n : length (split 9 p) ≡ length (rules_of (line_tag s (split 9 p)) limits s.sheet.header (split 9 p))) (f : first_fault (rules_of (line_tag s (split 9 p)) limits s.sheet.header (split 9 p)) (split 9 p) ≡ none)
+  module _ (n : length (split 9 p) ≡ length (rules_of (line_tag s (split 9 p)) limits s.sheet.header (split 9 p))) (f : first_fault (rules_of (line_tag s (split 9 p)) limits s.sheet.header (split 9 p)) (split 9 p) ≡ None)
       (K : Held) (z : K.marks ≡ H.marks ++ marks_in s.sheet (line_tag s (split 9 p)) (split 9 p)) where
-    on_taking : (x : Taken) → taken_of s H.marks (record_of (line_tag s (split 9 p)) (split 9 p)) ≡ x → (line_tag s (split 9 p) ≡ 69 → ⊥)
+    on_taking : (x : Result State Refusal) → taken_of s H.marks (record_of (line_tag s (split 9 p)) (split 9 p)) ≡ x → (line_tag s (split 9 p) ≡ 69 → ⊥)
         → on_taken x k (λ t. read_from limits t K (k + 1) (split 10 later)) ≡ Gives C → length p + 1 + length later ≤ room limits s H.marks
-    on_taking (taken.Good t) q x o =
+    on_taking (Ok t) q x o =
         let u = spent limits most p s H.marks g t x n f q in
         let i : length later ≤ room limits t (H.marks ++ marks_in s.sheet (line_tag s (split 9 p)) (split 9 p)) = rw z at (ih t K u.stage o) in
         omega (arith, u.bytes, i)
-    on_taking (taken.Bad j) q x o = refusal j k C o
+    on_taking (Err j) q x o = no_gives (table.number_of j) k C o
 
     on_tag : (b : Bool) → eqb (line_tag s (split 9 p)) 69 ≡ b
         → cond b (cond (nothing_left (split 10 later)) (contents s.sheet H) (Refused 7 (k + 1)))
@@ -523,9 +528,9 @@ pub not_unended : (limits : Limits) (s : State) (H : Held) (k : ℕ) (r : List �
 unfolding line_fault
 not_unended limits s H k r C e = two (ltb 1024 (length r)) _ e
   where
-    two : {A : Type 0} (b : Bool) (X : Outcome Contents) → on_fault (cond b (some 1) (some 7)) k X ≡ Gives C → A
-    two true X o = refusal 1 k C o
-    two false X o = refusal 7 k C o
+    two : {A : Type 0} (b : Bool) (X : Outcome Contents) → on_fault (cond b (Some 1) (Some 7)) k X ≡ Gives C → A
+    two true X o = no_gives 1 k C o
+    two false X o = no_gives 7 k C o
 
 short_from : (limits : Limits) → LegalLimits limits → (fuel : ℕ) (s : State) (H : Held) (k : ℕ) (r : List ℕ) (C : Contents) → length r ≤ fuel → Stage limits s
     → read_from limits s H k (split 10 r) ≡ Gives C → length r ≤ room limits s H.marks
@@ -554,4 +559,4 @@ at-most limits text C e = two (allowed limits) refl e
   where
     two : (b : Bool) → allowed limits ≡ b → cond b (read_from limits blank nothing 1 (split 10 text)) (Refused 2 0) ≡ Gives C → length text ≤ longest limits.side
     two true q o = omega (arith, short_from limits (allowed_is limits q) (length text) blank nothing 1 text C (omega arith) (inl refl) o, room_first limits)
-    two false q o = refusal 2 0 C o
+    two false q o = no_gives 2 0 C o

@@ -1,10 +1,12 @@
 -- Reading what is written gives the sheet back, for every legal sheet.
+use Rattle.contents.specs.declared.Letter.{Letter}
+use Rattle.contents.specs.declared.Letter.TheVariants as letters
+use Rattle.std.proofs.Common.{None, Some, Ok, Option}
 use Prim.Native.Nat.{ℕ, zero, suc, ◌+◌, ◌-◌, ◌*◌, ◌/◌, ◌<◌, ◌≤◌}
 use mathlib.Core.Path.{◌≡◌, refl, sym, ap, ◌∙◌, subst⁻¹}
 use mathlib.Core.List.{List, [], ◌∷◌, ◌++◌, append_assoc, append-nil}
 use mathlib.Core.Bool.{Bool, true, false, cond, ◌&&◌}
 use mathlib.Core.Logic.{◌⊎◌, inl, inr}
-use mathlib.Core.Option.{none}
 use native.Mathlib.Nat.{le_trans}
 use native.Mathlib.Omega.{arith}
 use lib.ListN.{length, take, drop, length-drop, length-map, take-append-drop}
@@ -17,9 +19,6 @@ use Rattle.contents.specs.Legal.{LegalLimits, LegalHeader, LegalChannel, LegalQu
 use Rattle.digits.specs.Written.{decimal, joined}
 use Rattle.text.proofs.JoinLaws.{free, all_free, split_joined, joined_free, split_ended}
 use Rattle.contents.specs.declared.Limits.{Limits}
-use Rattle.contents.specs.declared.Choice.{Choice}
-use Rattle.contents.specs.declared.Choice.TheVariants as choice
-use Rattle.contents.specs.declared.Hold.TheVariants as hold
 use Rattle.contents.specs.Hold.{measured, LegalHold}
 use Rattle.contents.proofs.HoldLaws.{measured_most}
 use Rattle.contents.specs.declared.Header.{Header}
@@ -29,7 +28,6 @@ use Rattle.contents.specs.declared.Sheet.{Sheet}
 use Rattle.lines.specs.declared.Setting.{Setting}
 use Rattle.lines.specs.declared.Setting.TheVariants as setting
 use Rattle.progress.specs.declared.State.{State}
-use Rattle.progress.specs.declared.Taken.TheVariants as taken
 use Rattle.lines.specs.Lines.{header_rules, rounding_rules, start_rules, hold_rules, mark_of, rules_of, field_count, first_fault, holding, channel_of, record_of}
 use Rattle.contents.specs.declared.Mark.{Mark}
 use Rattle.contents.specs.Marks.{block_of, has_block, among}
@@ -37,10 +35,10 @@ use Rattle.contents.specs.Sheets.{Lent, lent, Marked, marked, Held, held, nothin
 use Rattle.progress.specs.Progress.{headed, blank, last_said, line_tag, with_setting, settled, placed, covers, most_blocks, exists, taken_if}
 use Rattle.sheet.specs.Reading.{contents, taken_of, is_last, read_from, allowed, read_text}
 use Rattle.sheet.specs.Reading.Outcome.{Refused}
-use Rattle.grammar.specs.Written.{header_fields, hold_fields, channel_fields, block_fields, end_fields, setting_line, setting_lines, block_lines, drop_held, channel_lines, mark_fields, mark_lines, written}
+use Rattle.grammar.specs.Written.{header_fields, hold_fields, channel_fields, block_fields, end_fields, setting_line, line_if, setting_lines, block_lines, drop_held, channel_lines, mark_fields, mark_lines, written}
 use Rattle.sheet.proofs.WalkLaws.{line_next, line_end}
 use Rattle.lines.proofs.GoodLines.{holds_none, with_table, holds_table}
-use Rattle.grammar.proofs.SettingLaws.{place_of, LegalSetting, hold_within, unset}
+use Rattle.grammar.proofs.SettingLaws.{place_of, LegalSetting, hold_within}
 use Rattle.grammar.proofs.MarkLaws.{with_mark, holds_mark, place-of, few_marks}
 use Rattle.grammar.proofs.BlockLaws.{Block, with_block, block_first, drop_levels, drop_ranges, kinds_take, kinds_drop}
 use Rattle.grammar.proofs.LegalLaws.{blocks}
@@ -49,15 +47,15 @@ use Rattle.grammar.proofs.RowLaws.{SixDigits, SmallMark, mark_good, mark_back, m
 -- One good row
 
 pub read_row : (limits : Limits) (s : State) (H : Held) (k : ℕ) (fs : List (List ℕ)) (rest : List (List ℕ)) (tag : ℕ) → tag ≡ line_tag s fs → (tag ≡ 69 → ⊥)
-    → 1 ≤ length fs → all_free 9 fs ≡ true → length (joined fs) ≤ 1024 → is_last rest ≡ false → length fs ≡ field_count tag → first_fault (rules_of tag limits s.sheet.header fs) fs ≡ none
-    → (u : State) → taken_of s H.marks (record_of tag fs) ≡ taken.Good u
+    → 1 ≤ length fs → all_free 9 fs ≡ true → length (joined fs) ≤ 1024 → is_last rest ≡ false → length fs ≡ field_count tag → first_fault (rules_of tag limits s.sheet.header fs) fs ≡ None
+    → (u : State) → taken_of s H.marks (record_of tag fs) ≡ Ok u
     → read_from limits s H k (joined fs ∷ rest) ≡ read_from limits u (holding H s.sheet tag (rules_of tag limits s.sheet.header fs) fs) (k + 1) rest
 read_row limits s H k fs rest tag g t n c h e m f u o =
     let w : split 9 (joined fs) ≡ fs = split_joined fs n c in
     sym (line_next limits s H k (joined fs) rest (read_from limits s H k (joined fs ∷ rest)) refl tag (subst⁻¹ (λ (x : List (List ℕ)). tag ≡ line_tag s x) w g) h e
     (subst⁻¹ (λ (x : List (List ℕ)). length x ≡ field_count tag) w m)
-    (subst⁻¹ (λ (x : List (List ℕ)). first_fault (rules_of tag limits s.sheet.header x) x ≡ none) w f) t u
-    (subst⁻¹ (λ (x : List (List ℕ)). taken_of s H.marks (record_of tag x) ≡ taken.Good u) w o))
+    (subst⁻¹ (λ (x : List (List ℕ)). first_fault (rules_of tag limits s.sheet.header x) x ≡ None) w f) t u
+    (subst⁻¹ (λ (x : List (List ℕ)). taken_of s H.marks (record_of tag x) ≡ Ok u) w o))
     ∙ ap (λ (x : List (List ℕ)). read_from limits u (holding H s.sheet tag (rules_of tag limits s.sheet.header x) x) (k + 1) rest) w
 
 more-left : (ps qs : List (List ℕ)) → is_last qs ≡ false → is_last (ps ++ qs) ≡ false
@@ -275,91 +273,103 @@ read_header limits most h l rest e =
     refl (header_good limits most h l) (during (headed h) 0 0) (rw (header_back limits most h l))
     ∙ ap (λ (K : Held). read_from limits (during (headed h) 0 0) K 2 rest) (holds_none nothing blank.sheet 83 (header_rules limits fs) fs refl refl refl refl)
 
--- a setting's line, if it has one, where it may stand
+-- a setting's line, where it may stand
 read_setting : (limits : Limits) (rest : List (List ℕ)) → is_last rest ≡ false → (t : Sheet) → ((c : ℕ) → measured t.header c ≤ 1000) → (k : ℕ) (z : Setting) → LegalSetting t.header z → last_said t.settings < place_of z
     → (m : ℕ) × (read_from limits (during t 0 0) nothing k (setting_line z ++ rest) ≡ read_from limits (during (settled t (with_setting t.settings z)) 0 0) nothing m rest)
 unfolding line_tag rules_of field_count record_of taken_if field_of
-read_setting limits rest e t most k (setting.Rounding choice.Unsaid) g h =
-    (k, ap (λ (x : Settings). read_from limits (during (settled t x) 0 0) nothing k rest) (sym (unset t.settings (setting.Rounding choice.Unsaid) h refl)))
-read_setting limits rest e t most k (setting.Rounding choice.First) g h =
+read_setting limits rest e t most k (setting.Rounding letters.First) g h =
     let fs : List (List ℕ) = (70 ∷ []) ∷ (116 ∷ []) ∷ [] in (
       k + 1,
       read_row limits (during t 0 0) nothing k fs rest 70 (rw (lt-ltb (last_said t.settings) 1 h)) (λ q. omega arith) (omega arith) refl (omega arith) e refl refl _ refl
-          ∙ ap (λ (K : Held). read_from limits (during (settled t (with_setting t.settings (setting.Rounding choice.First))) 0 0) K (k + 1) rest) (holds_none nothing t 70 rounding_rules fs refl refl refl refl),
+          ∙ ap (λ (K : Held). read_from limits (during (settled t (with_setting t.settings (setting.Rounding letters.First))) 0 0) K (k + 1) rest) (holds_none nothing t 70 rounding_rules fs refl refl refl refl),
     )
-read_setting limits rest e t most k (setting.Rounding choice.Second) g h =
+read_setting limits rest e t most k (setting.Rounding letters.Second) g h =
     let fs : List (List ℕ) = (70 ∷ []) ∷ (110 ∷ []) ∷ [] in (
       k + 1,
       read_row limits (during t 0 0) nothing k fs rest 70 (rw (lt-ltb (last_said t.settings) 1 h)) (λ q. omega arith) (omega arith) refl (omega arith) e refl refl _ refl
-          ∙ ap (λ (K : Held). read_from limits (during (settled t (with_setting t.settings (setting.Rounding choice.Second))) 0 0) K (k + 1) rest) (holds_none nothing t 70 rounding_rules fs refl refl refl refl),
+          ∙ ap (λ (K : Held). read_from limits (during (settled t (with_setting t.settings (setting.Rounding letters.Second))) 0 0) K (k + 1) rest) (holds_none nothing t 70 rounding_rules fs refl refl refl refl),
     )
-read_setting limits rest e t most k (setting.Start choice.Unsaid) g h =
-    (k, ap (λ (x : Settings). read_from limits (during (settled t x) 0 0) nothing k rest) (sym (unset t.settings (setting.Start choice.Unsaid) h refl)))
-read_setting limits rest e t most k (setting.Start choice.First) g h =
+read_setting limits rest e t most k (setting.Start letters.First) g h =
     let fs : List (List ℕ) = (65 ∷ []) ∷ (109 ∷ []) ∷ [] in (
       k + 1,
       read_row limits (during t 0 0) nothing k fs rest 65 (rw (lt-ltb (last_said t.settings) 2 h)) (λ q. omega arith) (omega arith) refl (omega arith) e refl refl _ refl
-          ∙ ap (λ (K : Held). read_from limits (during (settled t (with_setting t.settings (setting.Start choice.First))) 0 0) K (k + 1) rest) (holds_none nothing t 65 start_rules fs refl refl refl refl),
+          ∙ ap (λ (K : Held). read_from limits (during (settled t (with_setting t.settings (setting.Start letters.First))) 0 0) K (k + 1) rest) (holds_none nothing t 65 start_rules fs refl refl refl refl),
     )
-read_setting limits rest e t most k (setting.Start choice.Second) g h =
+read_setting limits rest e t most k (setting.Start letters.Second) g h =
     let fs : List (List ℕ) = (65 ∷ []) ∷ (111 ∷ []) ∷ [] in (
       k + 1,
       read_row limits (during t 0 0) nothing k fs rest 65 (rw (lt-ltb (last_said t.settings) 2 h)) (λ q. omega arith) (omega arith) refl (omega arith) e refl refl _ refl
-          ∙ ap (λ (K : Held). read_from limits (during (settled t (with_setting t.settings (setting.Start choice.Second))) 0 0) K (k + 1) rest) (holds_none nothing t 65 start_rules fs refl refl refl refl),
+          ∙ ap (λ (K : Held). read_from limits (during (settled t (with_setting t.settings (setting.Start letters.Second))) 0 0) K (k + 1) rest) (holds_none nothing t 65 start_rules fs refl refl refl refl),
     )
-read_setting limits rest e t most k (setting.Hold hold.Unsaid) g h =
-    (k, ap (λ (x : Settings). read_from limits (during (settled t x) 0 0) nothing k rest) (sym (unset t.settings (setting.Hold hold.Unsaid) h refl)))
-read_setting limits rest e t most k (setting.Hold (hold.Counts a b d)) g h =
-    let fs = hold_fields a b d in
+read_setting limits rest e t most k (setting.Hold l) g h =
+    let fs = hold_fields l in
     let six : (c : ℕ) → measured t.header c ≤ 999999 = λ c. omega (arith, most c) in
-    let u = during (settled t (with_setting t.settings (setting.Hold (hold.Counts a b d)))) 0 0 in (
+    let u = during (settled t (with_setting t.settings (setting.Hold l))) 0 0 in (
       k + 1,
-      read_row limits (during t 0 0) nothing k fs rest 72 (rw (lt-ltb (last_said t.settings) 3 h)) (λ q. omega arith) (omega arith) (hold_free 9 (omega arith) a b d)
-          (omega (arith, hold_within t.header most a b d g)) e refl (hold_good t.header six a b d g) u (rw (hold_back t.header six a b d g))
+      read_row limits (during t 0 0) nothing k fs rest 72 (rw (lt-ltb (last_said t.settings) 3 h)) (λ q. omega arith) (omega arith) (hold_free 9 (omega arith) l)
+          (omega (arith, hold_within t.header most l g)) e refl (hold_good t.header six l g) u (rw (hold_back t.header six l g))
           ∙ ap (λ (K : Held). read_from limits u K (k + 1) rest) (holds_none nothing t 72 (hold_rules t.header) fs refl refl refl refl),
     )
 
--- the settings' lines
+-- the settings' lines, one after the other, where each may be left out
+module _ (limits : Limits) (h : Header) (most : (c : ℕ) → measured h c ≤ 1000) (rest : List (List ℕ)) (e : is_last rest ≡ false) (k : ℕ) where
+  read_rounding : (o : Option Letter)
+      → (m : ℕ) × (read_from limits (during (headed h) 0 0) nothing k (line_if setting.Rounding o ++ rest) ≡ read_from limits (during (settled (headed h) (record { rounding = o; start = None; hold = None })) 0 0) nothing m rest)
+  read_rounding None = (k, refl)
+  read_rounding (Some r) = read_setting limits rest e (headed h) most k (setting.Rounding r) tt (omega arith)
+
+  read_start : (r o : Option Letter)
+      → (m : ℕ)
+      × (read_from limits (during (settled (headed h) (record { rounding = r; start = None; hold = None })) 0 0) nothing k (line_if setting.Start o ++ rest)
+      ≡ read_from limits (during (settled (headed h) (record { rounding = r; start = o; hold = None })) 0 0) nothing m rest)
+  read_start r None = (k, refl)
+  read_start r (Some a) = read_setting limits rest e (settled (headed h) (record { rounding = r; start = None; hold = None })) most k (setting.Start a) tt (below r)
+    where
+      below : (r : Option Letter) → last_said (record { rounding = r; start = None; hold = None }) < 2
+      below None = omega arith
+      below (Some r) = omega arith
+
+  read_hold : (r a : Option Letter) (o : Option (List ℕ)) → LegalHold h o
+      → (m : ℕ)
+      × (read_from limits (during (settled (headed h) (record { rounding = r; start = a; hold = None })) 0 0) nothing k (line_if setting.Hold o ++ rest)
+      ≡ read_from limits (during (settled (headed h) (record { rounding = r; start = a; hold = o })) 0 0) nothing m rest)
+  read_hold r a None g = (k, refl)
+  read_hold r a (Some l) g = read_setting limits rest e (settled (headed h) (record { rounding = r; start = a; hold = None })) most k (setting.Hold l) g (under r a)
+    where
+      under : (r a : Option Letter) → last_said (record { rounding = r; start = a; hold = None }) < 3
+      under None None = omega arith
+      under (Some r) None = omega arith
+      under r (Some a) = omega arith
+
 read_settings : (limits : Limits) (h : Header) → ((c : ℕ) → measured h c ≤ 1000) → (x : Settings) → LegalHold h x.hold → (rest : List (List ℕ)) → is_last rest ≡ false
     → (m : ℕ) × (read_from limits (during (headed h) 0 0) nothing 2 (setting_lines x ++ rest) ≡ read_from limits (during (settled (headed h) x) 0 0) nothing m rest)
 read_settings limits h most x g rest e =
-    let F = setting.Rounding x.rounding in
-    let A = setting.Start x.start in
-    let O = setting.Hold x.hold in
-    let t : Sheet = settled (headed h) (with_setting (headed h).settings F) in
-    let u : Sheet = settled t (with_setting t.settings A) in
-    let more = more-left (setting_line O) rest e in
-    let f = read_setting limits (setting_line A ++ (setting_line O ++ rest)) (more-left (setting_line A) (setting_line O ++ rest) more) (headed h) most 2 F tt (omega arith) in
-    let a = read_setting limits (setting_line O ++ rest) more t most f.0 A tt (below x.rounding) in
-    let o = read_setting limits rest e u most a.0 O g (under x.rounding x.start) in (
+    let F = line_if setting.Rounding x.rounding in
+    let A = line_if setting.Start x.start in
+    let O = line_if setting.Hold x.hold in
+    let more = more-left O rest e in
+    let f = read_rounding limits h most (A ++ (O ++ rest)) (more-left A (O ++ rest) more) 2 x.rounding in
+    let a = read_start limits h most (O ++ rest) more f.0 x.rounding x.start in
+    let o = read_hold limits h most rest e a.0 x.rounding x.start x.hold g in (
       o.0,
       ap (λ (q : List (List ℕ)). read_from limits (during (headed h) 0 0) nothing 2 q)
-          (append_assoc (setting_line F) (setting_line A ++ setting_line O) rest ∙ ap (λ (q : List (List ℕ)). setting_line F ++ q) (append_assoc (setting_line A) (setting_line O) rest))
+          (append_assoc F (A ++ O) rest ∙ ap (λ (q : List (List ℕ)). F ++ q) (append_assoc A O rest))
           ∙ f.1
           ∙ a.1
           ∙ o.1,
     )
-  where
-    below : (r : Choice) → last_said (record { rounding = r; start = choice.Unsaid; hold = hold.Unsaid }) < 2
-    below choice.Unsaid = omega arith
-    below choice.First = omega arith
-    below choice.Second = omega arith
-
-    under : (r a : Choice) → last_said (record { rounding = r; start = a; hold = hold.Unsaid }) < 3
-    under r choice.Unsaid = omega (arith, below r)
-    under r choice.First = omega arith
-    under r choice.Second = omega arith
 
 -- the lines have no line end in them
 free_setting : (z : Setting) → all_free 10 (setting_line z) ≡ true
-free_setting (setting.Rounding choice.Unsaid) = refl
-free_setting (setting.Rounding choice.First) = refl
-free_setting (setting.Rounding choice.Second) = refl
-free_setting (setting.Start choice.Unsaid) = refl
-free_setting (setting.Start choice.First) = refl
-free_setting (setting.Start choice.Second) = refl
-free_setting (setting.Hold hold.Unsaid) = refl
-free_setting (setting.Hold (hold.Counts k l m)) = rw (joined_free (hold_fields k l m) (hold_free 10 (omega arith) k l m))
+free_setting (setting.Rounding letters.First) = refl
+free_setting (setting.Rounding letters.Second) = refl
+free_setting (setting.Start letters.First) = refl
+free_setting (setting.Start letters.Second) = refl
+free_setting (setting.Hold l) = rw (joined_free (hold_fields l) (hold_free 10 (omega arith) l))
+
+free_if : {A : Type 0} (make : A → Setting) (o : Option A) → all_free 10 (line_if make o) ≡ true
+free_if make None = refl
+free_if make (Some x) = free_setting (make x)
 
 pub free_blocks : (rs : List Bool) (ls hs : List ℤ) → all_free 10 (block_lines rs ls hs) ≡ true
 free_blocks [] ls hs = refl
@@ -376,9 +386,9 @@ free_both (p ∷ ps) qs a b = two (free 10 p) a (free_both ps qs)
 
 pub free_settings : (x : Settings) → all_free 10 (setting_lines x) ≡ true
 free_settings x =
-    let A = setting.Start x.start in
-    let O = setting.Hold x.hold in
-    free_both (setting_line (setting.Rounding x.rounding)) (setting_line A ++ setting_line O) (free_setting (setting.Rounding x.rounding)) (free_both (setting_line A) (setting_line O) (free_setting A) (free_setting O))
+    let A = line_if setting.Start x.start in
+    let O = line_if setting.Hold x.hold in
+    free_both (line_if setting.Rounding x.rounding) (A ++ O) (free_if setting.Rounding x.rounding) (free_both A O (free_if setting.Start x.start) (free_if setting.Hold x.hold))
 
 pub free_channels : (cs : List Channel) (H : Held) → all_free 10 (channel_lines cs H) ≡ true
 free_channels [] H = refl

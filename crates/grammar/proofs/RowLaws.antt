@@ -1,18 +1,18 @@
 -- The written rows: their fields are good, they say what was written, and they are short and free of tabs and line ends.
+use Rattle.refusal.specs.declared.Refusal.{Refusal}
+use Rattle.std.proofs.Common.{Some, None, Ok}
+use Rattle.refusal.specs.declared.Refusal.TheVariants as refusal
 use Prim.Native.Nat.{ℕ, ◌*◌, ◌<◌, ◌≤◌}
 use mathlib.Core.Path.{◌≡◌, refl, sym, ap, ◌∙◌}
 use mathlib.Core.List.{List, [], ◌∷◌, ◌++◌, map, append-nil}
 use mathlib.Core.Bool.{Bool, true, false, cond}
 use mathlib.Core.Logic.{◌⊎◌, inl, inr}
-use mathlib.Core.Option.{none}
 use native.Mathlib.Nat.{le_trans}
 use native.Mathlib.Omega.{arith}
-use lib.ListN.{length, replicate, length-map}
+use lib.ListN.{length, get_or, replicate, length-map}
 use lib.IntN.{ℤ}
 use borrow.Author.Tests.{eq-eqb}
-use Rattle.text.specs.declared.number.Number.TheVariants as number
 use Rattle.contents.specs.declared.Weight.{Weight}
-use Rattle.text.specs.declared.weight.WeightField.TheVariants as weight-field
 use Rattle.text.specs.declared.field.Rule.{Rule}
 use Rattle.text.specs.declared.field.Rule.TheVariants as rule
 use Rattle.text.specs.declared.field.Field.TheVariants as field
@@ -27,7 +27,6 @@ use Rattle.text.proofs.DecimalLaws.{number_written}
 use Rattle.digits.proofs.Lengths.{decimal_length}
 use Rattle.text.proofs.SpellingLaws.{weight_written, level_written, weight_length}
 use Rattle.text.proofs.JoinLaws.{above, above_free, above_less, above_decimal, above_weight, above_level, all_free, Within, joined_length}
-use Rattle.contents.specs.declared.Hold.TheVariants as hold
 use Rattle.contents.specs.Hold.{measured, LegalHold}
 use Rattle.contents.specs.declared.Limits.{Limits}
 use Rattle.contents.specs.declared.Header.{Header}
@@ -42,27 +41,27 @@ use Rattle.grammar.proofs.BlockLaws.{Block, with_block, block_bytes}
 
 -- Good fields
 
-range_written : (k low high n : ℕ) → Between low high n → n ≤ 999999 → fault_in (field_of (rule.Range k low high) (decimal n)) ≡ none
-range_written k low high n b h = rw (← range_in (decimal n) (number.Is n) k low high n (sym (number_written n h)) refl b.low b.top)
+range_written : (k : Refusal) (low high n : ℕ) → Between low high n → n ≤ 999999 → fault_in (field_of (rule.Range k low high) (decimal n)) ≡ None
+range_written k low high n b h = rw (← range_in (decimal n) (Some n) n (sym (number_written n h)) refl k low high b.low b.top)
 
-side_written : (most n : ℕ) → LegalSide most n → n ≤ 999999 → fault_in (field_of (rule.Side most) (decimal n)) ≡ none
-side_written most n b h = rw (← side_in (decimal n) (number.Is n) most n (sym (number_written n h)) refl b.whole b.low b.top)
+side_written : (most n : ℕ) → LegalSide most n → n ≤ 999999 → fault_in (field_of (rule.Side most) (decimal n)) ≡ None
+side_written most n b h = rw (← side_in (decimal n) (Some n) n (sym (number_written n h)) refl most b.whole b.low b.top)
 
-channels_written : (n : ℕ) → (n ≡ 1) ⊎ (n ≡ 3) → fault_in (field_of rule.Channels (decimal n)) ≡ none
-channels_written n (inl e) = rw (← channels_one (decimal n) (number.Is n) (sym (number_written n (omega arith))) n refl e)
-channels_written n (inr e) = rw (← channels_three (decimal n) (number.Is n) (sym (number_written n (omega arith))) n refl (λ q. omega arith) e)
+channels_written : (n : ℕ) → (n ≡ 1) ⊎ (n ≡ 3) → fault_in (field_of rule.Channels (decimal n)) ≡ None
+channels_written n (inl e) = rw (← channels_one (decimal n) (Some n) n (sym (number_written n (omega arith))) refl e)
+channels_written n (inr e) = rw (← channels_three (decimal n) (Some n) n (sym (number_written n (omega arith))) refl (λ q. omega arith) e)
 
-weight_field_written : (w : Weight) → LegalWeight w → fault_in (field_of rule.Weight (weight_text w)) ≡ none
-weight_field_written w h = rw (← weight_is (weight_text w) (weight-field.Is w) (sym (weight_written w h)) w refl)
+weight_field_written : (w : Weight) → LegalWeight w → fault_in (field_of rule.Weight (weight_text w)) ≡ None
+weight_field_written w h = rw (← weight_is (weight_text w) (Ok w) (sym (weight_written w h)) w refl)
 
-quantiser_written : (q : ℕ) → Between 1 255 q → field_of rule.Quantiser (decimal q) ≡ field.Quantiser q
-quantiser_written q b = sym (quantiser_in (decimal q) (number.Is q) (sym (number_written q (omega (arith, b.top)))) q refl b.low b.top)
+quantiser_written : (q : ℕ) → Between 1 255 q → field_of rule.Quantiser (decimal q) ≡ Ok (field.Quantiser q)
+quantiser_written q b = sym (quantiser_in (decimal q) (Some q) q (sym (number_written q (omega (arith, b.top)))) refl b.low b.top)
 
-tag_written : (t : ℕ) → fault_in (field_of (rule.Tag t) (t ∷ [])) ≡ none
+tag_written : (t : ℕ) → fault_in (field_of (rule.Tag t) (t ∷ [])) ≡ None
 unfolding field_of
 tag_written t = rw (eq-eqb t t refl)
 
-mode_written : (j : Bool) → fault_in (field_of mode (cond j 106 115 ∷ [])) ≡ none
+mode_written : (j : Bool) → fault_in (field_of mode (cond j 106 115 ∷ [])) ≡ None
 unfolding field_of
 mode_written true = refl
 mode_written false = refl
@@ -71,9 +70,9 @@ mode_written false = refl
 abbrev Goods : List Rule → List (List ℕ) → Type 0
 Goods [] fs = Unit {0}
 Goods (r ∷ rs) [] = Unit {0}
-Goods (r ∷ rs) (f ∷ fs) = (fault_in (field_of r f) ≡ none) × Goods rs fs
+Goods (r ∷ rs) (f ∷ fs) = (fault_in (field_of r f) ≡ None) × Goods rs fs
 
-goods : (rs : List Rule) (fs : List (List ℕ)) → Goods rs fs → first_fault rs fs ≡ none
+goods : (rs : List Rule) (fs : List (List ℕ)) → Goods rs fs → first_fault rs fs ≡ None
 goods [] fs g = refl
 goods (r ∷ rs) [] g = refl
 goods (r ∷ rs) (f ∷ fs) g = rw g.0 (goods rs fs g.1)
@@ -110,7 +109,7 @@ module _ (limits : Limits) (allowed : LegalLimits limits) (h : Header) (l : Lega
       by (inl e) = omega arith
       by (inr e) = omega arith
 
-  pub header_good : first_fault (header_rules limits (header_fields h)) (header_fields h) ≡ none
+  pub header_good : first_fault (header_rules limits (header_fields h)) (header_fields h) ≡ None
   unfolding number_at
   header_good =
       goods (header_rules limits (header_fields h)) (header_fields h) (
@@ -120,9 +119,9 @@ module _ (limits : Limits) (allowed : LegalLimits limits) (h : Header) (l : Lega
           (
             side_written limits.side h.height l.height high,
             (
-              rw (number_back h.width wide) (range_written 2 1 h.width h.picture_width l.shown_width (omega (arith, l.shown_width.top, wide))),
+              rw (number_back h.width wide) (range_written refusal.Size 1 h.width h.picture_width l.shown_width (omega (arith, l.shown_width.top, wide))),
               (
-                rw (number_back h.height high) (range_written 2 1 h.height h.picture_height l.shown_height (omega (arith, l.shown_height.top, high))),
+                rw (number_back h.height high) (range_written refusal.Size 1 h.height h.picture_height l.shown_height (omega (arith, l.shown_height.top, high))),
                 (
                   channels_written h.channels l.channels,
                   (
@@ -160,8 +159,8 @@ module _ (limits : Limits) (allowed : LegalLimits limits) (h : Header) (l : Lega
         ),
       )
     where
-      count_written : (n : ℕ) → n ≤ limits.iterations → fault_in (field_of (count limits) (decimal n)) ≡ none
-      count_written n k = rw (← count_in (decimal n) (number.Is n) limits.iterations n (sym (number_written n (omega (arith, page)))) refl (omega (arith, page)) k)
+      count_written : (n : ℕ) → n ≤ limits.iterations → fault_in (field_of (count limits) (decimal n)) ≡ None
+      count_written n k = rw (← count_in (decimal n) (Some n) n (sym (number_written n (omega (arith, page)))) refl limits.iterations (omega (arith, page)) k)
 
   pub header_back : header_of (header_fields h) ≡ h
   unfolding header_of number_at weight_at
@@ -186,28 +185,35 @@ module _ (limits : Limits) (allowed : LegalLimits limits) (h : Header) (l : Lega
 
 -- The held counts
 
-module _ (h : Header) (six : (c : ℕ) → measured h c ≤ 999999) (k l m : ℕ) (g : LegalHold h (hold.Counts k l m)) where
-  first_six : k ≤ 999999
-  first_six = le_trans g.0 (six 0)
+three_of : (l : List ℕ) → length l ≡ 3 → get_or l 0 0 ∷ get_or l 1 0 ∷ get_or l 2 0 ∷ [] ≡ l
+three_of (k ∷ (l ∷ (m ∷ []))) e = refl
+three_of [] e = absurd (omega arith)
+three_of (k ∷ []) e = absurd (omega arith)
+three_of (k ∷ (l ∷ [])) e = absurd (omega arith)
+three_of (k ∷ (l ∷ (m ∷ (n ∷ r)))) e = absurd (omega arith)
 
-  second_six : l ≤ 999999
-  second_six = le_trans g.1.0 (six 1)
+module _ (h : Header) (six : (c : ℕ) → measured h c ≤ 999999) (l : List ℕ) (g : LegalHold h (Some l)) where
+  first_six : get_or l 0 0 ≤ 999999
+  first_six = le_trans g.1 (six 0)
 
-  third_six : m ≤ 999999
-  third_six = le_trans g.1.1 (six 2)
+  second_six : get_or l 1 0 ≤ 999999
+  second_six = le_trans g.2 (six 1)
 
-  pub hold_good : first_fault (hold_rules h) (hold_fields k l m) ≡ none
+  third_six : get_or l 2 0 ≤ 999999
+  third_six = le_trans g.3 (six 2)
+
+  pub hold_good : first_fault (hold_rules h) (hold_fields l) ≡ None
   hold_good =
       rw (
         tag_written 72,
-        range_written 17 0 (measured h 0) k (record { low = omega arith; top = g.0 }) first_six,
-        range_written 17 0 (measured h 1) l (record { low = omega arith; top = g.1.0 }) second_six,
-        range_written 17 0 (measured h 2) m (record { low = omega arith; top = g.1.1 }) third_six,
+        range_written refusal.Hold 0 (measured h 0) (get_or l 0 0) (record { low = omega arith; top = g.1 }) first_six,
+        range_written refusal.Hold 0 (measured h 1) (get_or l 1 0) (record { low = omega arith; top = g.2 }) second_six,
+        range_written refusal.Hold 0 (measured h 2) (get_or l 2 0) (record { low = omega arith; top = g.3 }) third_six,
       )
 
-  pub hold_back : hold_of (hold_fields k l m) ≡ hold.Counts k l m
+  pub hold_back : hold_of (hold_fields l) ≡ l
   unfolding hold_of number_at
-  hold_back = rw (number_back k first_six, number_back l second_six, number_back m third_six)
+  hold_back = rw (number_back (get_or l 0 0) first_six, number_back (get_or l 1 0) second_six, number_back (get_or l 2 0) third_six) (three_of l g.0)
 
 -- Marks
 
@@ -217,10 +223,10 @@ pub record SmallMark (m : Mark) : Type 0 where
   pub column : m.column ≤ 63
 
 module _ (m : Mark) (g : SmallMark m) where
-  any_written : (n : ℕ) → n ≤ 999999 → fault_in (field_of (rule.Range 1 0 999999) (decimal n)) ≡ none
-  any_written n h = range_written 1 0 999999 n (record { low = omega arith; top = h }) h
+  any_written : (n : ℕ) → n ≤ 999999 → fault_in (field_of (rule.Range refusal.Form 0 999999) (decimal n)) ≡ None
+  any_written n h = range_written refusal.Form 0 999999 n (record { low = omega arith; top = h }) h
 
-  pub mark_good : first_fault mark_rules (mark_fields m) ≡ none
+  pub mark_good : first_fault mark_rules (mark_fields m) ≡ None
   mark_good =
       rw (tag_written 78, any_written m.channel (omega (arith, g.channel)), any_written m.row (omega (arith, g.row)), any_written m.column (omega (arith, g.column)))
 
@@ -230,7 +236,7 @@ module _ (m : Mark) (g : SmallMark m) where
 
 -- Channels
 
-all_decimal : (qs : List ℕ) → LegalQuantisers qs → (first_fault (replicate (length qs) rule.Quantiser) (map decimal qs) ≡ none) × (line_adds tables_in (replicate (length qs) rule.Quantiser) (map decimal qs) ≡ qs)
+all_decimal : (qs : List ℕ) → LegalQuantisers qs → (first_fault (replicate (length qs) rule.Quantiser) (map decimal qs) ≡ None) × (line_adds tables_in (replicate (length qs) rule.Quantiser) (map decimal qs) ≡ qs)
 all_decimal [] l = (refl, refl)
 all_decimal (q ∷ qs) l =
     let r = all_decimal qs l.1 in
@@ -238,7 +244,7 @@ all_decimal (q ∷ qs) l =
 
 -- the line of levels that is written, or of pairs: its fields are good, and what they add to the lows, the highs and the tables
 record Adds (rs : List Rule) (fs : List (List ℕ)) (ls hs : List ℤ) : Type 0 where
-  good : first_fault rs fs ≡ none
+  good : first_fault rs fs ≡ None
   lows : line_adds lows_in rs fs ≡ ls
   highs : line_adds highs_in rs fs ≡ hs
   tables : line_adds tables_in rs fs ≡ []
@@ -279,14 +285,14 @@ wider : (a m n : ℕ) → LegalSide m a → m ≤ n → LegalSide n a
 wider a m n l h = record { whole = l.whole; low = l.low; top = le_trans l.top h }
 
 module _ (h : Header) (x : SixDigits h) (c : Channel) (l : LegalChannel h c) (qs : List ℕ) (n : length qs ≡ 64) (g : LegalQuantisers qs) where
-  pub channel_good : first_fault channel_rules (channel_fields c qs) ≡ none
+  pub channel_good : first_fault channel_rules (channel_fields c qs) ≡ None
   channel_good =
       rw (
         tag_written 67,
         side_written 999999 c.width (wider c.width h.width 999999 l.width x.0) (le_trans l.width.top x.0),
         side_written 999999 c.height (wider c.height h.height 999999 l.height x.1) (le_trans l.height.top x.1),
-        range_written 3 1 4 c.across l.across (omega (arith, l.across.top)),
-        range_written 3 1 4 c.down l.down (omega (arith, l.down.top)),
+        range_written refusal.Factor 1 4 c.across l.across (omega (arith, l.across.top)),
+        range_written refusal.Factor 1 4 c.down l.down (omega (arith, l.down.top)),
       )
       (rw n at (all_decimal qs g).0)
 
@@ -316,7 +322,7 @@ module _ (ls hs : List ℤ) where
   pairs_in : Block true ls hs → Adds (pair_rules 64 (pair_texts ls hs)) (pair_texts ls hs) ls hs
   pairs_in b = rw b.low_count at (all_pairs ls hs (b.low_count ∙ sym b.high_count) b.lows b.highs b.ranges)
 
-  pub block_good : (r : Bool) → Block r ls hs → first_fault (rules_in r (block_fields r ls hs)) (block_fields r ls hs) ≡ none
+  pub block_good : (r : Bool) → Block r ls hs → first_fault (rules_in r (block_fields r ls hs)) (block_fields r ls hs) ≡ None
   block_good false b = rw (tag_written 66) (levels-in b).good
   block_good true b = rw (tag_written 71) (pairs_in b).good
 
@@ -357,7 +363,7 @@ unfolding field_count
 block-count false ls hs b = omega (arith, length-map ls level_text, b.low_count)
 block-count true ls hs b = omega (arith, pairs_many ls hs (b.low_count ∙ sym b.high_count), b.low_count)
 
-pub end_good : first_fault (rule.Tag 69 ∷ []) end_fields ≡ none
+pub end_good : first_fault (rule.Tag 69 ∷ []) end_fields ≡ None
 end_good = rw (tag_written 69)
 
 -- No field has a tab or a line end
@@ -419,8 +425,8 @@ header_free b k h =
       ),
     )
 
-pub hold_free : (b : ℕ) → b < 45 → (k l m : ℕ) → all_free b (hold_fields k l m) ≡ true
-hold_free b h k l m = cleans_free b h (hold_fields k l m) (refl, (clean_decimal k, (clean_decimal l, (clean_decimal m, tt))))
+pub hold_free : (b : ℕ) → b < 45 → (l : List ℕ) → all_free b (hold_fields l) ≡ true
+hold_free b h l = cleans_free b h (hold_fields l) (refl, (clean_decimal (get_or l 0 0), (clean_decimal (get_or l 1 0), (clean_decimal (get_or l 2 0), tt))))
 
 pub mark_free : (b : ℕ) → b < 45 → (m : Mark) → all_free b (mark_fields m) ≡ true
 mark_free b h m = cleans_free b h (mark_fields m) (refl, (clean_decimal m.channel, (clean_decimal m.row, (clean_decimal m.column, tt))))

@@ -1,9 +1,12 @@
 -- The lines of settings: F, A and H, in their order, each at most once.
+use Rattle.contents.specs.declared.Letter.{Letter}
+use Rattle.contents.specs.declared.Letter.TheVariants as letters
+use Rattle.refusal.specs.declared.Refusal.TheVariants as refusal
+use Rattle.std.proofs.Common.{None, Some, Option, is_none}
 use Prim.Native.Nat.{ℕ, zero, suc, ◌+◌, ◌<◌, ◌≤◌}
 use mathlib.Core.Path.{◌≡◌, refl, sym, ap, ◌∙◌, subst⁻¹}
 use mathlib.Core.List.{List, [], ◌∷◌, ◌++◌}
 use mathlib.Core.Bool.{Bool, true, false, cond}
-use mathlib.Core.Option.{none}
 use native.Mathlib.Omega.{arith}
 use lib.Dec.{eqb}
 use native.Mathlib.Nat.{le_trans}
@@ -19,10 +22,6 @@ use Rattle.text.proofs.GoodLaws.{range_good}
 use Rattle.text.proofs.JoinLaws.{joined_length}
 use Rattle.text.proofs.SizeLaws.{tag_as, letters_as, range_as}
 use Rattle.contents.specs.declared.Limits.{Limits}
-use Rattle.contents.specs.declared.Choice.{Choice}
-use Rattle.contents.specs.declared.Choice.TheVariants as choice
-use Rattle.contents.specs.declared.Hold.{Hold}
-use Rattle.contents.specs.declared.Hold.TheVariants as hold
 use Rattle.contents.specs.Hold.{measured, LegalHold}
 use Rattle.contents.specs.declared.Header.{Header}
 use Rattle.contents.specs.declared.Settings.{Settings}
@@ -32,9 +31,9 @@ use Rattle.lines.specs.declared.Setting.{Setting}
 use Rattle.lines.specs.declared.Setting.TheVariants as setting
 use Rattle.lines.specs.declared.Record.{Record}
 use Rattle.lines.specs.declared.Record.TheVariants as line
-use Rattle.lines.specs.Lines.{choice_rules, rounding_rules, start_rules, hold_rules, rules_of, first_fault, holding, choice_of, hold_of, record_of}
-use Rattle.progress.specs.Progress.{unsaid, no_hold, last_said, with_setting}
-use Rattle.grammar.specs.Written.{choice_lines, hold_fields, hold_lines, setting_line, setting_lines}
+use Rattle.lines.specs.Lines.{choice_rules, rounding_rules, start_rules, hold_rules, rules_of, first_fault, holding, letter_in, hold_of, record_of}
+use Rattle.progress.specs.Progress.{last_said, with_setting}
+use Rattle.grammar.specs.Written.{line_if, choice_lines, hold_fields, hold_lines, setting_line, setting_lines}
 use Rattle.grammar.specs.Longest.{choice_sizes, hold_sizes, settings_bytes}
 use Rattle.progress.proofs.StateLaws.{SettingTag}
 use Rattle.progress.proofs.StateLaws.SettingTag.{F-tag, A-tag, H-tag}
@@ -50,7 +49,7 @@ place_of (setting.Hold x) = 3
 abbrev pub LegalSetting : Header → Setting → Type 0
 LegalSetting h (setting.Rounding r) = Unit {0}
 LegalSetting h (setting.Start a) = Unit {0}
-LegalSetting h (setting.Hold x) = LegalHold h x
+LegalSetting h (setting.Hold l) = LegalHold h (Some l)
 
 pub with_legal : (h : Header) (x : Settings) (z : Setting) → LegalHold h x.hold → LegalSetting h z → LegalHold h (with_setting x z).hold
 with_legal h x (setting.Rounding r) a b = a
@@ -59,79 +58,65 @@ with_legal h x (setting.Hold y) a b = b
 
 -- Two letters
 
-choice_as : (t a b : ℕ) (fs : List (List ℕ)) → length fs ≡ 2 → first_fault (choice_rules t a b) fs ≡ none → (t ∷ []) ∷ (cond (letter a (get_or fs 1 [])) a b ∷ []) ∷ [] ≡ fs
+choice_as : (t a b : ℕ) (fs : List (List ℕ)) → length fs ≡ 2 → first_fault (choice_rules t a b) fs ≡ None → (t ∷ []) ∷ (cond (letter a (get_or fs 1 [])) a b ∷ []) ∷ [] ≡ fs
 choice_as t a b fs n e =
     field_at fs 0 _ _ (omega arith) (tag_as (get_or fs 0 []) t (fault_at (choice_rules t a b) fs 0 e (omega arith) (omega arith)))
     (field_at fs 1 _ _ (omega arith) (letters_as (get_or fs 1 []) a b (fault_at (choice_rules t a b) fs 1 e (omega arith) (omega arith))) (no_more fs 2 (omega arith)))
 
-choice_row : (t a b : ℕ) (p : List ℕ) → length (split 9 p) ≡ 2 → first_fault (choice_rules t a b) (split 9 p) ≡ none → choice_lines t a b (choice_of a (get_or (split 9 p) 1 [])) ≡ p ∷ []
+choice_row : (t a b : ℕ) (p : List ℕ) → length (split 9 p) ≡ 2 → first_fault (choice_rules t a b) (split 9 p) ≡ None → choice_lines t a b (letter_in a (get_or (split 9 p) 1 [])) ≡ p ∷ []
 choice_row t a b p n e = by (letter a (get_or (split 9 p) 1 [])) (row_as p _ (choice_as t a b (split 9 p) n e))
   where
-    by : (x : Bool) → joined ((t ∷ []) ∷ (cond x a b ∷ []) ∷ []) ≡ p → choice_lines t a b (cond x choice.First choice.Second) ≡ p ∷ []
+    by : (x : Bool) → joined ((t ∷ []) ∷ (cond x a b ∷ []) ∷ []) ≡ p → choice_lines t a b (cond x letters.First letters.Second) ≡ p ∷ []
     by true o = ap (λ (q : List ℕ). q ∷ []) o
     by false o = ap (λ (q : List ℕ). q ∷ []) o
 
 module _ (t a b : ℕ) (p : List ℕ) where
-  choice_said : (c : Choice) → choice_lines t a b c ≡ p ∷ [] → unsaid c ≡ false
-  choice_said choice.Unsaid e = let y : ⊥ = omega (arith, ap length e) in absurd y
-  choice_said choice.First e = refl
-  choice_said choice.Second e = refl
+  choice_bytes : (c : Letter) → choice_lines t a b c ≡ p ∷ [] → length p ≡ 3
+  choice_bytes letters.First e = sym (ap (λ (ls : List (List ℕ)). length (get_or ls 0 [])) e)
+  choice_bytes letters.Second e = sym (ap (λ (ls : List (List ℕ)). length (get_or ls 0 [])) e)
 
-  choice_bytes : (c : Choice) → choice_lines t a b c ≡ p ∷ [] → length p ≡ 3
-  choice_bytes choice.Unsaid e = let y : ⊥ = omega (arith, ap length e) in absurd y
-  choice_bytes choice.First e = sym (ap (λ (ls : List (List ℕ)). length (get_or ls 0 [])) e)
-  choice_bytes choice.Second e = sym (ap (λ (ls : List (List ℕ)). length (get_or ls 0 [])) e)
-
-pub none_said : (c : Choice) → unsaid c ≡ true → c ≡ choice.Unsaid
-none_said choice.Unsaid e = refl
-none_said choice.First e = let z : ◌≡◌ {A = ℕ} 0 1 = cc in let y : ⊥ = omega arith in absurd y
-none_said choice.Second e = let z : ◌≡◌ {A = ℕ} 0 1 = cc in let y : ⊥ = omega arith in absurd y
+pub none_said : {A : Type 0} (o : Option A) → is_none o ≡ true → o ≡ None
+none_said None e = refl
+none_said (Some x) e = cc
 
 -- Three counts
 
-module _ (h : Header) (fs : List (List ℕ)) (n : length fs ≡ 4) (e : first_fault (hold_rules h) fs ≡ none) where
-  hold-at : (i : ℕ) → i < 4 → fault_in (field_of (get_or (hold_rules h) i (rule.Tag 0)) (get_or fs i [])) ≡ none
+module _ (h : Header) (fs : List (List ℕ)) (n : length fs ≡ 4) (e : first_fault (hold_rules h) fs ≡ None) where
+  hold-at : (i : ℕ) → i < 4 → fault_in (field_of (get_or (hold_rules h) i (rule.Tag 0)) (get_or fs i [])) ≡ None
   hold-at i k = fault_at (hold_rules h) fs i e k (omega arith)
 
-  hold_as : hold_fields (number_at fs 1) (number_at fs 2) (number_at fs 3) ≡ fs
+  hold_as : hold_fields (number_at fs 1 ∷ number_at fs 2 ∷ number_at fs 3 ∷ []) ≡ fs
   unfolding number_at
   hold_as =
       field_at fs 0 _ _ (omega arith) (tag_as (get_or fs 0 []) 72 (hold-at 0 (omega arith)))
-      (field_at fs 1 _ _ (omega arith) (range_as (get_or fs 1 []) 17 0 (measured h 0) (hold-at 1 (omega arith)))
-      (field_at fs 2 _ _ (omega arith) (range_as (get_or fs 2 []) 17 0 (measured h 1) (hold-at 2 (omega arith)))
-      (field_at fs 3 _ _ (omega arith) (range_as (get_or fs 3 []) 17 0 (measured h 2) (hold-at 3 (omega arith))) (no_more fs 4 (omega arith)))))
+      (field_at fs 1 _ _ (omega arith) (range_as (get_or fs 1 []) refusal.Hold 0 (measured h 0) (hold-at 1 (omega arith)))
+      (field_at fs 2 _ _ (omega arith) (range_as (get_or fs 2 []) refusal.Hold 0 (measured h 1) (hold-at 2 (omega arith)))
+      (field_at fs 3 _ _ (omega arith) (range_as (get_or fs 3 []) refusal.Hold 0 (measured h 2) (hold-at 3 (omega arith))) (no_more fs 4 (omega arith)))))
 
-  hold_legal : LegalHold h (hold_of fs)
+  hold_legal : LegalHold h (Some (hold_of fs))
   unfolding hold_of number_at
   hold_legal = (
-    (range_good (get_or fs 1 []) 17 0 (measured h 0) (hold-at 1 (omega arith))).top,
-    ((range_good (get_or fs 2 []) 17 0 (measured h 1) (hold-at 2 (omega arith))).top, (range_good (get_or fs 3 []) 17 0 (measured h 2) (hold-at 3 (omega arith))).top),
+    refl,
+    (range_good (get_or fs 1 []) refusal.Hold 0 (measured h 0) (hold-at 1 (omega arith))).top,
+    (range_good (get_or fs 2 []) refusal.Hold 0 (measured h 1) (hold-at 2 (omega arith))).top,
+    (range_good (get_or fs 3 []) refusal.Hold 0 (measured h 2) (hold-at 3 (omega arith))).top,
   )
 
-hold_row : (h : Header) (p : List ℕ) → length (split 9 p) ≡ 4 → first_fault (hold_rules h) (split 9 p) ≡ none → hold_lines (hold_of (split 9 p)) ≡ p ∷ []
+hold_row : (h : Header) (p : List ℕ) → length (split 9 p) ≡ 4 → first_fault (hold_rules h) (split 9 p) ≡ None → hold_lines (hold_of (split 9 p)) ≡ p ∷ []
 unfolding hold_of
 hold_row h p n e = ap (λ (q : List ℕ). q ∷ []) (row_as p _ (hold_as h (split 9 p) n e))
-
-hold_said : (p : List ℕ) (x : Hold) → hold_lines x ≡ p ∷ [] → no_hold x ≡ false
-hold_said p hold.Unsaid e = let y : ⊥ = omega (arith, ap length e) in absurd y
-hold_said p (hold.Counts k l m) e = refl
-
-pub none_held : (x : Hold) → no_hold x ≡ true → x ≡ hold.Unsaid
-none_held hold.Unsaid e = refl
-none_held (hold.Counts k l m) e = let z : ◌≡◌ {A = ℕ} 0 1 = cc in let y : ⊥ = omega arith in absurd y
 
 -- counts of four digits
 module _ (h : Header) (most : (c : ℕ) → measured h c ≤ 1000) where
   four_digits : (k c : ℕ) → k ≤ measured h c → length (decimal k) ≤ 4
   four_digits k c b = decimal_length 3 k (omega (arith, le_trans b (most c)))
 
-  pub hold_within : (k l m : ℕ) → LegalHold h (hold.Counts k l m) → length (joined (hold_fields k l m)) + 1 ≤ row_bytes hold_sizes
-  hold_within k l m g =
-      joined_length (hold_fields k l m) hold_sizes (omega arith) (omega arith, (four_digits k 0 g.0, (four_digits l 1 g.1.0, (four_digits m 2 g.1.1, tt))))
+  pub hold_within : (l : List ℕ) → LegalHold h (Some l) → length (joined (hold_fields l)) + 1 ≤ row_bytes hold_sizes
+  hold_within l g =
+      joined_length (hold_fields l) hold_sizes (omega arith) (omega arith, (four_digits (get_or l 0 0) 0 g.1, (four_digits (get_or l 1 0) 1 g.2, (four_digits (get_or l 2 0) 2 g.3, tt))))
 
-  hold_bytes : (p : List ℕ) (x : Hold) → LegalHold h x → hold_lines x ≡ p ∷ [] → length p + 1 ≤ row_bytes hold_sizes
-  hold_bytes p hold.Unsaid g e = let y : ⊥ = omega (arith, ap length e) in absurd y
-  hold_bytes p (hold.Counts k l m) g e = omega (arith, hold_within k l m g, ap (λ (ls : List (List ℕ)). length (get_or ls 0 [])) e)
+  hold_bytes : (p : List ℕ) (l : List ℕ) → LegalHold h (Some l) → hold_lines l ≡ p ∷ [] → length p + 1 ≤ row_bytes hold_sizes
+  hold_bytes p l g e = omega (arith, hold_within l g, ap (λ (ls : List (List ℕ)). length (get_or ls 0 [])) e)
 
 -- A good line of setting i with the tag g after this header: what it says, that it is written so, and that it adds nothing to what is held
 pub record Said (top : Header) (i g : ℕ) (rs : List Rule) (p : List ℕ) (rec : Record) : Type 0 where
@@ -143,13 +128,13 @@ pub record Said (top : Header) (i g : ℕ) (rs : List Rule) (p : List ℕ) (rec 
   pub holds : (H : Held) (s : Sheet) → holding H s g rs (split 9 p) ≡ H
 
 pub said_line : (i g : ℕ) (limits : Limits) (top : Header) (p : List ℕ) → SettingTag i g
-    → length (split 9 p) ≡ length (rules_of g limits top (split 9 p)) → first_fault (rules_of g limits top (split 9 p)) (split 9 p) ≡ none
+    → length (split 9 p) ≡ length (rules_of g limits top (split 9 p)) → first_fault (rules_of g limits top (split 9 p)) (split 9 p) ≡ None
     → Said top i g (rules_of g limits top (split 9 p)) p (record_of g (split 9 p))
 unfolding rules_of record_of
 said_line i g limits top p (F-tag q r) n e =
     subst⁻¹ (λ (g : ℕ). Said top i g (rules_of g limits top (split 9 p)) p (record_of g (split 9 p))) r
     (record {
-      x = setting.Rounding (choice_of 116 (get_or (split 9 p) 1 []));
+      x = setting.Rounding (letter_in 116 (get_or (split 9 p) 1 []));
       says = refl;
       place = sym q;
       legal = tt;
@@ -159,7 +144,7 @@ said_line i g limits top p (F-tag q r) n e =
 said_line i g limits top p (A-tag q r) n e =
     subst⁻¹ (λ (g : ℕ). Said top i g (rules_of g limits top (split 9 p)) p (record_of g (split 9 p))) r
     (record {
-      x = setting.Start (choice_of 109 (get_or (split 9 p) 1 []));
+      x = setting.Start (letter_in 109 (get_or (split 9 p) 1 []));
       says = refl;
       place = sym q;
       legal = tt;
@@ -200,20 +185,20 @@ round_open true false v h = let y : ⊥ = omega arith in absurd y
 round_open false u v h = let y : ⊥ = omega arith in absurd y
 
 module _ (x : Settings) where
-  pub no-hold : last_said x < 3 → x.hold ≡ hold.Unsaid
-  no-hold h = none_held x.hold (hold_open (no_hold x.hold) (unsaid x.start) (unsaid x.rounding) h)
+  pub no-hold : last_said x < 3 → x.hold ≡ None
+  no-hold h = none_said x.hold (hold_open (is_none x.hold) (is_none x.start) (is_none x.rounding) h)
 
-  pub no_start : last_said x < 2 → x.start ≡ choice.Unsaid
-  no_start h = none_said x.start (start_open (no_hold x.hold) (unsaid x.start) (unsaid x.rounding) h)
+  pub no_start : last_said x < 2 → x.start ≡ None
+  no_start h = none_said x.start (start_open (is_none x.hold) (is_none x.start) (is_none x.rounding) h)
 
-  pub no_rounding : last_said x < 1 → x.rounding ≡ choice.Unsaid
-  no_rounding h = none_said x.rounding (round_open (no_hold x.hold) (unsaid x.start) (unsaid x.rounding) h)
+  pub no_rounding : last_said x < 1 → x.rounding ≡ None
+  no_rounding h = none_said x.rounding (round_open (is_none x.hold) (is_none x.start) (is_none x.rounding) h)
 
 -- a setting that is said is the last that was
-pub now_said : (x : Settings) (z : Setting) (p : List ℕ) → last_said x < place_of z → setting_line z ≡ p ∷ [] → last_said (with_setting x z) ≡ place_of z
-now_said x (setting.Rounding r) p h e = rw (no-hold x (omega arith), no_start x (omega arith), choice_said 70 116 110 p r e)
-now_said x (setting.Start a) p h e = rw (no-hold x (omega arith), choice_said 65 109 111 p a e)
-now_said x (setting.Hold y) p h e = rw (hold_said p y e)
+pub now_said : (x : Settings) (z : Setting) → last_said x < place_of z → last_said (with_setting x z) ≡ place_of z
+now_said x (setting.Rounding r) h = rw (no-hold x (omega arith), no_start x (omega arith))
+now_said x (setting.Start a) h = rw (no-hold x (omega arith))
+now_said x (setting.Hold l) h = refl
 
 -- The most bytes of the settings after place n
 abbrev pub settings_left : ℕ → ℕ
@@ -237,8 +222,8 @@ setting_spent h most (setting.Hold x) g p (suc (suc (suc n))) k e = let y : ⊥ 
 -- The lines of the settings y after place n
 abbrev pub lines_after : ℕ → Settings → List (List ℕ)
 lines_after zero y = setting_lines y
-lines_after (suc zero) y = setting_line (setting.Start y.start) ++ setting_line (setting.Hold y.hold)
-lines_after (suc (suc zero)) y = setting_line (setting.Hold y.hold)
+lines_after (suc zero) y = line_if setting.Start y.start ++ line_if setting.Hold y.hold
+lines_after (suc (suc zero)) y = line_if setting.Hold y.hold
 lines_after (suc (suc (suc n))) y = []
 
 -- y agrees with x up to place n
@@ -249,26 +234,26 @@ pub record Agree (n : ℕ) (x y : Settings) : Type 0 where
 
 -- after the last that was said there is no line
 pub none_after : (x : Settings) → lines_after (last_said x) x ≡ []
-none_after x = three (no_hold x.hold) (unsaid x.start) (unsaid x.rounding) refl refl refl
+none_after x = three (is_none x.hold) (is_none x.start) (is_none x.rounding) refl refl refl
   where
-    three : (w u v : Bool) → no_hold x.hold ≡ w → unsaid x.start ≡ u → unsaid x.rounding ≡ v → lines_after (cond w (cond u (cond v 0 1) 2) 3) x ≡ []
-    three true true true o p q = rw (none_held x.hold o, none_said x.start p, none_said x.rounding q)
-    three true true false o p q = rw (none_held x.hold o, none_said x.start p)
-    three true false v o p q = rw (none_held x.hold o)
+    three : (w u v : Bool) → is_none x.hold ≡ w → is_none x.start ≡ u → is_none x.rounding ≡ v → lines_after (cond w (cond u (cond v 0 1) 2) 3) x ≡ []
+    three true true true o p q = rw (none_said x.hold o, none_said x.start p, none_said x.rounding q)
+    three true true false o p q = rw (none_said x.hold o, none_said x.start p)
+    three true false v o p q = rw (none_said x.hold o)
     three false u v o p q = refl
 
 -- a setting's line, and those after it
 module _ (x y : Settings) (p : List ℕ) where
-  round_line : (n : ℕ) → n < 1 → (r : Choice) → choice_lines 70 116 110 r ≡ p ∷ [] → y.rounding ≡ r → lines_after n y ≡ p ∷ lines_after 1 y
+  round_line : (n : ℕ) → n < 1 → (r : Letter) → choice_lines 70 116 110 r ≡ p ∷ [] → y.rounding ≡ Some r → lines_after n y ≡ p ∷ lines_after 1 y
   round_line zero h r e q = rw (q, e)
   round_line (suc n) h r e q = let b : ⊥ = omega arith in absurd b
 
-  start_line : (n : ℕ) → n < 2 → (n < 1 → y.rounding ≡ choice.Unsaid) → (a : Choice) → choice_lines 65 109 111 a ≡ p ∷ [] → y.start ≡ a → lines_after n y ≡ p ∷ lines_after 2 y
+  start_line : (n : ℕ) → n < 2 → (n < 1 → y.rounding ≡ None) → (a : Letter) → choice_lines 65 109 111 a ≡ p ∷ [] → y.start ≡ Some a → lines_after n y ≡ p ∷ lines_after 2 y
   start_line zero h o a e q = rw (o (omega arith), q, e)
   start_line (suc zero) h o a e q = rw (q, e)
   start_line (suc (suc n)) h o a e q = let b : ⊥ = omega arith in absurd b
 
-  hold_line : (n : ℕ) → n < 3 → (n < 1 → y.rounding ≡ choice.Unsaid) → (n < 2 → y.start ≡ choice.Unsaid) → (w : Hold) → hold_lines w ≡ p ∷ [] → y.hold ≡ w → lines_after n y ≡ p ∷ []
+  hold_line : (n : ℕ) → n < 3 → (n < 1 → y.rounding ≡ None) → (n < 2 → y.start ≡ None) → (w : List ℕ) → hold_lines w ≡ p ∷ [] → y.hold ≡ Some w → lines_after n y ≡ p ∷ []
   hold_line zero h o u w e q = rw (o (omega arith), u (omega arith), q, e)
   hold_line (suc zero) h o u w e q = rw (u (omega arith), q, e)
   hold_line (suc (suc zero)) h o u w e q = rw (q, e)
@@ -287,14 +272,3 @@ module _ (x y : Settings) (p : List ℕ) where
       record { rounding = λ q. g.rounding (omega arith); start = λ q. let b : ⊥ = omega arith in absurd b; hold = λ q. let b : ⊥ = omega arith in absurd b }
   one_kept (setting.Hold w) h g =
       record { rounding = λ q. g.rounding (omega arith); start = λ q. g.start (omega arith); hold = λ q. let b : ⊥ = omega arith in absurd b }
-
--- a setting that has no line leaves the settings
-pub unset : (x : Settings) (z : Setting) → last_said x < place_of z → setting_line z ≡ [] → with_setting x z ≡ x
-unset x (setting.Rounding choice.Unsaid) h e = λ i. record { rounding = sym (no_rounding x h) i; start = x.start; hold = x.hold }
-unset x (setting.Rounding choice.First) h e = let y : ⊥ = omega (arith, ap length e) in absurd y
-unset x (setting.Rounding choice.Second) h e = let y : ⊥ = omega (arith, ap length e) in absurd y
-unset x (setting.Start choice.Unsaid) h e = λ i. record { rounding = x.rounding; start = sym (no_start x h) i; hold = x.hold }
-unset x (setting.Start choice.First) h e = let y : ⊥ = omega (arith, ap length e) in absurd y
-unset x (setting.Start choice.Second) h e = let y : ⊥ = omega (arith, ap length e) in absurd y
-unset x (setting.Hold hold.Unsaid) h e = λ i. record { rounding = x.rounding; start = x.start; hold = sym (no-hold x h) i }
-unset x (setting.Hold (hold.Counts k l m)) h e = let y : ⊥ = omega (arith, ap length e) in absurd y

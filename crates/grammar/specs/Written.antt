@@ -1,11 +1,9 @@
 -- A sheet written as text: the text that reads as it, for every legal sheet (proofs/RoundTrip.antt).
-use Rattle.std.specs.Prelude.{ℕ, ◌*◌, ◌/◌, List, [], ◌∷◌, ◌++◌, map, Bool, true, false, cond, take, drop, ℤ}
+use Rattle.std.specs.Prelude.{ℕ, ◌*◌, ◌/◌, List, [], ◌∷◌, ◌++◌, map, Bool, true, false, cond, take, drop, get_or, ℤ, Option, Some, None}
 use Rattle.text.specs.Written.{weight_text, level_text}
 use Rattle.digits.specs.Written.{decimal, joined, ended}
-use Rattle.contents.specs.declared.Choice.{Choice}
-use Rattle.contents.specs.declared.Choice.TheVariants as choice
-use Rattle.contents.specs.declared.Hold.{Hold}
-use Rattle.contents.specs.declared.Hold.TheVariants as hold
+use Rattle.contents.specs.declared.Letter.{Letter}
+use Rattle.contents.specs.declared.Letter.TheVariants as letters
 use Rattle.contents.specs.declared.Header.{Header}
 use Rattle.contents.specs.declared.Settings.{Settings}
 use Rattle.contents.specs.declared.Channel.{Channel}
@@ -48,28 +46,30 @@ mark_fields m = (78 ∷ []) ∷ decimal m.channel ∷ decimal m.row ∷ decimal 
 abbrev pub end_fields : List (List ℕ)
 end_fields = (69 ∷ []) ∷ []
 
--- the line of a setting with the letters a and b, if there is one
-abbrev pub choice_lines : ℕ → ℕ → ℕ → Choice → List (List ℕ)
-choice_lines tag a b choice.Unsaid = []
-choice_lines tag a b choice.First = joined ((tag ∷ []) ∷ (a ∷ []) ∷ []) ∷ []
-choice_lines tag a b choice.Second = joined ((tag ∷ []) ∷ (b ∷ []) ∷ []) ∷ []
+-- the line of a setting with the letters a and b
+abbrev pub choice_lines : ℕ → ℕ → ℕ → Letter → List (List ℕ)
+choice_lines tag a b letters.First = joined ((tag ∷ []) ∷ (a ∷ []) ∷ []) ∷ []
+choice_lines tag a b letters.Second = joined ((tag ∷ []) ∷ (b ∷ []) ∷ []) ∷ []
 
--- the line of the held counts, if there is one
-abbrev pub hold_fields : ℕ → ℕ → ℕ → List (List ℕ)
-hold_fields k l m = (72 ∷ []) ∷ decimal k ∷ decimal l ∷ decimal m ∷ []
+-- the line of the three held counts
+abbrev pub hold_fields : List ℕ → List (List ℕ)
+hold_fields l = (72 ∷ []) ∷ decimal (get_or l 0 0) ∷ decimal (get_or l 1 0) ∷ decimal (get_or l 2 0) ∷ []
 
-abbrev pub hold_lines : Hold → List (List ℕ)
-hold_lines hold.Unsaid = []
-hold_lines (hold.Counts k l m) = joined (hold_fields k l m) ∷ []
+abbrev pub hold_lines : List ℕ → List (List ℕ)
+hold_lines l = joined (hold_fields l) ∷ []
 
--- the line of a setting, and all settings in their order
+-- the line of a setting, that of one that a line may say, and all settings in their order
 abbrev pub setting_line : Setting → List (List ℕ)
 setting_line (setting.Rounding r) = choice_lines 70 116 110 r
 setting_line (setting.Start a) = choice_lines 65 109 111 a
-setting_line (setting.Hold x) = hold_lines x
+setting_line (setting.Hold l) = hold_lines l
+
+abbrev pub line_if : {A : Type 0} → (A → Setting) → Option A → List (List ℕ)
+line_if make None = []
+line_if make (Some x) = setting_line (make x)
 
 abbrev pub setting_lines : Settings → List (List ℕ)
-setting_lines x = setting_line (setting.Rounding x.rounding) ++ (setting_line (setting.Start x.start) ++ setting_line (setting.Hold x.hold))
+setting_lines x = line_if setting.Rounding x.rounding ++ (line_if setting.Start x.start ++ line_if setting.Hold x.hold)
 
 -- blocks of these kinds, one after the other
 abbrev pub block_lines : List Bool → List ℤ → List ℤ → List (List ℕ)

@@ -1,63 +1,20 @@
 -- Levels as a partner gets them, place by place.
-use Prim.Native.Nat.{ℕ, zero, suc, ◌+◌, ◌-◌, ◌/◌, ◌%◌, ◌^◌, ◌<◌, ◌≤◌}
+use Prim.Native.Nat.{ℕ, zero, suc, ◌+◌, ◌<◌, ◌≤◌}
 use mathlib.Core.Path.{◌≡◌, refl, sym, ap, ◌∙◌}
-use mathlib.Core.List.{List, [], ◌∷◌, ◌++◌, append-nil}
-use mathlib.Core.Bool.{Bool, true, false, not, cond, ◌&&◌}
+use mathlib.Core.List.{List, [], ◌∷◌, ◌++◌}
+use mathlib.Core.Bool.{Bool, true, false, cond}
 use native.Mathlib.Omega.{arith}
 use native.Mathlib.Numerals.{add-one}
-use lib.ListN.{length, get_or, set, take, drop, length-set, drop_of_length-le}
-use lib.Seq.{drop-cons, take_all, set_out}
-use lib.Dec.{eqb}
+use lib.ListN.{length, get_or, set, take, drop, length-set}
+use lib.Seq.{drop-cons}
 use lib.IntN.{ℤ, pos}
-use borrow.Author.Tests.{eq-eqb, ne_eqb}
-use Rattle.contents.specs.declared.Reader.{Reader}
-use Rattle.contents.specs.declared.Reader.TheVariants as reader
-use Rattle.hiding.specs.Shown.{hidden_by, shown_by, shown_to}
-
-no_default : (l : List ℕ) (b : ℕ) → length l ≤ b → ◌≡◌ {A = ℕ} (get_or l b 0) 0
-no_default [] b h = refl
-no_default (x ∷ l) zero h = let y : ⊥ = omega arith in absurd y
-no_default (x ∷ l) (suc b) h = no_default l b (omega arith)
-
-never : (x : Bool) → (x && false) ≡ false
-never true = refl
-never false = refl
-
-module _ (bits : List ℕ) (i : ℕ) where
-  pub first_shown : i % 64 ≡ 0 → false ≡ hidden_by bits i
-  first_shown e = rw (eq-eqb (i % 64) 0 e) (sym (never (not (eqb (get_or bits (i / 64) 0) 0))))
-
-  module _ (n : i % 64 ≡ 0 → ⊥) where
-    pub beyond_shown : length bits ≤ i / 64 → false ≡ hidden_by bits i
-    beyond_shown h = rw (no_default bits (i / 64) h)
-
-    pub bit_hidden : not (eqb (get_or bits (i / 64) 0) 0) ≡ hidden_by bits i
-    bit_hidden = rw (ne_eqb (i % 64) 0 n) (same (not (eqb (get_or bits (i / 64) 0) 0)))
-      where
-        same : (x : Bool) → x ≡ (x && true)
-        same true = refl
-        same false = refl
-
-module _ (x : Bool) (l : List ℤ) (i : ℕ) where
-  pub cleared_not : x ≡ false → l ≡ cond x (set l i (pos 0)) l
-  cleared_not e = rw e
-
-  pub cleared_out : x ≡ true → length l ≤ i → l ≡ cond x (set l i (pos 0)) l
-  cleared_out e h = rw e (sym (set_out l i (pos 0) h))
-
-  pub cleared : x ≡ true → set l i (pos 0) ≡ cond x (set l i (pos 0)) l
-  cleared e = rw e
-
-pub ruleset levels = (first_shown, beyond_shown, bit_hidden, cleared_not, cleared_out, cleared)
+use Rattle.hiding.specs.Shown.{hidden_by, shown_by}
 
 -- The loop: what is shown up to place i, then what is left to show
 pub record Hiding (bits : List ℕ) (all now : List ℤ) (i : ℕ) : Type 0 where
   pub long : length now ≡ length all
   pub upto : i ≤ length now
   pub value : take i now ++ shown_by bits i (drop i now) ≡ shown_by bits 0 all
-
-pub hide_begin : (bits : List ℕ) (all : List ℤ) → Hiding bits all all 0
-hide_begin bits all = record { long = refl; upto = omega arith; value = refl }
 
 -- place i, cleared or not
 module _ (l : List ℤ) (i : ℕ) (k : i < length l) where
@@ -93,13 +50,12 @@ snoc [] z ys = refl
 snoc (x ∷ xs) z ys = ap (λ (r : List ℤ). x ∷ r) (snoc xs z ys)
 
 module _ {bits : List ℕ} {all now : List ℤ} {i : ℕ} (h : Hiding bits all now i) where
-  pub hide_step : i < length now → {x : Bool} → x ≡ hidden_by bits i → {r : ℕ} {after : List ℤ} → (r ≡ i + 1) × (after ≡ cond x (set now i (pos 0)) now) → Hiding bits all after r
-  hide_step k {x} e q =
+  pub hide_step : i < length now → (x : Bool) → x ≡ hidden_by bits i → Hiding bits all (cond x (set now i (pos 0)) now) (i + 1)
+  hide_step k x e =
       let v = cond x (pos 0) (get_or now i (pos 0)) in
       let new : List ℤ = cond x (set now i (pos 0)) now in
       let d : drop i now ≡ get_or now i (pos 0) ∷ drop (suc i) now = drop-cons now i (pos 0) k in
-      rw (q.0, q.1)
-      (record {
+      record {
         long = same_length now i k x ∙ h.long;
         upto = omega (arith, same_length now i k x);
         value =
@@ -110,23 +66,4 @@ module _ {bits : List ℕ} {all now : List ℤ} {i : ℕ} (h : Hiding bits all n
             ∙ ap (λ (y : Bool). take i now ++ cond y (pos 0) (get_or now i (pos 0)) ∷ shown_by bits (suc i) (drop (suc i) now)) e
             ∙ sym (ap (λ (y : List ℤ). take i now ++ shown_by bits i y) d)
             ∙ h.value);
-      })
-
-  pub hide_less : i < length now → (x : Bool) {r : ℕ} {after : List ℤ} → (r ≡ i + 1) × (after ≡ cond x (set now i (pos 0)) now) → length after - r < length now - i
-  hide_less k x q = rw (q.0, q.1, same_length now i k x) (omega arith)
-
-  pub hide_room : i < length now → length all < 2 ^ 64 → i + 1 < 2 ^ 64
-  hide_room k l = omega (arith, h.long)
-
-  pub hide_end : length now ≤ i → now ≡ shown_by bits 0 all
-  hide_end k =
-      sym (append-nil now) ∙ sym (ap (λ (x : List ℤ). x ++ []) (take_all i now k)) ∙ sym (ap (λ (x : List ℤ). take i now ++ shown_by bits i x) (drop_of_length-le now {i = i} k)) ∙ h.value
-
-module _ (who : Reader) (bits : List ℕ) (zs : List ℤ) where
-  pub show_staff : who ≡ reader.Staff → zs ≡ shown_to who bits zs
-  show_staff e = rw e
-
-  pub show_partner : (after : List ℤ) → who ≡ reader.Partner → after ≡ shown_by bits 0 zs → after ≡ shown_to who bits zs
-  show_partner after e q = rw e q
-
-pub ruleset shows = (show_staff, show_partner)
+      }

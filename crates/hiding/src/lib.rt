@@ -1,7 +1,7 @@
 // What a reader gets of the levels of marked blocks.
 #![tactic(auto)]
 
-ghost use Rattle.std.specs.Prelude.{◌≡◌, cond, ◌+◌, ◌^◌, ◌<◌, pos, set};
+ghost use Rattle.std.specs.Prelude.{◌≡◌};
 ghost use Rattle.hiding.specs.Shown.{hidden_by, shown_by, shown_to};
 
 use contents::Reader;
@@ -14,34 +14,17 @@ fn is_hidden(bits: &[u8], i: usize) -> bool
         return false;
     }
     let b = i / 64;
-    if bits.len() <= b {
-        return false;
-    }
-    bits[b] != 0
-}
-
-// A hidden level becomes 0. Returns the next place.
-fn clear_if(hidden: bool, levels: &mut [i16], i: usize) -> usize
-    requires { i + 1 < 2 ^ 64 }
-    ensures { (result ≡ i + 1) × (levels.new ≡ cond hidden (set levels.old i (pos 0)) levels.old) }
-{
-    if hidden {
-        if levels.len() <= i {
-            return i + 1;
-        }
-        levels[i] = 0;
-        return i + 1;
-    }
-    i + 1
+    b < bits.len() && bits[b] != 0
 }
 
 // All levels of a marked block but the first become 0.
 fn hide(bits: &[u8], levels: &mut [i16])
     ensures { levels.new ≡ shown_by bits.now 0 levels.old }
 {
-    let mut i: usize = 0;
-    while i < levels.len() {
-        i = clear_if(is_hidden(bits, i), levels, i);
+    for (i, level) in levels.iter_mut().enumerate() {
+        if is_hidden(bits, i) {
+            *level = 0;
+        }
     }
 }
 

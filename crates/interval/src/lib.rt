@@ -4,27 +4,25 @@
 ghost use Rattle.std.specs.Prelude.{◌≡◌};
 ghost use Rattle.interval.specs.Interval.{whole, lowest, highest, dequantised, clamp_to, outside, mid};
 
-use fold::flags::either;
-
 // A level as f32.
 pub fn whole(level: i16) -> f32
     ensures { result ≡ whole level }
 {
-    level as f32
+    f32::from(level)
 }
 
 // (low - 0.5) * q.
 fn lowest(low: i16, q: u16) -> f32
     ensures { result ≡ lowest low q }
 {
-    (whole(low) - 0.5) * (q as f32)
+    (whole(low) - 0.5) * f32::from(q)
 }
 
 // (high + 0.5) * q.
 fn highest(high: i16, q: u16) -> f32
     ensures { result ≡ highest high q }
 {
-    (whole(high) + 0.5) * (q as f32)
+    (whole(high) + 0.5) * f32::from(q)
 }
 
 // The half sum of a pair of levels. Rules out: a half sum cut to a whole number, and the low level for both.
@@ -38,13 +36,14 @@ pub fn mid(low: i16, high: i16) -> f32
 pub fn dequantised(low: i16, high: i16, q: u16) -> f32
     ensures { result ≡ dequantised (mid low high) q }
 {
-    mid(low, high) * (q as f32)
+    mid(low, high) * f32::from(q)
 }
 
 // A clamped value, and whether the clamp moved it.
 #[derive(Clone, Copy)]
 pub struct Clamped {
     pub value: f32,
+    // Kept: both fields stand after each call, moved or not, so that an enum of two variants would be no plainer: it would say the value twice.
     pub moved: bool,
 }
 
@@ -57,6 +56,6 @@ pub fn clamp_to(low: i16, high: i16, q: u16, x: f32) -> Clamped
     let most = highest(high, q);
     Clamped {
         value: float::clamp(x, least, most),
-        moved: either(x < least, most < x),
+        moved: (x < least) | (most < x),
     }
 }

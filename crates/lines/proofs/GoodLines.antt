@@ -1,9 +1,10 @@
 -- Lines with no fault: each field is good, and what they add to the levels and the tables.
+use Rattle.std.proofs.Common.{Some, None, Option, Result}
+use Rattle.refusal.specs.declared.Refusal.{Refusal}
 use Prim.Native.Nat.{ℕ, zero, suc, ◌<◌, ◌≤◌}
 use mathlib.Core.Path.{◌≡◌, refl, sym, ap, ◌∙◌}
 use mathlib.Core.List.{List, [], ◌∷◌, ◌++◌, append-nil}
 use mathlib.Core.Bool.{Bool, true, false, not, ◌&&◌}
-use mathlib.Core.Option.{Option, none, some}
 use native.Mathlib.Omega.{arith}
 use lib.ListN.{length, get_or, drop, replicate, drop_of_length-le}
 use lib.Seq.{drop-cons}
@@ -22,25 +23,25 @@ use Rattle.contents.specs.Sheets.{lent, Held, held}
 use Rattle.lines.specs.Lines.{factor, own_side, channel_rules, or_else, first_fault, line_adds, kind_of, marks_in, holding}
 use Rattle.contents.specs.Legal.{LegalQuantisers}
 
-pub or_left : (k m : Option ℕ) → or_else k m ≡ none → k ≡ none
-or_left none m e = refl
-or_left (some k) m e = e
+pub or_left : (k m : Option ℕ) → or_else k m ≡ None → k ≡ None
+or_left None m e = refl
+or_left (Some k) m e = e
 
-pub or_right : (k m : Option ℕ) → or_else k m ≡ none → m ≡ none
-or_right none m e = e
-or_right (some k) m e = let z : ◌≡◌ {A = ℕ} 0 1 = cc in let y : ⊥ = omega arith in absurd y
+pub or_right : (k m : Option ℕ) → or_else k m ≡ None → m ≡ None
+or_right None m e = e
+or_right (Some k) m e = let z : ◌≡◌ {A = ℕ} 0 1 = cc in let y : ⊥ = omega arith in absurd y
 
-pub fault_at : (rs : List Rule) (fs : List (List ℕ)) (i : ℕ) → first_fault rs fs ≡ none → i < length rs → i < length fs → fault_in (field_of (get_or rs i (rule.Tag 0)) (get_or fs i [])) ≡ none
+pub fault_at : (rs : List Rule) (fs : List (List ℕ)) (i : ℕ) → first_fault rs fs ≡ None → i < length rs → i < length fs → fault_in (field_of (get_or rs i (rule.Tag 0)) (get_or fs i [])) ≡ None
 fault_at [] fs i e h k = let y : ⊥ = omega arith in absurd y
 fault_at (r ∷ rs) [] i e h k = let y : ⊥ = omega arith in absurd y
 fault_at (r ∷ rs) (f ∷ fs) zero e h k = or_left (fault_in (field_of r f)) (first_fault rs fs) e
 fault_at (r ∷ rs) (f ∷ fs) (suc i) e h k = fault_at rs fs i (or_right (fault_in (field_of r f)) (first_fault rs fs) e) (omega arith) (omega arith)
 
-fault_nil : (rs : List Rule) → first_fault rs [] ≡ none
+fault_nil : (rs : List Rule) → first_fault rs [] ≡ None
 fault_nil [] = refl
 fault_nil (r ∷ rs) = refl
 
-pub fault_drop : (i : ℕ) (rs : List Rule) (fs : List (List ℕ)) → first_fault rs fs ≡ none → first_fault (drop i rs) (drop i fs) ≡ none
+pub fault_drop : (i : ℕ) (rs : List Rule) (fs : List (List ℕ)) → first_fault rs fs ≡ None → first_fault (drop i rs) (drop i fs) ≡ None
 fault_drop zero rs fs e = e
 fault_drop (suc i) [] fs e = refl
 fault_drop (suc i) (r ∷ rs) [] e = fault_nil (drop i rs)
@@ -52,7 +53,7 @@ abbrev pub none_of : (Rule → Bool) → List Rule → Bool
 none_of adds [] = true
 none_of adds (r ∷ rs) = not (adds r) && none_of adds rs
 
-module _ {A : Type 0} (add : Field → List A) (adds : Rule → Bool) (none : (r : Rule) (f : List ℕ) → adds r ≡ false → add (field_of r f) ≡ []) where
+module _ {A : Type 0} (add : Result Field Refusal → List A) (adds : Rule → Bool) (None : (r : Rule) (f : List ℕ) → adds r ≡ false → add (field_of r f) ≡ []) where
   adds_nil : (rs : List Rule) → line_adds add rs [] ≡ []
   adds_nil [] = refl
   adds_nil (r ∷ rs) = refl
@@ -61,7 +62,7 @@ module _ {A : Type 0} (add : Field → List A) (adds : Rule → Bool) (none : (r
   adds_skip [] qs fs e = refl
   adds_skip (r ∷ rs) qs [] e = sym (adds_nil qs)
   adds_skip (r ∷ rs) qs (f ∷ fs) e =
-      rw (none r f (not-true (adds r) (both_left (not (adds r)) (none_of adds rs) e))) (adds_skip rs qs fs (both_right (not (adds r)) (none_of adds rs) e))
+      rw (None r f (not-true (adds r) (both_left (not (adds r)) (none_of adds rs) e))) (adds_skip rs qs fs (both_right (not (adds r)) (none_of adds rs) e))
 
   adds_none : (rs : List Rule) (fs : List (List ℕ)) → none_of adds rs ≡ true → line_adds add rs fs ≡ []
   adds_none rs fs e = sym (ap (λ (x : List Rule). line_adds add x fs) (append-nil rs)) ∙ adds_skip rs [] fs e
@@ -106,7 +107,7 @@ holds_table H s fs =
 
 -- A run of quantisers
 
-pub all_quantisers : (n : ℕ) (fs : List (List ℕ)) → length fs ≡ n → first_fault (replicate n rule.Quantiser) fs ≡ none
+pub all_quantisers : (n : ℕ) (fs : List (List ℕ)) → length fs ≡ n → first_fault (replicate n rule.Quantiser) fs ≡ None
     → LegalQuantisers (line_adds tables_in (replicate n rule.Quantiser) fs) × (length (line_adds tables_in (replicate n rule.Quantiser) fs) ≡ n)
 all_quantisers zero [] h e = (tt, refl)
 all_quantisers zero (f ∷ fs) h e = let y : ⊥ = omega arith in absurd y

@@ -1,7 +1,7 @@
 -- The lines of a sheet: the rule of each field, left to right, and what a good line says.
--- Tags are S (83), F (70), A (65), H (72), C (67), B (66), G (71), N (78) and E (69).
-use Rattle.std.specs.Prelude.{ℕ, zero, suc, List, [], ◌∷◌, ◌++◌, Bool, true, false, cond, length, get_or, drop, replicate, eqb}
-use Rattle.std.proofs.Math.Option.{Option, none, some}
+use Rattle.refusal.specs.declared.Refusal.{Refusal}
+use Rattle.refusal.specs.declared.Refusal.TheVariants as refusal
+use Rattle.std.specs.Prelude.{ℕ, zero, suc, List, [], ◌∷◌, ◌++◌, Bool, true, false, cond, length, get_or, drop, replicate, eqb, Some, None, Option, Result}
 use Rattle.text.specs.declared.field.Rule.{Rule}
 use Rattle.text.specs.declared.field.Rule.TheVariants as rule
 use Rattle.text.specs.declared.field.Field.{Field}
@@ -10,10 +10,10 @@ use Rattle.text.specs.Weights.{weight_at}
 use Rattle.text.specs.Levels.{level_of, level_value}
 use Rattle.text.specs.Fields.{letter, field_of, fault_in, lows_in, highs_in, tables_in}
 use Rattle.contents.specs.declared.Limits.{Limits}
-use Rattle.contents.specs.declared.Choice.{Choice}
-use Rattle.contents.specs.declared.Choice.TheVariants as choice
-use Rattle.contents.specs.declared.Hold.{Hold}
-use Rattle.contents.specs.declared.Hold.TheVariants as hold
+use Rattle.contents.specs.declared.Letter.{Letter}
+use Rattle.contents.specs.declared.Letter.TheVariants as letters
+use Rattle.lines.specs.declared.Tag.{Tag}
+use Rattle.lines.specs.declared.Tag.TheVariants as tags
 use Rattle.contents.specs.declared.Header.{Header}
 use Rattle.contents.specs.declared.Channel.{Channel}
 use Rattle.contents.specs.declared.Mark.{Mark}
@@ -25,13 +25,25 @@ use Rattle.contents.specs.Sheets.{lent, Marked, marked, Held, held}
 use Rattle.contents.specs.Marks.{block_of}
 use Rattle.contents.specs.Hold.{measured}
 
+-- a line's letter: S (83), F (70), A (65), H (72), C (67), B (66), G (71), N (78) or E (69)
+abbrev pub letter_of : Tag → ℕ
+letter_of tags.Header = 83
+letter_of tags.Rounding = 70
+letter_of tags.Start = 65
+letter_of tags.Hold = 72
+letter_of tags.Channel = 67
+letter_of tags.Block = 66
+letter_of tags.Range = 71
+letter_of tags.Mark = 78
+letter_of tags.End = 69
+
 -- "three iteration counts (0 to 1,000)", by the caller's limit
 abbrev pub count : Limits → Rule
 count limits = rule.Count limits.iterations
 
 -- "across and down factors (1 to 4)", else 3
 abbrev pub factor : Rule
-factor = rule.Range 3 1 4
+factor = rule.Range refusal.Factor 1 4
 
 -- "own width w and height h (multiples of 8, at least 8)", else 2: a number has at most six digits, so 999,999 is no bound
 abbrev pub own_side : Rule
@@ -49,7 +61,7 @@ abbrev pub header_rules : Limits → List (List ℕ) → List Rule
 header_rules limits fs =
     rule.Tag 83
     ∷ rule.Side limits.side ∷ rule.Side limits.side
-    ∷ rule.Range 2 1 (number_at fs 1) ∷ rule.Range 2 1 (number_at fs 2)
+    ∷ rule.Range refusal.Size 1 (number_at fs 1) ∷ rule.Range refusal.Size 1 (number_at fs 2)
     ∷ rule.Channels ∷ mode
     ∷ count limits ∷ count limits ∷ count limits
     ∷ replicate 6 rule.Weight
@@ -69,7 +81,7 @@ start_rules = choice_rules 65 109 111
 -- "A line `H` with three step counts"; "17 "hold", a count above the iterations, at its field", by the iterations that it is measured
 -- against (M-108). A number is at least 0.
 abbrev pub held_most : Header → ℕ → Rule
-held_most h c = rule.Range 17 0 (measured h c)
+held_most h c = rule.Range refusal.Hold 0 (measured h c)
 
 abbrev pub hold_rules : Header → List Rule
 hold_rules h = rule.Tag 72 ∷ held_most h 0 ∷ held_most h 1 ∷ held_most h 2 ∷ []
@@ -94,7 +106,7 @@ range_rules fs = rule.Tag 71 ∷ pair_rules 64 (drop 1 fs)
 -- "A line `N` with channel, block row and block column (from 0)" (M-110): "after the whole line's form" it is seen whether there is such
 -- a block, so here any number will do, and a number has at most six digits
 abbrev pub any_number : Rule
-any_number = rule.Range 1 0 999999
+any_number = rule.Range refusal.Form 0 999999
 
 abbrev pub mark_rules : List Rule
 mark_rules = rule.Tag 78 ∷ any_number ∷ any_number ∷ any_number ∷ []
@@ -121,20 +133,20 @@ field_count tag = cond (eqb tag 66) 65 (cond (eqb tag 71) 129 (cond (eqb tag 67)
 
 -- "fields left to right": the fault of the first bad field, if there is one
 abbrev pub or_else : Option ℕ → Option ℕ → Option ℕ
-or_else (some k) later = some k
-or_else none later = later
+or_else (Some k) later = Some k
+or_else None later = later
 
 abbrev pub first_fault : List Rule → List (List ℕ) → Option ℕ
-first_fault [] fs = none
-first_fault (r ∷ rs) [] = none
+first_fault [] fs = None
+first_fault (r ∷ rs) [] = None
 first_fault (r ∷ rs) (f ∷ fs) = or_else (fault_in (field_of r f)) (first_fault rs fs)
 
 -- "then tag and field count (1), then fields left to right": a tag is its line's first field, so both are 1
 unfoldable pub fields_fault : List Rule → List (List ℕ) → Option ℕ
-fields_fault rs fs = cond (eqb (length fs) (length rs)) (first_fault rs fs) (some 1)
+fields_fault rs fs = cond (eqb (length fs) (length rs)) (first_fault rs fs) (Some 1)
 
 -- What a line adds, field by field: to the lows, highs or tables, "values row by row"
-abbrev pub line_adds : {A : Type 0} → (Field → List A) → List Rule → List (List ℕ) → List A
+abbrev pub line_adds : {A : Type 0} → (Result Field Refusal → List A) → List Rule → List (List ℕ) → List A
 line_adds add [] fs = []
 line_adds add (r ∷ rs) [] = []
 line_adds add (r ∷ rs) (f ∷ fs) = add (field_of r f) ++ line_adds add rs fs
@@ -183,17 +195,17 @@ unfoldable pub channel_of : List (List ℕ) → Channel
 channel_of fs = record { width = number_at fs 1; height = number_at fs 2; across = number_at fs 3; down = number_at fs 4 }
 
 -- a setting's letter: a, or the other
-abbrev pub choice_of : ℕ → List ℕ → Choice
-choice_of a f = cond (letter a f) choice.First choice.Second
+abbrev pub letter_in : ℕ → List ℕ → Letter
+letter_in a f = cond (letter a f) letters.First letters.Second
 
-unfoldable pub hold_of : List (List ℕ) → Hold
-hold_of fs = hold.Counts (number_at fs 1) (number_at fs 2) (number_at fs 3)
+unfoldable pub hold_of : List (List ℕ) → List ℕ
+hold_of fs = number_at fs 1 ∷ number_at fs 2 ∷ number_at fs 3 ∷ []
 
 unfoldable pub record_of : ℕ → List (List ℕ) → Record
 record_of tag fs =
     cond (eqb tag 83) (line.Header (header_of fs))
     (cond (eqb tag 67) (line.Channel (channel_of fs))
-    (cond (eqb tag 70) (line.Setting (setting.Rounding (choice_of 116 (get_or fs 1 []))))
-    (cond (eqb tag 65) (line.Setting (setting.Start (choice_of 109 (get_or fs 1 []))))
+    (cond (eqb tag 70) (line.Setting (setting.Rounding (letter_in 116 (get_or fs 1 []))))
+    (cond (eqb tag 65) (line.Setting (setting.Start (letter_in 109 (get_or fs 1 []))))
     (cond (eqb tag 72) (line.Setting (setting.Hold (hold_of fs)))
     (cond (eqb tag 78) (line.Mark (mark_of fs)) line.Block)))))

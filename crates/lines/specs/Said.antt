@@ -1,5 +1,6 @@
 -- What the field before a field said: by it the rule of a high has its low.
-use Rattle.std.specs.Prelude.{ℕ, zero, suc, ◌%◌, List, [], cond, eqb, ℤ, pos, get_or}
+use Rattle.std.specs.Prelude.{ℕ, zero, suc, ◌%◌, List, [], cond, eqb, ℤ, pos, get_or, Ok, Result}
+use Rattle.refusal.specs.declared.Refusal.{Refusal}
 use Rattle.text.specs.declared.field.Rule.{Rule}
 use Rattle.text.specs.declared.field.Rule.TheVariants as rule
 use Rattle.text.specs.declared.field.Field.{Field}
@@ -7,13 +8,12 @@ use Rattle.text.specs.declared.field.Field.TheVariants as field
 use Rattle.text.specs.Fields.{field_of}
 
 -- What the field before field i said; before the first there is none
-abbrev pub said_before : List Rule → List (List ℕ) → ℕ → Field
-said_before rs fs zero = field.Good
+abbrev pub said_before : List Rule → List (List ℕ) → ℕ → Result Field Refusal
+said_before rs fs zero = Ok field.Good
 said_before rs fs (suc i) = field_of (get_or rs i (rule.Tag 0)) (get_or fs i [])
 
 -- The rule of field i of a line `G`, by what the field before it said
 abbrev pub low_said : Field → ℤ
-low_said (field.Bad k) = pos 0
 low_said (field.Quantiser q) = pos 0
 low_said (field.Level z) = pos 0
 low_said (field.Low z) = z

@@ -1,25 +1,26 @@
 // The lines: the rule of each field, and what a good line holds.
 #![tactic(auto)]
 
-ghost use Rattle.std.specs.Prelude.{◌≡◌, [], ◌<◌, get_or};
+ghost use Rattle.std.specs.Prelude.{◌≡◌, [], ◌<◌, get_or, Ok};
 ghost use Rattle.text.specs.Pieces.{split};
-ghost use Rattle.lines.specs.Lines.{header_rules, choice_rules, choice_of, hold_rules, hold_of, mark_rules, mark_of, channel_rules, block_rules, rules_of, field_count, header_of, channel_of, record_of};
-ghost use Rattle.lines.specs.Said.{said_before, range_rule};
+ghost use Rattle.lines.specs.Lines.{header_rules, choice_rules, letter_of, letter_in, hold_rules, hold_of, mark_rules, mark_of, channel_rules, block_rules, rules_of, field_count, header_of, channel_of, record_of};
+ghost use Rattle.lines.specs.Said.{said_before, low_said, range_rule};
 
-use contents::{Channel, Choice, Header, Hold, Limits, Mark, measured_by};
+use contents::{Channel, Header, Letter, Limits, Mark, measured_by};
+use refusal::Refusal;
 use text::field::{Field, Rule};
 use text::{field, number, weight};
 
 // A setting's line: F, A or H.
-#[derive(Clone, Copy)]
+#[derive(Clone, Copy, Debug, PartialEq, Eq)]
 pub enum Setting {
-    Rounding(Choice),
-    Start(Choice),
-    Hold(Hold),
+    Rounding(Letter),
+    Start(Letter),
+    Hold([u32; 3]),
 }
 
 // A line as read. Quantisers and levels go to the buffers.
-#[derive(Clone, Copy)]
+#[derive(Clone, Copy, Debug, PartialEq, Eq)]
 pub enum Record {
     Header(Header),
     Setting(Setting),
@@ -28,91 +29,92 @@ pub enum Record {
     Mark(Mark),
 }
 
-// How many fields a line has.
-pub fn field_count(tag: u8) -> usize
-    ensures { result ≡ field_count tag }
-{
-    if tag == b'S' {
-        return 16;
-    }
-    if tag == b'C' {
-        return 69;
-    }
-    if tag == b'B' {
-        return 65;
-    }
-    if tag == b'G' {
-        return 129;
-    }
-    if tag == b'F' {
-        return 2;
-    }
-    if tag == b'A' {
-        return 2;
-    }
-    if tag == b'H' {
-        return 4;
-    }
-    if tag == b'N' {
-        return 4;
-    }
-    1
+// The kinds of lines: S; the settings F, A and H; C; a block's B or G; N; and E.
+#[derive(Clone, Copy, Debug, PartialEq, Eq)]
+pub enum Tag {
+    Header,
+    Rounding,
+    Start,
+    Hold,
+    Channel,
+    Block,
+    Range,
+    Mark,
+    End,
 }
 
+impl Tag {
+    // Its letter, the line's first field.
+    // Ruled out: B for a block with ranges; a small letter.
+    pub fn letter(self) -> u8
+        ensures { result ≡ letter_of self }
+    {
+        match self {
+            Tag::Header => b'S',
+            Tag::Rounding => b'F',
+            Tag::Start => b'A',
+            Tag::Hold => b'H',
+            Tag::Channel => b'C',
+            Tag::Block => b'B',
+            Tag::Range => b'G',
+            Tag::Mark => b'N',
+            Tag::End => b'E',
+        }
+    }
+}
+
+// How many fields a line has.
+// Ruled out: the fields after the tag alone; 65 for a block with ranges.
+#[tactic(auto, unfolding(crate::specs::Lines::field_count))]
+pub fn field_count(tag: Tag) -> usize
+    ensures { result ≡ field_count (letter_of tag) }
+{
+    match tag {
+        Tag::Header => 16,
+        Tag::Rounding | Tag::Start => 2,
+        Tag::Hold | Tag::Mark => 4,
+        Tag::Channel => 69,
+        Tag::Block => 65,
+        Tag::Range => 129,
+        Tag::End => 1,
+    }
+}
+
+#[tactic(auto, using(crate::proofs::LineLaws::rules))]
 fn header_rule(i: usize, limits: Limits, row: &[u8]) -> Rule
     requires { i < 16 }
     ensures { result ≡ get_or (header_rules limits (split 9 row.now)) i (Rule.Tag 0) }
 {
-    if i == 0 {
-        return Rule::Tag(b'S');
-    }
-    if i <= 2 {
-        return Rule::Side(limits.side);
-    }
-    if i == 3 {
-        return Rule::Range {
-            fault: 2,
+    match i {
+        0 => Rule::Tag(b'S'),
+        1 | 2 => Rule::Side(limits.side),
+        3 | 4 => Rule::Range {
+            fault: Refusal::Size,
             low: 1,
-            high: number::number_at(row, 1),
-        };
+            high: number::number_at(row, i - 2),
+        },
+        5 => Rule::Channels,
+        6 => Rule::Letters(b'j', b's'),
+        7..=9 => Rule::Count(limits.iterations),
+        _ => Rule::Weight,
     }
-    if i == 4 {
-        return Rule::Range {
-            fault: 2,
-            low: 1,
-            high: number::number_at(row, 2),
-        };
-    }
-    if i == 5 {
-        return Rule::Channels;
-    }
-    if i == 6 {
-        return Rule::Letters(b'j', b's');
-    }
-    if i <= 9 {
-        return Rule::Count(limits.iterations);
-    }
-    Rule::Weight
 }
 
+#[tactic(auto, using(crate::proofs::LineLaws::rules))]
 fn channel_rule(i: usize) -> Rule
     requires { i < 69 }
     ensures { result ≡ get_or channel_rules i (Rule.Tag 0) }
 {
-    if i == 0 {
-        return Rule::Tag(b'C');
-    }
-    if i <= 2 {
-        return Rule::Side(999999);
-    }
-    if i <= 4 {
-        return Rule::Range {
-            fault: 3,
+    match i {
+        0 => Rule::Tag(b'C'),
+        1 | 2 => Rule::Side(999999),
+        3 | 4 => Rule::Range {
+            fault: Refusal::Factor,
             low: 1,
             high: 4,
-        };
+        },
+        _ => Rule::Quantiser,
     }
-    Rule::Quantiser
 }
 
 fn block_rule(i: usize) -> Rule
@@ -120,6 +122,16 @@ fn block_rule(i: usize) -> Rule
     ensures { result ≡ get_or block_rules i (Rule.Tag 0) }
 {
     if i == 0 { Rule::Tag(b'B') } else { Rule::Level }
+}
+
+// The low that a field said; 0 where it said another thing.
+fn low_said(last: Field) -> i16
+    ensures { result ≡ low_said last }
+{
+    match last {
+        Field::Low(z) => z,
+        Field::Quantiser(_) | Field::Level(_) | Field::High(_) | Field::Good => 0,
+    }
 }
 
 // A block with 64 pairs: tag, then low and high by turns. A high's rule has the low before it.
@@ -132,10 +144,7 @@ fn range_rule(i: usize, last: Field) -> Rule
     if i % 2 == 1 {
         return Rule::Low;
     }
-    let Field::Low(z) = last else {
-        return Rule::High(0);
-    };
-    Rule::High(z)
+    Rule::High(low_said(last))
 }
 
 // A setting with one of two letters.
@@ -144,12 +153,14 @@ fn choice_rule(i: usize, tag: u8, a: u8, b: u8) -> Rule
     ensures { result ≡ get_or (choice_rules tag a b) i (Rule.Tag 0) }
 {
     if i == 0 {
-        return Rule::Tag(tag);
+        Rule::Tag(tag)
+    } else {
+        Rule::Letters(a, b)
     }
-    Rule::Letters(a, b)
 }
 
 // Three held counts, each against its iteration count.
+#[tactic(auto, using(crate::proofs::LineLaws::rules))]
 fn hold_rule(i: usize, header: Header) -> Rule
     requires { i < 4 }
     ensures { result ≡ get_or (hold_rules header) i (Rule.Tag 0) }
@@ -157,28 +168,15 @@ fn hold_rule(i: usize, header: Header) -> Rule
     if i == 0 {
         return Rule::Tag(b'H');
     }
-    if i == 1 {
-        return Rule::Range {
-            fault: 17,
-            low: 0,
-            high: measured_by(header, 0),
-        };
-    }
-    if i == 2 {
-        return Rule::Range {
-            fault: 17,
-            low: 0,
-            high: measured_by(header, 1),
-        };
-    }
     Rule::Range {
-        fault: 17,
+        fault: Refusal::Hold,
         low: 0,
-        high: measured_by(header, 2),
+        high: measured_by(header, (i - 1) as u32),
     }
 }
 
 // A mark: three numbers, with no range of their own.
+#[tactic(auto, using(crate::proofs::LineLaws::rules))]
 fn mark_rule(i: usize) -> Rule
     requires { i < 4 }
     ensures { result ≡ get_or mark_rules i (Rule.Tag 0) }
@@ -187,44 +185,32 @@ fn mark_rule(i: usize) -> Rule
         return Rule::Tag(b'N');
     }
     Rule::Range {
-        fault: 1,
+        fault: Refusal::Form,
         low: 0,
         high: 999999,
     }
 }
 
 // The rule of field i of a line after this header. The field before it said `last`, so that a rule can depend on it and nothing is read twice.
-pub fn rule_at(tag: u8, i: usize, limits: Limits, header: Header, last: Field, row: &[u8]) -> Rule
-    requires { (i < field_count tag) × (last ≡ said_before (rules_of tag limits header (split 9 row.now)) (split 9 row.now) i) }
-    ensures { result ≡ get_or (rules_of tag limits header (split 9 row.now)) i (Rule.Tag 0) }
+#[tactic(auto, unfolding(crate::specs::Lines::rules_of, crate::specs::Lines::field_count))]
+pub fn rule_at(tag: Tag, i: usize, limits: Limits, header: Header, last: Field, row: &[u8]) -> Rule
+    requires { (i < field_count (letter_of tag)) × (Ok last ≡ said_before (rules_of (letter_of tag) limits header (split 9 row.now)) (split 9 row.now) i) }
+    ensures { result ≡ get_or (rules_of (letter_of tag) limits header (split 9 row.now)) i (Rule.Tag 0) }
 {
-    if tag == b'B' {
-        return block_rule(i);
+    match tag {
+        Tag::Header => header_rule(i, limits, row),
+        Tag::Rounding => choice_rule(i, b'F', b't', b'n'),
+        Tag::Start => choice_rule(i, b'A', b'm', b'o'),
+        Tag::Hold => hold_rule(i, header),
+        Tag::Channel => channel_rule(i),
+        Tag::Block => block_rule(i),
+        Tag::Range => range_rule(i, last),
+        Tag::Mark => mark_rule(i),
+        Tag::End => Rule::Tag(b'E'),
     }
-    if tag == b'G' {
-        return range_rule(i, last);
-    }
-    if tag == b'C' {
-        return channel_rule(i);
-    }
-    if tag == b'S' {
-        return header_rule(i, limits, row);
-    }
-    if tag == b'F' {
-        return choice_rule(i, b'F', b't', b'n');
-    }
-    if tag == b'A' {
-        return choice_rule(i, b'A', b'm', b'o');
-    }
-    if tag == b'H' {
-        return hold_rule(i, header);
-    }
-    if tag == b'N' {
-        return mark_rule(i);
-    }
-    Rule::Tag(b'E')
 }
 
+#[tactic(auto, unfolding(crate::specs::Lines::header_of))]
 fn header_of(row: &[u8]) -> Header
     ensures { result ≡ header_of (split 9 row.now) }
 {
@@ -253,6 +239,7 @@ fn header_of(row: &[u8]) -> Header
     }
 }
 
+#[tactic(auto, unfolding(crate::specs::Lines::channel_of))]
 fn channel_of(row: &[u8]) -> Channel
     ensures { result ≡ channel_of (split 9 row.now) }
 {
@@ -265,25 +252,28 @@ fn channel_of(row: &[u8]) -> Channel
 }
 
 // Is field i the letter a, or the other?
-fn choice_at(row: &[u8], i: usize, a: u8) -> Choice
-    ensures { result ≡ choice_of a (get_or (split 9 row.now) i []) }
+fn letter_in(row: &[u8], i: usize, a: u8) -> Letter
+    ensures { result ≡ letter_in a (get_or (split 9 row.now) i []) }
 {
     if field::letter_at(row, i, a) {
-        return Choice::First;
+        Letter::First
+    } else {
+        Letter::Second
     }
-    Choice::Second
 }
 
-fn hold_of(row: &[u8]) -> Hold
+#[tactic(auto, unfolding(crate::specs::Lines::hold_of))]
+fn hold_of(row: &[u8]) -> [u32; 3]
     ensures { result ≡ hold_of (split 9 row.now) }
 {
-    Hold::Counts(
+    [
         number::number_at(row, 1),
         number::number_at(row, 2),
         number::number_at(row, 3),
-    )
+    ]
 }
 
+#[tactic(auto, unfolding(crate::specs::Lines::mark_of))]
 fn mark_of(row: &[u8]) -> Mark
     ensures { result ≡ mark_of (split 9 row.now) }
 {
@@ -295,26 +285,17 @@ fn mark_of(row: &[u8]) -> Mark
 }
 
 // What a good line holds.
-pub fn record_of(tag: u8, row: &[u8]) -> Record
-    ensures { result ≡ record_of tag (split 9 row.now) }
+#[tactic(auto, unfolding(crate::specs::Lines::record_of))]
+pub fn record_of(tag: Tag, row: &[u8]) -> Record
+    ensures { result ≡ record_of (letter_of tag) (split 9 row.now) }
 {
-    if tag == b'S' {
-        return Record::Header(header_of(row));
+    match tag {
+        Tag::Header => Record::Header(header_of(row)),
+        Tag::Rounding => Record::Setting(Setting::Rounding(letter_in(row, 1, b't'))),
+        Tag::Start => Record::Setting(Setting::Start(letter_in(row, 1, b'm'))),
+        Tag::Hold => Record::Setting(Setting::Hold(hold_of(row))),
+        Tag::Channel => Record::Channel(channel_of(row)),
+        Tag::Mark => Record::Mark(mark_of(row)),
+        Tag::Block | Tag::Range | Tag::End => Record::Block,
     }
-    if tag == b'C' {
-        return Record::Channel(channel_of(row));
-    }
-    if tag == b'F' {
-        return Record::Setting(Setting::Rounding(choice_at(row, 1, b't')));
-    }
-    if tag == b'A' {
-        return Record::Setting(Setting::Start(choice_at(row, 1, b'm')));
-    }
-    if tag == b'H' {
-        return Record::Setting(Setting::Hold(hold_of(row)));
-    }
-    if tag == b'N' {
-        return Record::Mark(mark_of(row));
-    }
-    Record::Block
 }

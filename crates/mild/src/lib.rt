@@ -8,7 +8,6 @@ ghost use Rattle.record.specs.Model.{sheet_of};
 ghost use Rattle.mild.specs.Mild.{light};
 ghost use Rattle.mild.specs.Checked.{Tells};
 
-use fold::flags::both;
 use record::Run;
 use record::legal::legal;
 
@@ -24,12 +23,7 @@ fn weights_ok(run: Run) -> bool
     requires { run.count ≤ 3 }
     ensures { result ≡ every run.count (λ c. light (own (sheet_of run) c).data_weight) }
 {
-    let mut ok = true;
-    for c in 0..run.count as usize {
-        let x = run.channels[c];
-        ok = both(ok, light_ok(x.weight));
-    }
-    ok
+    run.channels().iter().all(|x| light_ok(x.weight))
 }
 
 // Whether the record is legal, has at most 20 iterations and weights of at most 1. Then no call on its runs answers that a channel is blown.
@@ -37,9 +31,5 @@ fn weights_ok(run: Run) -> bool
 pub fn never_blows(run: Run) -> bool
     ensures { Tells run result }
 {
-    if !legal(run) {
-        return false;
-    }
-    let numbers = both(run.n <= 20, light_ok(run.smoothing));
-    both(numbers, weights_ok(run))
+    legal(run) && ((run.n <= 20) & light_ok(run.smoothing) & weights_ok(run))
 }

@@ -1,17 +1,18 @@
-// One call of any job, by the job's number and the channel's: for the crates that make many calls. The public calls are those of `run`.
+// One call of any job, by the job and the channel's number: for the crates that make many calls. The public calls are those of `run`.
 #![tactic(auto)]
 
-ghost use Rattle.std.specs.Prelude.{◌<◌};
 ghost use Rattle.start.specs.Coef.{pairs};
+ghost use Rattle.record.specs.Model.{turn_of};
 ghost use Rattle.numbered.specs.Numbered.{NumberedIs};
 
-use record::{Answered, Run};
+use record::{Accepted, Job, Run};
+use refusal::Refusal;
+use run::values::{blend, data, move_plane, project, push};
 
-// The call of job 0 push, 1 data, 2 blend, 3 move or 4 project, lent all that any of them is lent. It is asked for a job's number
-// only. Rules out: the job of another number made.
+// The call of a job, lent all that any of them is lent. Rules out: another job's call made, and the call of another channel.
 pub fn job_value(
-    run: Run,
-    job: u8,
+    run: &mut Run,
+    job: Job,
     c: u32,
     lows: &[i16],
     highs: &[i16],
@@ -22,24 +23,17 @@ pub fn job_value(
     across: &mut [f32],
     down: &mut [f32],
     saved: &mut [f32],
-) -> Answered
-    requires { job < 5 }
-    ensures { NumberedIs run job c (pairs lows.now highs.now) tables.now
+) -> Result<Accepted, Refusal>
+    ensures { NumberedIs run.old (turn_of job) c (pairs lows.now highs.now) tables.now
         (record { plane = plane.old; prior = prior.old; gradient = gradient.old; across = across.old; down = down.old; saved = saved.old })
-        result.answer result.run
+        result run.new
         (record { plane = plane.new; prior = prior.new; gradient = gradient.new; across = across.new; down = down.new; saved = saved.new }) }
 {
-    if job == 0 {
-        return run::values::push_value(run, c, plane, prior);
+    match job {
+        Job::Push => push(run, c, plane, prior),
+        Job::Data => data(run, c, lows, highs, tables, gradient, saved),
+        Job::Blend => blend(run, plane, gradient, across, down),
+        Job::Move => move_plane(run, c, plane, gradient),
+        Job::Project => project(run, c, lows, highs, tables, plane, across, down, saved),
     }
-    if job == 1 {
-        return run::values::data_value(run, c, lows, highs, tables, gradient, &saved[..]);
-    }
-    if job == 2 {
-        return run::values::blend_value(run, &plane[..], gradient, across, down);
-    }
-    if job == 3 {
-        return run::values::move_value(run, c, plane, &gradient[..]);
-    }
-    run::values::project_value(run, c, lows, highs, tables, plane, across, down, saved)
 }

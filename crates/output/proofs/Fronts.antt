@@ -1,11 +1,10 @@
 -- Texts written to a lent buffer, one after the other.
 use mathlib.Core.Path.{◌≡◌, refl, sym, ap, ◌∙◌}
 use mathlib.Core.List.{List, [], ◌∷◌, ◌++◌, append_assoc}
-use Prim.Native.Nat.{ℕ, ◌+◌, ◌<◌, ◌≤◌}
-use native.Mathlib.Numerals.{add-one}
+use Prim.Native.Nat.{ℕ, ◌+◌, ◌-◌, ◌≤◌}
 use native.Mathlib.Omega.{arith}
-use lib.ListN.{length, take, drop, set, length-append, length-drop, take-append-drop}
-use lib.Seq.{length-take-le, take_at, drop_at, drop-drop, set_split}
+use lib.ListN.{length, take, drop, length-append, length-drop, take-append-drop}
+use lib.Seq.{sets, sets-eq, length-take-le, take_at, drop_at, drop-drop}
 use Rattle.output.specs.Output.{Wrote}
 
 module _ {a k : ℕ} {s xs x : List ℕ} (w : Wrote a s xs k x) (h : k ≤ length xs) where
@@ -33,9 +32,15 @@ module _ {a k : ℕ} {s xs x : List ℕ} (w : Wrote a s xs k x) (h : k ≤ lengt
 pub wrote_none : (a : ℕ) (xs : List ℕ) → Wrote a [] xs a xs
 wrote_none a xs = record { count = omega arith; bytes = sym (take-append-drop a xs) }
 
--- a byte stored
-pub wrote_byte : (k v : ℕ) (xs : List ℕ) → k < length xs → Wrote k (v ∷ []) xs (k + 1) (set xs k v)
-wrote_byte k v xs h = record { count = refl; bytes = rw add-one (set_split xs k v h) }
+-- a text that was put where there is room
+put_part : (text before : List ℕ) (at : ℕ) → length text ≤ length before - at → sets before at text ≡ take at before ++ (text ++ drop (at + length text) before)
+put_part [] before at h = let e : at + 0 ≡ at = omega arith in rw e (sym (take-append-drop at before))
+put_part (x ∷ text) before at h =
+    sets-eq (x ∷ text) before at (omega arith) ∙ append_assoc (take at before) (x ∷ text) (drop (at + length (x ∷ text)) before)
+
+pub wrote_put : {at r : ℕ} {text before after : List ℕ} → r ≡ at + length text → after ≡ sets before at text → length text ≤ length before - at → Wrote at text before r after
+wrote_put {at} {r} {text} {before} {after} n e h =
+    record { count = n; bytes = e ∙ put_part text before at h ∙ ap (λ (k : ℕ). take at before ++ (text ++ drop k before)) (sym n) }
 
 -- the same text, spelt in another way
 pub wrote_as : {a k : ℕ} {s t xs x : List ℕ} → s ≡ t → Wrote a s xs k x → Wrote a t xs k x

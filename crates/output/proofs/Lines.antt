@@ -1,49 +1,18 @@
 -- Numbers, fields and lines: one digit more, one field more, one line more.
-use mathlib.Core.Path.{◌≡◌, refl, sym, ap, ap₂, ◌∙◌}
+use mathlib.Core.Path.{◌≡◌, refl, sym, ap, ◌∙◌}
 use mathlib.Core.List.{List, [], ◌∷◌, ◌++◌, append_assoc, append-nil}
-use Prim.Native.Nat.{ℕ, zero, suc, ◌+◌, ◌/◌, ◌%◌, ◌^◌, ◌<◌, ◌≤◌}
-use native.Mathlib.Nat.{pow-succ', div-div-eq-div-mul, div-one, zero-add, suc-add}
+use Prim.Native.Nat.{ℕ, zero, suc, ◌+◌, ◌-◌, ◌/◌, ◌%◌}
 use native.Mathlib.Numerals.{add-one}
 use native.Mathlib.Omega.{arith}
-use borrow.Author.Tests.{lt-ltb, le-ltb}
-use lib.ListN.{length, length-append}
-use Rattle.digits.specs.Written.{digits_of, decimal, hex_byte, hex_of, joined, ended}
+use Rattle.digits.specs.Written.{decimal, hex_byte, hex_of, joined, ended}
 use Rattle.output.specs.Output.{each, numbers_line}
 
 -- ---- numbers
 
-one_more : (k n : ℕ) → n < 10 ^ suc k → digits_of (suc k) n ≡ digits_of (suc (suc k)) n
-one_more zero n h = rw (lt-ltb n 10 h)
-one_more (suc k) n h = rw (← one_more k (n / 10) (omega (arith, pow-succ' 10 (suc k)))) refl
-
-pub decimal_small : (n : ℕ) → n < 10 → decimal n ≡ (48 + n) ∷ []
-unfolding decimal
-decimal_small n h = rw (lt-ltb n 10 h)
-
-pub decimal_more : (n : ℕ) → 10 ≤ n → n ≤ 999999 → decimal n ≡ decimal (n / 10) ++ (48 + n % 10) ∷ []
-unfolding decimal
-decimal_more n h l = rw (le-ltb n 10 h, one_more 4 (n / 10) (omega arith))
-
-pub decimal_longer : (n : ℕ) → 10 ≤ n → n ≤ 999999 → length (decimal n) ≡ length (decimal (n / 10)) + 1
-decimal_longer n h l = ap length (decimal_more n h l) ∙ length-append (decimal (n / 10)) ((48 + n % 10) ∷ [])
-
--- the last j + k hexadecimal digits: j of them before the last k
-pub hex_more : (j k n : ℕ) → hex_of j (n / 16 ^ k) ++ hex_of k n ≡ hex_of (k + j) n
-hex_more j zero n = append-nil (hex_of j (n / 1)) ∙ rw (div-one n, zero-add j)
-hex_more j (suc k) n =
-    let d : n / 16 ^ suc k ≡ n / 16 / 16 ^ k = ap (λ (m : ℕ). n / m) (pow-succ' 16 k) ∙ sym (div-div-eq-div-mul n 16 (16 ^ k)) in
-    rw (d, suc-add k j)
-    (sym (append_assoc (hex_of j (n / 16 / 16 ^ k)) (hex_of k (n / 16)) (hex_byte (n % 16) ∷ [])) ∙ ap (λ l. l ++ hex_byte (n % 16) ∷ []) (hex_more j k (n / 16)))
-
--- a byte's digits are those of the number that it ends
-pub hex_last : (n : ℕ) → hex_of 2 (n % 256) ≡ hex_of 2 n
-hex_last n =
-    let a : n % 256 / 16 % 16 ≡ n / 16 % 16 = omega arith in
-    let b : n % 256 % 16 ≡ n % 16 = omega arith in
-    rw (a, b)
-
-pub four_digits : (n : ℕ) → hex_of 2 (n / 256 % 256) ++ hex_of 2 (n % 256) ≡ hex_of 4 n
-four_digits n = ap₂ ◌++◌ (hex_last (n / 256)) (hex_last n) ∙ hex_more 2 2 n
+-- a hexadecimal digit more
+pub hex_step : (k n : ℕ) → (k ≡ 0 → ⊥) → hex_of k n ≡ hex_of (k - 1) (n / 16) ++ hex_byte (n % 16) ∷ []
+hex_step zero n h = absurd (h refl)
+hex_step (suc k) n h = let e : suc k - 1 ≡ k = omega arith in rw e
 
 -- ---- fields and lines
 
@@ -72,9 +41,6 @@ fields_more f x = sym (ap tabbed (each_more f x) ∙ tabbed_more (each f x) (f x
 -- a letter, the fields and the line's end
 pub row_text : (letter : ℕ) (fs : List (List ℕ)) → ((letter ∷ []) ++ tabbed fs) ++ 10 ∷ [] ≡ ended (joined ((letter ∷ []) ∷ fs) ∷ [])
 row_text letter fs = rw (joined_tabbed (letter ∷ []) fs)
-
-pub numbers_text : (letter a b : ℕ) → ((letter ∷ []) ++ 9 ∷ decimal a) ++ 9 ∷ decimal b ≡ numbers_line letter a b
-numbers_text letter a b = refl
 
 pub totals-text : (a b : ℕ) (s t : List ℕ)
     → ((numbers_line 84 a b ++ 9 ∷ s) ++ 9 ∷ t) ++ 10 ∷ [] ≡ ended (joined ((84 ∷ []) ∷ decimal a ∷ decimal b ∷ s ∷ t ∷ []) ∷ [])

@@ -13,7 +13,7 @@ use lib.Ieee.{Float, nan, binary64, to_bits}
 use Rattle.digits.specs.Written.{decimal, hex_of, ended}
 use Rattle.digits.proofs.Lengths.{decimal_length}
 use Rattle.digits.proofs.Both.{both_left, both_right}
-use Rattle.output.specs.Output.{each, numbers_line, pixel, row_line, picture_text, picture_room, picture_fits, picture_into, refusal_text, refusal_into, step_line, totals_text, totals_fits, totals_into, clipped_text, clipped_fits, clipped_into}
+use Rattle.output.specs.Output.{each, numbers_line, pixel, row_line, picture_text, picture_room, picture_fits, picture_into, refusal_text, refusal_into, step_line, totals_text, totals_fits, totals_into, clipped_text, clipped_fits, clipped_into, refusal_fits}
 use Rattle.output.proofs.Lines.{tabbed, tabbed_more, ended_more, row_text, totals-text, lines_done}
 
 tabbed_length : (f : ℕ → List ℕ) (m n : ℕ) → ((i : ℕ) → length (f i) ≡ m) → length (tabbed (each f n)) ≡ n * (m + 1)
@@ -155,6 +155,17 @@ totals_fit channel steps values room h =
     let g = both_right b (c && d) f in
     (leb-true channel 9 (both_left a (b && (c && d)) h), leb-true steps 9999 (both_left b (c && d) f), eqb-true values (steps * 2) (both_left c d g), leb-true (steps * 43) room (both_right c d g))
 
+pub clipped_fit : (channel number room : ℕ) → clipped_fits channel number room ≡ true → (channel ≤ 9) × (number ≤ 999999) × (11 ≤ room)
+clipped_fit channel number room h =
+    let a = leb channel 9 in
+    let b = leb number 999999 in
+    let c = leb 11 room in
+    let f = both_right a (b && c) h in
+    (leb-true channel 9 (both_left a (b && c) h), leb-true number 999999 (both_left b c f), leb-true 11 room (both_right b c f))
+
+pub refusal_fit : (line room : ℕ) → refusal_fits line room ≡ true → (line ≤ 999999) × (13 ≤ room)
+refusal_fit line room h = (leb-true line 999999 (both_left (leb line 999999) (leb 13 room) h), leb-true 13 room (both_right (leb line 999999) (leb 13 room) h))
+
 pub clipped-into : (channel number room : ℕ) → channel ≤ 9 → number ≤ 999999 → 11 ≤ room → clipped_into channel number room ≡ clipped_text channel number
 unfolding clipped_into
 clipped-into channel number room p q r = rw (le-leb channel 9 p, le-leb number 999999 q, le-leb 11 room r)
@@ -180,14 +191,7 @@ pub clipped_within : (channel number room : ℕ) → length (clipped_into channe
 unfolding clipped_into
 clipped_within channel number room =
     within (clipped_fits channel number room) (clipped_text channel number) room
-    (λ e.
-    let f = both_right (leb channel 9) (leb number 999999 && leb 11 room) e in
-    omega (
-      arith,
-      leb-true 11 room (both_right (leb number 999999) (leb 11 room) f),
-      clipped_room channel number (leb-true channel 9 (both_left (leb channel 9) (leb number 999999 && leb 11 room) e))
-          (leb-true number 999999 (both_left (leb number 999999) (leb 11 room) f)),
-    ))
+    (λ e. let f = clipped_fit channel number room e in omega (arith, f.2, clipped_room channel number f.0 f.1))
 
 -- no product of two sides is too large to compute
 pub sides_product : (a b : ℕ) → a ≤ 512 → b ≤ 3586 → a * b ≤ 512 * 3586

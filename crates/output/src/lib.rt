@@ -1,59 +1,41 @@
 // The text that the program `smooth` prints, written to a lent buffer from a place of it on.
 #![tactic(auto)]
 
-ghost use Rattle.std.specs.Prelude.{[], ◌∷◌, ◌++◌, ◌+◌, ◌-◌, ◌*◌, ◌≤◌, ◌<◌, ◌≡◌, length};
+ghost use Rattle.std.specs.Prelude.{[], ◌∷◌, ◌+◌, ◌-◌, ◌*◌, ◌^◌, ◌≤◌, ◌<◌, ◌≡◌, length};
 ghost use Rattle.std.specs.Float.{binary64};
 ghost use Rattle.std.specs.Float.Ieee.{to_bits};
 ghost use Rattle.digits.specs.Written.{decimal, hex_byte, hex_of, ended};
-ghost use Rattle.output.specs.Output.{numbers_line, pixel, row_line, picture_text, picture_room, picture_fits, picture_into, refusal_into, step_line, totals_text, totals_fits, totals_into, clipped_into, Wrote};
+ghost use Rattle.copying.specs.Parts.{Put};
+ghost use Rattle.output.specs.Output.{numbers_line, pixel, row_line, picture_text, picture_room, picture_fits, picture_into, refusal_into, step_line, totals_text, totals_fits, totals_into, clipped_fits, clipped_into, refusal_fits, Wrote};
 
-// A byte. This and what follows write from place `at` on, and answer where what they wrote ends.
-fn put_byte(b: u8, out: &mut [u8], at: usize) -> usize
-    requires { at < length out.old }
-    ensures { Wrote at (b ∷ []) out.old result out.new }
-{
-    out[at] = b;
-    at + 1
-}
-
-// The decimal digits of a number, at most six.
-fn put_decimal(n: usize, out: &mut [u8], at: usize) -> usize
-    requires { (n ≤ 999999) × (at + length (decimal n) ≤ length out.old) }
-    ensures { Wrote at (decimal n) out.old result out.new }
-{
-    if n < 10 {
-        return put_byte(b'0' + n as u8, out, at);
-    }
-    let end = put_decimal(n / 10, out, at);
-    put_byte(b'0' + (n % 10) as u8, out, end)
-}
+use copying::Writer;
 
 // A tab and a number.
-fn put_number(n: usize, out: &mut [u8], at: usize) -> usize
-    requires { (n ≤ 999999) × (at + 1 + length (decimal n) ≤ length out.old) }
-    ensures { Wrote at (9 ∷ decimal n) out.old result out.new }
+fn put_number(n: usize, to: &mut Writer)
+    requires { to.old.at + (1 + length (decimal n)) < 2 ^ 64 }
+    ensures { Put to.old (9 ∷ decimal n) to.new }
 {
-    let first = put_byte(b'\t', out, at);
-    put_decimal(n, out, first)
+    to.put_byte(b'\t');
+    to.put_decimal(n);
 }
 
 // A letter and two numbers.
-fn put_head(letter: u8, a: usize, b: usize, out: &mut [u8], at: usize) -> usize
-    requires { (a ≤ 999999) × (b ≤ 999999) × (at + (3 + length (decimal a) + length (decimal b)) ≤ length out.old) }
-    ensures { Wrote at (numbers_line letter a b) out.old result out.new }
+fn put_head(letter: u8, a: usize, b: usize, to: &mut Writer)
+    requires { to.old.at + (3 + length (decimal a) + length (decimal b)) < 2 ^ 64 }
+    ensures { Put to.old (numbers_line letter a b) to.new }
 {
-    let first = put_byte(letter, out, at);
-    let second = put_number(a, out, first);
-    put_number(b, out, second)
+    to.put_byte(letter);
+    put_number(a, to);
+    put_number(b, to);
 }
 
 // The line of a letter and two numbers.
-fn put_numbers(letter: u8, a: usize, b: usize, out: &mut [u8], at: usize) -> usize
-    requires { (a ≤ 999999) × (b ≤ 999999) × (at + (4 + length (decimal a) + length (decimal b)) ≤ length out.old) }
-    ensures { Wrote at (ended (numbers_line letter a b ∷ [])) out.old result out.new }
+fn put_numbers(letter: u8, a: usize, b: usize, to: &mut Writer)
+    requires { to.old.at + (4 + length (decimal a) + length (decimal b)) < 2 ^ 64 }
+    ensures { Put to.old (ended (numbers_line letter a b ∷ [])) to.new }
 {
-    let end = put_head(letter, a, b, out, at);
-    put_byte(b'\n', out, end)
+    put_head(letter, a, b, to);
+    to.put_byte(b'\n');
 }
 
 // A hexadecimal digit, in lower case.
@@ -67,126 +49,90 @@ fn hex_digit(d: u8) -> u8
     b'a' - 10 + d
 }
 
-// The two hexadecimal digits of a byte.
-fn put_hex(b: u8, out: &mut [u8], at: usize) -> usize
-    requires { at + 2 ≤ length out.old }
-    ensures { Wrote at (hex_of 2 b) out.old result out.new }
+// The last k hexadecimal digits of a number.
+fn put_hex(k: usize, n: u64, to: &mut Writer)
+    requires { to.old.at + k < 2 ^ 64 }
+    ensures { Put to.old (hex_of k n) to.new }
 {
-    let second = put_byte(hex_digit(b / 16 % 16), out, at);
-    put_byte(hex_digit(b % 16), out, second)
-}
-
-// The last four hexadecimal digits of a number.
-fn put_four(n: u64, out: &mut [u8], at: usize) -> usize
-    requires { at + 4 ≤ length out.old }
-    ensures { Wrote at (hex_of 4 n) out.old result out.new }
-{
-    let third = put_hex((n / 256 % 256) as u8, out, at);
-    put_hex((n % 256) as u8, out, third)
-}
-
-// The last eight hexadecimal digits of a number.
-fn put_eight(n: u64, out: &mut [u8], at: usize) -> usize
-    requires { at + 8 ≤ length out.old }
-    ensures { Wrote at (hex_of 8 n) out.old result out.new }
-{
-    let fifth = put_four(n / 65536, out, at);
-    put_four(n, out, fifth)
+    if k == 0 {
+        return;
+    }
+    put_hex(k - 1, n / 16, to);
+    to.put_byte(hex_digit((n % 16) as u8));
 }
 
 // A tab and the sixteen hexadecimal digits of a total's bits.
-fn put_total(x: f64, out: &mut [u8], at: usize) -> usize
-    requires { at + 17 ≤ length out.old }
-    ensures { Wrote at (9 ∷ hex_of 16 (to_bits binary64 x)) out.old result out.new }
+fn put_total(x: f64, to: &mut Writer)
+    requires { to.old.at + 17 < 2 ^ 64 }
+    ensures { Put to.old (9 ∷ hex_of 16 (to_bits binary64 x)) to.new }
 {
-    let bits = float::double::to_bits(x);
-    let first = put_byte(b'\t', out, at);
-    let ninth = put_eight(bits / 4294967296, out, first);
-    put_eight(bits, out, ninth)
+    to.put_byte(b'\t');
+    put_hex(16, float::double::to_bits(x), to);
 }
 
 // The line of the two totals of step k, which counts from 0.
-fn put_step(channel: usize, totals: &[f64], k: usize, out: &mut [u8], at: usize) -> usize
-    requires { (channel ≤ 9) × (k ≤ 9998) × (k * 2 + 2 ≤ length totals.now) × (at + 43 ≤ length out.old) }
-    ensures { Wrote at (ended (step_line channel totals.now k ∷ [])) out.old result out.new }
+fn put_step(channel: usize, totals: &[f64], k: usize, to: &mut Writer)
+    requires { (channel ≤ 9) × (k ≤ 9998) × (k * 2 + 2 ≤ length totals.now) × (to.old.at + 43 < 2 ^ 64) }
+    ensures { Put to.old (ended (step_line channel totals.now k ∷ [])) to.new }
 {
-    let after_step = put_head(b'T', channel, k + 1, out, at);
-    let after_first = put_total(totals[k * 2], out, after_step);
-    let end = put_total(totals[k * 2 + 1], out, after_first);
-    put_byte(b'\n', out, end)
+    put_head(b'T', channel, k + 1, to);
+    put_total(totals[k * 2], to);
+    put_total(totals[k * 2 + 1], to);
+    to.put_byte(b'\n');
 }
 
 // The lines of a run's steps that fit.
-fn put_totals(channel: usize, steps: usize, totals: &[f64], out: &mut [u8], at: usize) -> usize
-    requires { (channel ≤ 9) × (steps ≤ 9999) × (length totals.now ≡ steps * 2) × (steps * 43 ≤ length out.old - at) }
-    ensures { Wrote at (totals_text channel steps totals.now) out.old result out.new }
+fn put_totals(channel: usize, steps: usize, totals: &[f64], to: &mut Writer)
+    requires { (channel ≤ 9) × (steps ≤ 9999) × (length totals.now ≡ steps * 2) × (to.old.at + steps * 43 < 2 ^ 64) }
+    ensures { Put to.old (totals_text channel steps totals.now) to.new }
 {
-    let mut end = at;
     for k in 0..steps {
-        end = put_step(channel, totals, k, out, end);
+        put_step(channel, totals, k, to);
     }
-    end
 }
 
 // A tab and pixel k.
-fn put_pixel(rgb: &[u8], k: usize, out: &mut [u8], at: usize) -> usize
-    requires { (3 * k + 3 ≤ length rgb.now) × (at + 7 ≤ length out.old) }
-    ensures { Wrote at (9 ∷ pixel rgb.now k) out.old result out.new }
+fn put_pixel(rgb: &[u8], k: usize, to: &mut Writer)
+    requires { (3 * k + 3 ≤ length rgb.now) × (to.old.at + 7 < 2 ^ 64) }
+    ensures { Put to.old (9 ∷ pixel rgb.now k) to.new }
 {
-    let red = put_byte(b'\t', out, at);
-    let green = put_hex(rgb[3 * k], out, red);
-    let blue = put_hex(rgb[3 * k + 1], out, green);
-    put_hex(rgb[3 * k + 2], out, blue)
+    to.put_byte(b'\t');
+    put_hex(2, u64::from(rgb[3 * k]), to);
+    put_hex(2, u64::from(rgb[3 * k + 1]), to);
+    put_hex(2, u64::from(rgb[3 * k + 2]), to);
 }
 
 // The line of the row whose first pixel is number k.
-fn put_row(width: usize, rgb: &[u8], k: usize, out: &mut [u8], at: usize) -> usize
-    requires { (3 * (k + width) ≤ length rgb.now) × (at + (7 * width + 2) ≤ length out.old) }
-    ensures { Wrote at (ended (row_line width rgb.now k ∷ [])) out.old result out.new }
+fn put_row(width: usize, rgb: &[u8], k: usize, to: &mut Writer)
+    requires { (3 * (k + width) ≤ length rgb.now) × (to.old.at + (7 * width + 2) < 2 ^ 64) }
+    ensures { Put to.old (ended (row_line width rgb.now k ∷ [])) to.new }
 {
-    let mut end = put_byte(b'R', out, at);
+    to.put_byte(b'R');
     for x in 0..width {
-        end = put_pixel(rgb, k + x, out, end);
+        put_pixel(rgb, k + x, to);
     }
-    put_byte(b'\n', out, end)
+    to.put_byte(b'\n');
 }
 
 // A picture that fits.
-fn put_picture(width: usize, height: usize, rgb: &[u8], out: &mut [u8], at: usize) -> usize
-    requires { (width ≤ 512) × (height ≤ 512) × (length rgb.now ≡ 3 * (width * height)) × (at + picture_room width height ≤ length out.old) }
-    ensures { Wrote at (picture_text width height rgb.now) out.old result out.new }
+fn put_picture(width: usize, height: usize, rgb: &[u8], to: &mut Writer)
+    requires { (width ≤ 512) × (height ≤ 512) × (length rgb.now ≡ 3 * (width * height)) × (to.old.at + picture_room width height < 2 ^ 64) }
+    ensures { Put to.old (picture_text width height rgb.now) to.new }
 {
-    let mut end = put_numbers(b'I', width, height, out, at);
+    put_numbers(b'I', width, height, to);
     for y in 0..height {
-        end = put_row(width, rgb, y * width, out, end);
+        put_row(width, rgb, y * width, to);
     }
-    end
 }
 
 // Whether a picture fits: its sides, the number of its bytes, and the room that its text has.
 fn picture_fits(width: usize, height: usize, bytes: usize, room: usize) -> bool
     ensures { result ≡ picture_fits width height bytes room }
 {
-    if width > 512 {
-        return false;
-    }
-    if height > 512 {
-        return false;
-    }
-    if bytes != 3 * (width * height) {
-        return false;
-    }
-    10 + height * (7 * width + 2) <= room
-}
-
-// How many bytes of a buffer stand from place `at` on.
-fn room(length: usize, at: usize) -> usize
-    ensures { result ≡ length - at }
-{
-    if length < at {
-        return 0;
-    }
-    length - at
+    width <= 512
+        && height <= 512
+        && bytes == 3 * (width * height)
+        && 10 + height * (7 * width + 2) <= room
 }
 
 // Writes the text of a picture from place `at` of `out` on and answers where it ends; `at` and nothing written where the picture does not fit.
@@ -196,26 +142,19 @@ pub fn write_picture(width: u32, height: u32, rgb: &[u8], out: &mut [u8], at: us
 {
     let w = width as usize;
     let h = height as usize;
-    if picture_fits(w, h, rgb.len(), room(out.len(), at)) {
-        return put_picture(w, h, rgb, out, at);
+    if !picture_fits(w, h, rgb.len(), out.len().saturating_sub(at)) {
+        return at;
     }
-    at
+    let mut to = Writer { out, at };
+    put_picture(w, h, rgb, &mut to);
+    to.at
 }
 
 // Whether the lines of a run's steps fit: the channel and the steps, the number of totals, and the room that the lines have.
 fn totals_fit(channel: usize, steps: usize, values: usize, room: usize) -> bool
     ensures { result ≡ totals_fits channel steps values room }
 {
-    if channel > 9 {
-        return false;
-    }
-    if steps > 9999 {
-        return false;
-    }
-    if values != steps * 2 {
-        return false;
-    }
-    steps * 43 <= room
+    channel <= 9 && steps <= 9999 && values == steps * 2 && steps * 43 <= room
 }
 
 // Writes the lines of both totals of each step of a run from place `at` of `out` on and answers where they end; `at` and nothing written where they do not
@@ -230,10 +169,19 @@ pub fn write_totals(
 ) -> usize
     ensures { Wrote at (totals_into channel steps totals.now (length out.old - at)) out.old result out.new }
 {
-    if totals_fit(channel, steps, totals.len(), room(out.len(), at)) {
-        return put_totals(channel, steps, totals, out, at);
+    if !totals_fit(channel, steps, totals.len(), out.len().saturating_sub(at)) {
+        return at;
     }
-    at
+    let mut to = Writer { out, at };
+    put_totals(channel, steps, totals, &mut to);
+    to.at
+}
+
+// Whether the line of a clipped number fits.
+fn clipped_fits(channel: usize, number: usize, room: usize) -> bool
+    ensures { result ≡ clipped_fits channel number room }
+{
+    channel <= 9 && number <= 999999 && 11 <= room
 }
 
 // Writes the line of a channel's number of clipped coefficients from place `at` of `out` on and answers where it ends; `at` and nothing
@@ -242,28 +190,31 @@ pub fn write_totals(
 pub fn write_clipped(channel: usize, number: usize, out: &mut [u8], at: usize) -> usize
     ensures { Wrote at (clipped_into channel number (length out.old - at)) out.old result out.new }
 {
-    if channel > 9 {
+    if !clipped_fits(channel, number, out.len().saturating_sub(at)) {
         return at;
     }
-    if number > 999999 {
-        return at;
-    }
-    if room(out.len(), at) < 11 {
-        return at;
-    }
-    put_numbers(b'K', channel, number, out, at)
+    let mut to = Writer { out, at };
+    put_numbers(b'K', channel, number, &mut to);
+    to.at
+}
+
+// Whether the text of a refusal at this line fits.
+fn refusal_fits(line: usize, room: usize) -> bool
+    ensures { result ≡ refusal_fits line room }
+{
+    line <= 999999 && 13 <= room
 }
 
 // Writes the text of a refusal to the front of `out` and answers its length; 0 and nothing written where it does not fit.
 // Ruled out: the line before the refusal's number; an empty field for line 0, which is written `0`.
+// Kept: the number stays a u8, since a caller may have any of them written; `Refusal` would ask more.
 pub fn write_refusal(number: u8, line: usize, out: &mut [u8]) -> usize
     ensures { Wrote 0 (refusal_into number line (length out.old)) out.old result out.new }
 {
-    if line > 999999 {
+    if !refusal_fits(line, out.len()) {
         return 0;
     }
-    if out.len() < 13 {
-        return 0;
-    }
-    put_numbers(b'X', number as usize, line, out, 0)
+    let mut to = Writer { out, at: 0 };
+    put_numbers(b'X', usize::from(number), line, &mut to);
+    to.at
 }

@@ -1,9 +1,10 @@
 -- What a legal record tells the solver of a channel: its cover, and the lengths of what it is handed.
-use mathlib.Core.Path.{◌∙◌}
+use mathlib.Core.Path.{◌≡◌, ◌∙◌}
 use mathlib.Core.List.{List}
 use Prim.Native.Nat.{ℕ, ◌+◌, ◌*◌, ◌<◌, ◌≤◌}
 use native.Mathlib.Omega.{arith}
 use lib.ListN.{length}
+use lib.Ieee.{Float}
 use Rattle.fold.specs.Part.{part}
 use Rattle.fold.proofs.Parts.{part_length}
 use Rattle.start.specs.declared.coef.Own as Sides
@@ -13,7 +14,8 @@ use Rattle.demand.proofs.Laws.{covers_of}
 use Rattle.record.specs.declared.Run.{Run}
 use Rattle.record.specs.Model.{Legal, sheet_of}
 use Rattle.record.proofs.Sizes.{facts, levels_rise}
-use Rattle.parts.specs.Parts.{Fed}
+use Rattle.calls.proofs.Parts.{length_part}
+use Rattle.parts.specs.Parts.{Fed, Whole}
 
 abbrev pub sides : Run → ℕ → Sides.Own
 sides r c =
@@ -38,3 +40,8 @@ lent_long r c levels tables f =
       ),
       part_length tables (c * 64) (c * 64 + 64) (omega arith) m ∙ omega arith,
     )
+
+-- channel c's part of a lent buffer has as many values as its full plane
+pub part_long : (r : Run) (c : ℕ) → c < r.count → {from to w h : ℕ} → from ≡ c * (r.w * r.h) → to ≡ c * (r.w * r.h) + r.w * r.h → w ≡ r.w → h ≡ r.h
+    → (xs : List Float) → Whole r xs → length (part xs from to) ≡ w * h
+part_long r c below f t x y xs l = rw (f, t, x, y) (length_part (r.w * r.h) c r.count xs l below)

@@ -5,33 +5,27 @@ use mathlib.Core.List.{List}
 use Prim.Native.Nat.{ℕ, zero, suc, ◌+◌, ◌*◌, ◌<◌, ◌≤◌}
 use native.Mathlib.Nat.{eq-or-lt_of_le}
 use native.Mathlib.Omega.{arith}
-use lib.IntN.{ℤ}
 use lib.ListN.{length}
 use Rattle.fold.specs.Fold.{upto}
-use Rattle.fold.specs.Part.{part, splice}
+use Rattle.fold.specs.Part.{splice}
 use Rattle.start.specs.Buffers.{Buffers}
-use Rattle.start.specs.declared.coef.Own as Sides
-use Rattle.start.specs.Coef.{Levels, coef, pairs}
+use Rattle.start.specs.Coef.{Coef, Levels}
 use Rattle.start.specs.Auxiliary.{aux_init}
 use Rattle.work.proofs.Laws.{starting_sized}
-use Rattle.calls.specs.Run.{Given, count, area, coefs, levels_before}
+use Rattle.calls.specs.Run.{Given, count, area}
 use Rattle.calls.specs.Buffers.{Plane, Prior, Gradient, Across, Down, Saved, get, channel, put_channel, joined, Sized}
 use Rattle.calls.proofs.Parts.{put_sized, put_same, put_other, joined_channels}
 use Rattle.demand.specs.Solver.{coef_of, jobs}
 use Rattle.record.specs.declared.Run.{Run}
-use Rattle.record.specs.Model.{sheet_of, given_of}
+use Rattle.record.specs.Model.{given_of}
 use Rattle.parts.specs.Parts.{started_part}
-use Rattle.parts.proofs.Covered.{sides}
 
 -- ---- one channel's part: as the code puts it together
 
 module _ (r : Run) (c : ℕ) (levels : Levels) (tables : List ℕ) (B : Buffers) where
   pub part_started : {from to : ℕ} → from ≡ c * (r.w * r.h) → to ≡ c * (r.w * r.h) + r.w * r.h
-      → {o : Sides.Own} → o ≡ sides r c
-      → {ls : List ℤ} → ls ≡ part levels.lows (levels_before (sheet_of r) c) (levels_before (sheet_of r) c + coefs (sheet_of r) c)
-      → {hs : List ℤ} → hs ≡ part levels.highs (levels_before (sheet_of r) c) (levels_before (sheet_of r) c + coefs (sheet_of r) c)
-      → {ts : List ℕ} → ts ≡ part tables (c * 64) (c * 64 + 64)
-      → {x : Buffers} → x ≡ aux_init r.reorder (coef o (pairs ls hs) ts) r.w r.h
+      → {C : Coef} {w h : ℕ} → (C ≡ coef_of (given_of r levels tables) c) × (w ≡ r.w) × (h ≡ r.h)
+      → {x : Buffers} → x ≡ aux_init r.reorder C w h
       → record {
         plane = splice B.plane from to x.plane;
         prior = splice B.prior from to x.prior;
@@ -41,10 +35,10 @@ module _ (r : Run) (c : ℕ) (levels : Levels) (tables : List ℕ) (B : Buffers)
         saved = splice B.saved from to x.saved;
       }
       ≡ started_part (given_of r levels tables) c B
-  unfolding put_channel coef_of
-  part_started f t o l h s e =
+  unfolding put_channel
+  part_started f t k e =
       λ i.
-      let x : Buffers = (e ∙ (λ j. aux_init r.reorder (coef (o j) (pairs (l j) (h j)) (s j)) r.w r.h)) i in
+      let x : Buffers = (e ∙ (λ j. aux_init r.reorder (k.0 j) (k.1 j) (k.2 j))) i in
       record {
         plane = splice B.plane (f i) (t i) x.plane;
         prior = splice B.prior (f i) (t i) x.prior;

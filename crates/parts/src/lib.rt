@@ -6,14 +6,16 @@ ghost use Rattle.std.specs.Prelude.{◌≡◌, ◌+◌, ◌*◌, ◌<◌, length
 ghost use Rattle.fold.specs.Fold.{upto};
 ghost use Rattle.fold.specs.Part.{part};
 ghost use Rattle.start.specs.Coef.{pairs};
+ghost use Rattle.start.specs.AsCoef.{as_coef};
 ghost use Rattle.calls.specs.Run.{own, place, coefs, levels_before};
 ghost use Rattle.calls.specs.Buffers.{part_of};
 ghost use Rattle.projection.specs.Blown.{is_blown};
+ghost use Rattle.demand.specs.Solver.{coef_of};
 ghost use Rattle.record.specs.Model.{Legal, sheet_of, places_of, given_of};
 ghost use Rattle.parts.specs.Parts.{Fed, FedAll, Whole, fitted_part, projected_part, blown_part, clipped_part, started_part};
 
 use record::{Run, Seen};
-use start::coef::Own;
+use start::coef::{Coef, Own};
 
 pub fn own_of(run: Run, c: u32) -> Own
     requires { Legal run × (c < run.count) }
@@ -32,8 +34,7 @@ pub fn weight_of(run: Run, c: u32) -> f32
     requires { Legal run × (c < run.count) }
     ensures { result ≡ (own (sheet_of run) c).data_weight }
 {
-    let x = record::places::channel_of(run, c);
-    x.weight
+    record::places::channel_of(run, c).weight
 }
 
 // The lows or the highs of channel c.
@@ -51,8 +52,29 @@ pub fn table_of(run: Run, c: u32, tables: &[u16]) -> &[u16]
     ensures { result.now ≡ part tables.now (c * 64) (c * 64 + 64) }
 {
     let from = (c as usize) * 64;
-    let to = from + 64;
-    &tables[from..to]
+    &tables[from..from + 64]
+}
+
+// What the solver is handed of channel c: its own sides and factors, and its part of the levels and the tables.
+// Rules out: the lows in the highs' place, and another channel's levels or table.
+pub fn coef_of<'a>(
+    run: Run,
+    c: u32,
+    lows: &'a [i16],
+    highs: &'a [i16],
+    tables: &'a [u16],
+) -> Coef<'a>
+    requires { Fed run c (pairs lows.now highs.now) tables.now }
+    ensures { (as_coef result ≡ coef_of (given_of run (pairs lows.now highs.now) tables.now) c) × (result.w ≡ run.w) × (result.h ≡ run.h) }
+{
+    Coef {
+        own: own_of(run, c),
+        w: run.w as usize,
+        h: run.h as usize,
+        lows: levels_of(run, c, lows),
+        highs: levels_of(run, c, highs),
+        table: table_of(run, c, tables),
+    }
 }
 
 // Job 2 on channel c's part.
@@ -69,25 +91,13 @@ pub fn data_part(
     ensures { gradient.new ≡ fitted_part (given_of run (pairs lows.now highs.now) tables.now) c gradient.old saved.now }
 {
     let s = record::places::span_of(run, c);
-    let from = s.from;
-    let to = s.to;
-    let o = own_of(run, c);
+    let coef = coef_of(run, c, lows, highs, tables);
     let weight = weight_of(run, c);
-    let ls = levels_of(run, c, lows);
-    let hs = levels_of(run, c, highs);
-    let ts = table_of(run, c, tables);
-    let w = run.w as usize;
-    let h = run.h as usize;
     fidelity::dct_gradient::data(
-        &saved[from..to],
-        &mut gradient[from..to],
-        o,
-        w,
-        h,
+        &saved[s.from..s.to],
+        &mut gradient[s.from..s.to],
+        &coef,
         weight,
-        ls,
-        hs,
-        ts,
     );
 }
 
@@ -111,25 +121,13 @@ pub fn project_part(
         (record { plane = plane.old; across = across.old; down = down.old; saved = saved.old })) }
 {
     let s = record::places::span_of(run, c);
-    let from = s.from;
-    let to = s.to;
-    let o = own_of(run, c);
-    let ls = levels_of(run, c, lows);
-    let hs = levels_of(run, c, highs);
-    let ts = table_of(run, c, tables);
-    let w = run.w as usize;
-    let h = run.h as usize;
+    let coef = coef_of(run, c, lows, highs, tables);
     projection::projection::project_onto_box(
-        &mut plane[from..to],
-        &mut across[from..to],
-        &mut down[from..to],
-        &mut saved[from..to],
-        o,
-        w,
-        h,
-        ls,
-        hs,
-        ts,
+        &mut plane[s.from..s.to],
+        &mut across[s.from..s.to],
+        &mut down[s.from..s.to],
+        &mut saved[s.from..s.to],
+        &coef,
     )
 }
 
@@ -139,10 +137,8 @@ pub fn blown_part(run: Run, c: u32, plane: &[f32], saved: &[f32]) -> bool
     ensures { result ≡ is_blown (coefs (sheet_of run) c) (part_of (run.w * run.h) c plane.now) (part_of (run.w * run.h) c saved.now) }
 {
     let s = record::places::span_of(run, c);
-    let from = s.from;
-    let to = s.to;
     let n = record::places::coefs_of(run, c);
-    projection::blown::is_blown(&plane[from..to], &saved[from..to], n)
+    projection::blown::is_blown(&plane[s.from..s.to], &saved[s.from..s.to], n)
 }
 
 // What job 5 tells of a held channel, whose values stay (M-108): the test for the mark, and the number kept before.
@@ -152,11 +148,9 @@ pub fn held_seen(run: Run, c: u32, plane: &[f32], saved: &[f32]) -> Seen
     ensures { (result.blown ≡ is_blown (coefs (sheet_of run) c) (part_of (run.w * run.h) c plane.now) (part_of (run.w * run.h) c saved.now))
         × (result.clipped ≡ (place (places_of run) c).clipped) }
 {
-    let x = record::places::channel_of(run, c);
-    let blown = blown_part(run, c, plane, saved);
     Seen {
-        blown,
-        clipped: x.clipped,
+        blown: blown_part(run, c, plane, saved),
+        clipped: record::places::channel_of(run, c).clipped,
     }
 }
 
@@ -208,29 +202,16 @@ pub fn start_part(
         (record { plane = plane.old; prior = prior.old; gradient = gradient.old; across = across.old; down = down.old; saved = saved.old }) }
 {
     let s = record::places::span_of(run, c);
-    let from = s.from;
-    let to = s.to;
-    let o = own_of(run, c);
-    let ls = levels_of(run, c, lows);
-    let hs = levels_of(run, c, highs);
-    let ts = table_of(run, c, tables);
-    let w = run.w as usize;
-    let h = run.h as usize;
-    let reorder = run.reorder;
+    let coef = coef_of(run, c, lows, highs, tables);
     start::auxiliary::start(
-        &mut plane[from..to],
-        &mut prior[from..to],
-        &mut gradient[from..to],
-        &mut across[from..to],
-        &mut down[from..to],
-        &mut saved[from..to],
-        o,
-        w,
-        h,
-        reorder,
-        ls,
-        hs,
-        ts,
+        &mut plane[s.from..s.to],
+        &mut prior[s.from..s.to],
+        &mut gradient[s.from..s.to],
+        &mut across[s.from..s.to],
+        &mut down[s.from..s.to],
+        &mut saved[s.from..s.to],
+        &coef,
+        run.reorder,
     );
 }
 

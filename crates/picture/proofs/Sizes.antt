@@ -4,10 +4,6 @@ use lib.Ieee.Fits.{and_l, and_r}
 use Rattle.fold.proofs.Grid.{row_end}
 use Rattle.picture.specs.Finish.{side, within, legal, fitting}
 
--- the first of the planes is among them
-pub first_plane : (c n : ℕ) → 1 ≤ c → n ≤ c * n
-first_plane c n h = omega (arith, mul-le-mul_right n h)
-
 pub area : (a b : ℕ) → a ≤ 512 → b ≤ 512 → a * b ≤ 262144
 area a b h k = omega (arith, mul-le-mul_right b h)
 

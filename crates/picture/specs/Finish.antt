@@ -1,15 +1,15 @@
 -- The picture of the solved planes: the function `finish` of lib.rs, as document 01's "Whole run and picture" has it.
-use Rattle.std.specs.Prelude.{ℕ, ◌+◌, ◌*◌, ◌/◌, ◌%◌, min, Bool, cond, not, ◌&&◌, ◌||◌, List, [], ◌∷◌, length, ◌==◌, nat_le, Float}
+use Rattle.std.specs.Prelude.{ℕ, ◌+◌, ◌*◌, ◌/◌, ◌%◌, min, Bool, cond, not, ◌&&◌, ◌||◌, List, [], ◌∷◌, length, ◌==◌, nat_le, Float, Result, Ok, Err}
 use Rattle.std.specs.Float.{nan, inf, fin, binary32}
 use Rattle.std.specs.Float.Ieee.{up, down, add, neg, of_bits, to_unsigned}
+use Rattle.refusal.specs.declared.Refusal.{Refusal}
+use Rattle.refusal.specs.Refusal.{number_of}
 use Rattle.fold.specs.Fold.{upto}
 use Rattle.fold.specs.Join.{join_upto}
 use Rattle.float.specs.Ops.{mul_add, clamp}
 use Rattle.float.specs.Names.{◌⊕◌, f0, f255, val}
 use Rattle.picture.specs.declared.Rounding.{Rounding}
 use Rattle.picture.specs.declared.Rounding.TheVariants as rounding
-use Rattle.picture.specs.declared.Answer.{Answer}
-use Rattle.picture.specs.declared.Answer.TheVariants as answer
 
 -- ---- a value
 
@@ -99,14 +99,14 @@ legal w h width height channels =
 abbrev pub fitting : ℕ → ℕ → ℕ → ℕ → ℕ → ℕ → ℕ → Bool
 fitting w h width height channels values bytes = values == channels * (w * h) && bytes == 3 * (width * height)
 
--- document 01's answers, and which of them each case of the code's answer is: done, or the refusal's number in the table
+-- document 01's answers, and which of them the code's answer is: done, or the refusal's number in the table
 pub data Verdict : Type 0 where
   done : Verdict
   refused : ℕ → Verdict
 
-abbrev pub verdict : Answer → Verdict
-verdict answer.Done = done
-verdict (answer.Refused n) = refused n
+abbrev pub verdict : Result Unit Refusal → Verdict
+verdict (Ok x) = done
+verdict (Err r) = refused (number_of r)
 
 -- what a call answers, and the bytes that it leaves
 pub record Finished : Type 0 where

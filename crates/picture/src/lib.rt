@@ -6,18 +6,25 @@ ghost use Rattle.std.specs.Float.Ieee.{lt, to_unsigned};
 ghost use Rattle.float.specs.Names.{f255};
 ghost use Rattle.picture.specs.Finish.{nearest, to_byte, shade, colour, grey, pixel, row, picture, side, within, legal, fitting, verdict, finishing};
 
-// The answer: done, or refused with a number of document 01's table.
-#[derive(Clone, Copy)]
-pub enum Answer {
-    Done,
-    Refused(u8),
-}
+use refusal::Refusal;
 
 // How a clamped value becomes a byte: truncated as in the Rust, or the nearest whole number as T.871 has it.
-#[derive(Clone, Copy)]
+#[derive(Clone, Copy, Debug, PartialEq, Eq)]
 pub enum Rounding {
     Truncate,
     Nearest,
+}
+
+// Solved planes w wide and h high, one for each channel, one after the other.
+#[derive(Clone, Copy)]
+struct Planes<'a> {
+    values: &'a [f32],
+    channels: u32,
+    w: usize,
+    h: usize,
+    ghost some: { 1 ≤ channels },
+    ghost sides: { (w ≤ 512) × (h ≤ 512) },
+    ghost long: { length values.now ≡ channels * (w * h) },
 }
 
 // A clamped value truncated, and 0 for NaN.
@@ -79,74 +86,50 @@ fn grey(rounding: Rounding, y: f32, out: &mut [u8])
     ensures { out.new ≡ grey (to_byte rounding) y }
 {
     let v = shade(rounding, y);
-    out[0] = v;
-    out[1] = v;
-    out[2] = v;
+    out.copy_from_slice(&[v, v, v]);
 }
 
-// The pixel at a place of the planes, which have n values each. Only channel 0 gets 128 added.
-fn pixel(rounding: Rounding, channels: u32, n: usize, planes: &[f32], at: usize, out: &mut [u8])
-    requires { (1 ≤ channels) × (length planes.now ≡ channels * n) × (at < n) × (length out.old ≡ 3) }
-    ensures { out.new ≡ pixel (to_byte rounding) channels n planes.now at }
+// The pixel at a place of the planes. Only channel 0 gets 128 added.
+fn pixel(rounding: Rounding, planes: Planes, at: usize, out: &mut [u8])
+    requires { (at < planes.w * planes.h) × (length out.old ≡ 3) }
+    ensures { out.new ≡ pixel (to_byte rounding) planes.entry.channels (planes.entry.w * planes.entry.h) planes.entry.values.now at }
 {
-    let y = planes[at] + 128.0;
-    if channels == 3 {
-        let cb = planes[n + at];
-        let cr = planes[2 * n + at];
+    let n = planes.w * planes.h;
+    let y = planes.values[at] + 128.0;
+    if planes.channels == 3 {
+        let cb = planes.values[n + at];
+        let cr = planes.values[2 * n + at];
         colour(rounding, y, cb, cr, out);
-        return;
+    } else {
+        grey(rounding, y, out);
     }
-    grey(rounding, y, out);
 }
 
 // The pixels of a row whose first is that of place `from`.
-fn row(
-    rounding: Rounding,
-    channels: u32,
-    n: usize,
-    planes: &[f32],
-    from: usize,
-    width: usize,
-    out: &mut [u8],
-)
-    requires { (1 ≤ channels) × (length planes.now ≡ channels * n) × (from + width ≤ n) × (length out.old ≡ width * 3) }
-    ensures { out.new ≡ row (to_byte rounding) channels n planes.now from width }
+fn row(rounding: Rounding, planes: Planes, from: usize, width: usize, out: &mut [u8])
+    requires { (from + width ≤ planes.w * planes.h) × (length out.old ≡ width * 3) }
+    ensures { out.new ≡ row (to_byte rounding) planes.entry.channels (planes.entry.w * planes.entry.h) planes.entry.values.now from width }
 {
     for x in 0..width {
         let at = x * 3;
-        let end = at + 3;
-        pixel(rounding, channels, n, planes, from + x, &mut out[at..end]);
+        pixel(rounding, planes, from + x, &mut out[at..at + 3]);
     }
 }
 
-// The top left part of planes w wide and h high, row by row.
-fn rows(
-    rounding: Rounding,
-    w: usize,
-    h: usize,
-    width: usize,
-    height: usize,
-    channels: u32,
-    planes: &[f32],
-    rgb: &mut [u8],
-)
-    requires width_le_w { (width ≤ w) × (w ≤ 512) × (height ≤ h) × (h ≤ 512) }
-    requires le_channels { (1 ≤ channels) × (length planes.now ≡ channels * (w * h)) × (length rgb.old ≡ height * (width * 3)) }
-    ensures { rgb.new ≡ picture (to_byte rounding) w h width height channels planes.now }
+// The top left part of the planes, row by row.
+fn rows(rounding: Rounding, planes: Planes, width: usize, height: usize, rgb: &mut [u8])
+    requires { (width ≤ planes.w) × (height ≤ planes.h) × (length rgb.old ≡ height * (width * 3)) }
+    ensures { rgb.new ≡ picture (to_byte rounding) planes.entry.w planes.entry.h width height planes.entry.channels planes.entry.values.now }
 {
-    let n = w * h;
     let line = width * 3;
     for y in 0..height {
         let at = y * line;
-        let end = at + line;
         row(
             rounding,
-            channels,
-            n,
             planes,
-            y * w,
+            y * planes.w,
             width,
-            &mut rgb[at..end],
+            &mut rgb[at..at + line],
         );
     }
 }
@@ -155,22 +138,21 @@ fn rows(
 fn side(n: u32) -> bool
     ensures { result ≡ side n }
 {
-    ((n % 8 == 0) & (8 <= n)) & (n <= 512)
+    (n % 8 == 0 && 8 <= n) && n <= 512
 }
 
 // A picture side: 1 to the full one.
 fn within(most: u32, n: u32) -> bool
     ensures { result ≡ within most n }
 {
-    (1 <= n) & (n <= most)
+    1 <= n && n <= most
 }
 
 // Sizes and channel count of a legal sheet.
 fn legal(w: u32, h: u32, width: u32, height: u32, channels: u32) -> bool
     ensures { result ≡ legal w h width height channels }
 {
-    side(w)
-        & (side(h) & (within(w, width) & (within(h, height) & ((channels == 1) | (channels == 3)))))
+    side(w) && side(h) && within(w, width) && within(h, height) && (channels == 1 || channels == 3)
 }
 
 // Planes and bytes of the exact lengths.
@@ -186,8 +168,8 @@ fn fitting(
     requires { legal w h width height channels ≡ true }
     ensures { result ≡ fitting w h width height channels values bytes }
 {
-    (values == channels as usize * (w as usize * h as usize))
-        & (bytes == 3 * (width as usize * height as usize))
+    values == channels as usize * (w as usize * h as usize)
+        && bytes == 3 * (width as usize * height as usize)
 }
 
 // The picture's bytes, pixel by pixel from the top left, made of the lent planes, which are only read.
@@ -202,24 +184,21 @@ pub fn finish(
     channels: u32,
     planes: &[f32],
     rgb: &mut [u8],
-) -> Answer
+) -> Result<(), Refusal>
     ensures { record { answer = verdict result; bytes = rgb.new } ≡ finishing rounding w h width height channels planes.now rgb.old }
 {
     if !legal(w, h, width, height, channels) {
-        return Answer::Refused(13);
+        return Err(Refusal::Record);
     }
     if !fitting(w, h, width, height, channels, planes.len(), rgb.len()) {
-        return Answer::Refused(8);
+        return Err(Refusal::Length);
     }
-    rows(
-        rounding,
-        w as usize,
-        h as usize,
-        width as usize,
-        height as usize,
+    let solved = Planes {
+        values: planes,
         channels,
-        planes,
-        rgb,
-    );
-    Answer::Done
+        w: w as usize,
+        h: h as usize,
+    };
+    rows(rounding, solved, width as usize, height as usize, rgb);
+    Ok(())
 }

@@ -194,8 +194,8 @@ stitched left right text e = by (read_text whole left) (read_text whole right) r
   where
     fit : (c d : Contents) → read_text whole left ≡ Gives c → read_text whole right ≡ Gives d → (x : Bool) → seam c d ≡ x → (y : Bool) → leb (c.sheet.header.width + d.sheet.header.width) 512 ≡ y
         → cond x (cond y (Text (output_of c d)) (Fault 2 0 0)) (Fault 16 0 0) ≡ Text text → Stitched left right text
-    fit c d p q false f y g e = let z : ◌≡◌ {A = ℕ} 0 1 = cc in let w : ⊥ = omega arith in absurd w
-    fit c d p q true f false g e = let z : ◌≡◌ {A = ℕ} 0 1 = cc in let w : ⊥ = omega arith in absurd w
+    fit c d p q false f y g e = absurd cc
+    fit c d p q true f false g e = absurd cc
     fit c d p q true f true g e =
         let o : output_of c d ≡ text = cc in
         let w = leb-true (c.sheet.header.width + d.sheet.header.width) 512 g in
@@ -214,6 +214,6 @@ stitched left right text e = by (read_text whole left) (read_text whole right) r
         }
 
     by : (T U : Outcome Contents) → read_text whole left ≡ T → read_text whole right ≡ U → joining T U ≡ Text text → Stitched left right text
-    by (Refused a b) U p q e = let z : ◌≡◌ {A = ℕ} 0 1 = cc in let w : ⊥ = omega arith in absurd w
-    by (Gives c) (Refused a b) p q e = let z : ◌≡◌ {A = ℕ} 0 1 = cc in let w : ⊥ = omega arith in absurd w
+    by (Refused a b) U p q e = absurd cc
+    by (Gives c) (Refused a b) p q e = absurd cc
     by (Gives c) (Gives d) p q e = fit c d p q (seam c d) refl (leb (c.sheet.header.width + d.sheet.header.width) 512) refl e

@@ -37,7 +37,7 @@ module _ {A : Type 0} where
 
   pub place_left : (n y x a b u : ℕ) (xs ys : List A) → y < n → x < a → n * (u * a) ≤ length xs → n * (u * b) ≤ length ys
       → take u (drop (u * (y * (a + b) + x)) (weave n (u * a) (u * b) xs ys)) ≡ take u (drop (u * (y * a + x)) xs)
-  place_left zero y x a b u xs ys l h p q = let z : ⊥ = omega arith in absurd z
+  place_left zero y x a b u xs ys l h p q = absurd (omega arith)
   place_left (suc n) zero x a b u xs ys l h p q =
       let R = take (u * b) ys ++ weave n (u * a) (u * b) (drop (u * a) xs) (drop (u * b) ys) in
       let e : u * (0 * (a + b) + x) ≡ u * x = omega arith in
@@ -61,7 +61,7 @@ module _ {A : Type 0} where
 
   pub place_right : (n y x a b u : ℕ) (xs ys : List A) → y < n → x < b → n * (u * a) ≤ length xs → n * (u * b) ≤ length ys
       → take u (drop (u * (y * (a + b) + (a + x))) (weave n (u * a) (u * b) xs ys)) ≡ take u (drop (u * (y * b + x)) ys)
-  place_right zero y x a b u xs ys l h p q = let z : ⊥ = omega arith in absurd z
+  place_right zero y x a b u xs ys l h p q = absurd (omega arith)
   place_right (suc n) zero x a b u xs ys l h p q =
       let X = take (u * a) xs in
       let W = weave n (u * a) (u * b) (drop (u * a) xs) (drop (u * b) ys) in

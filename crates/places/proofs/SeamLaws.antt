@@ -3,15 +3,13 @@ use Prim.Native.Nat.{ℕ, zero, suc, ◌+◌, ◌*◌}
 use mathlib.Core.Path.{◌≡◌, refl, sym, ap, ◌∙◌, subst}
 use mathlib.Core.List.{List, [], ◌∷◌}
 use mathlib.Core.Bool.{Bool, true, false, ◌&&◌}
-use native.Mathlib.Omega.{arith}
 use native.Mathlib.Nat.{add-mul}
 use lib.Dec.{eqb}
 use lib.Ieee.{binary32, to_bits}
 use borrow.Author.Tests.{eqb-true, eq-eqb}
 use Rattle.digits.proofs.Both.{both_left, both_right}
 use Rattle.contents.specs.declared.Weight.{Weight}
-use Rattle.contents.specs.declared.Hold.{Hold}
-use Rattle.contents.specs.declared.Hold.TheVariants as hold
+use Rattle.std.specs.Prelude.{Option, Some, None}
 use Rattle.contents.specs.declared.Header.{Header}
 use Rattle.contents.specs.declared.Settings.{Settings}
 use Rattle.contents.specs.declared.Channel.{Channel}
@@ -150,10 +148,10 @@ letters_both x y z p q =
     and_of _ _ (eq_same (second x.rounding) (second z.rounding) (same_eq (second x.rounding) (second y.rounding) a.one ∙ same_eq (second y.rounding) (second z.rounding) b.one))
     (eq_same (second x.start) (second z.start) (same_eq (second x.start) (second y.start) a.two ∙ same_eq (second y.start) (second z.start) b.two))
 
-count_left : (x : Hold) (h k : Header) (c : ℕ) → count_at x (wider h k) c ≡ count_at x h c
+count_left : (x : Option (List ℕ)) (h k : Header) (c : ℕ) → count_at x (wider h k) c ≡ count_at x h c
 unfolding measured
-count_left hold.Unsaid h k c = refl
-count_left (hold.Counts a b d) h k c = refl
+count_left None h k c = refl
+count_left (Some x) h k c = refl
 
 hold_left : (s t : Sheet) (c : ℕ) → hold_at (stitched_sheet s t) c ≡ hold_at s c
 unfolding hold_at
@@ -211,8 +209,8 @@ module _ (w v u : ℕ) where
 
 tables_eq : (xs ys : List ℕ) → same_tables xs ys ≡ true → xs ≡ ys
 tables_eq [] [] e = refl
-tables_eq [] (y ∷ ys) e = let z : ◌≡◌ {A = ℕ} 0 1 = cc in let w : ⊥ = omega arith in absurd w
-tables_eq (x ∷ xs) [] e = let z : ◌≡◌ {A = ℕ} 0 1 = cc in let w : ⊥ = omega arith in absurd w
+tables_eq [] (y ∷ ys) e = absurd cc
+tables_eq (x ∷ xs) [] e = absurd cc
 tables_eq (x ∷ xs) (y ∷ ys) e =
     let p = eqb-true x y (both_left (eqb x y) (same_tables xs ys) e) in
     let q = tables_eq xs ys (both_right (eqb x y) (same_tables xs ys) e) in

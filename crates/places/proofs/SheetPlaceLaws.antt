@@ -81,7 +81,7 @@ module _ {A : Type 0} where
 
   pub woven_left : (u : ℕ) (cs ds : List Channel) (xs ys : List A) (j y x : ℕ) → AllBeside cs ds → Long u cs xs → Long u ds ys → j < length cs → y < rows_in (nth cs j) → x < columns_in (nth cs j)
       → take u (drop (u * (firsts (pairs_of cs ds) j + (y * (columns_in (nth cs j) + columns_in (nth ds j)) + x))) (woven u cs ds xs ys)) ≡ take u (drop (u * (firsts cs j + (y * columns_in (nth cs j) + x))) xs)
-  woven_left u [] ds xs ys j y x f p q h k l = let z : ⊥ = omega arith in absurd z
+  woven_left u [] ds xs ys j y x f p q h k l = absurd (omega arith)
   woven_left u (c ∷ cs) [] xs ys j y x f p q h k l = absurd f
   woven_left u (c ∷ cs) (d ∷ ds) xs ys zero y x f p q h k l =
       let e : u * (y * columns_in c + x) ≡ u * (0 + (y * columns_in c + x)) = omega arith in
@@ -95,7 +95,7 @@ module _ {A : Type 0} where
 
   pub woven_right : (u : ℕ) (cs ds : List Channel) (xs ys : List A) (j y x : ℕ) → AllBeside cs ds → Long u cs xs → Long u ds ys → j < length cs → y < rows_in (nth cs j) → x < columns_in (nth ds j)
       → take u (drop (u * (firsts (pairs_of cs ds) j + (y * (columns_in (nth cs j) + columns_in (nth ds j)) + (columns_in (nth cs j) + x)))) (woven u cs ds xs ys)) ≡ take u (drop (u * (firsts ds j + (y * columns_in (nth ds j) + x))) ys)
-  woven_right u [] ds xs ys j y x f p q h k l = let z : ⊥ = omega arith in absurd z
+  woven_right u [] ds xs ys j y x f p q h k l = absurd (omega arith)
   woven_right u (c ∷ cs) [] xs ys j y x f p q h k l = absurd f
   woven_right u (c ∷ cs) (d ∷ ds) xs ys zero y x f p q h k l =
       let e : u * (y * columns_in d + x) ≡ u * (0 + (y * columns_in d + x)) = omega arith in
@@ -119,10 +119,10 @@ linked n s x c h = ⊎_elim (λ e. subst (λ (k : ℕ). Linked k s c) (sym e) (o
   where
     one : (c : ℕ) → c < 1 → Linked 1 s c
     one zero h = record { is = refl; first = refl; inside = omega arith }
-    one (suc c) h = let z : ⊥ = omega arith in absurd z
+    one (suc c) h = absurd (omega arith)
 
     all : (c : ℕ) → c < 3 → Linked 3 s c
     all zero h = record { is = refl; first = refl; inside = omega arith }
     all (suc zero) h = record { is = refl; first = omega arith; inside = omega arith }
     all (suc (suc zero)) h = record { is = refl; first = omega arith; inside = omega arith }
-    all (suc (suc (suc c))) h = let z : ⊥ = omega arith in absurd z
+    all (suc (suc (suc c))) h = absurd (omega arith)

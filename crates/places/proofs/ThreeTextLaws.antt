@@ -3,7 +3,6 @@ use Prim.Native.Nat.{ℕ, ◌+◌}
 use mathlib.Core.Path.{◌≡◌, refl, sym, ap, ◌∙◌, subst}
 use mathlib.Core.List.{List}
 use mathlib.Core.Bool.{Bool, true, false, cond}
-use native.Mathlib.Omega.{arith}
 use native.Mathlib.Nat.{add_assoc}
 use lib.Dec.{leb}
 use borrow.Author.Tests.{leb-true}
@@ -37,13 +36,13 @@ both left right text e = by (read_text whole left) (read_text whole right) refl 
   where
     tests : (c d : Contents) → read_text whole left ≡ Gives c → read_text whole right ≡ Gives d → (x : Bool) → seam c d ≡ x → (y : Bool) → leb (c.sheet.header.width + d.sheet.header.width) 512 ≡ y
         → cond x (cond y (Text (output_of c d)) (Fault 2 0 0)) (Fault 16 0 0) ≡ Text text → Both left right text
-    tests c d p q false f y g e = let z : ◌≡◌ {A = ℕ} 0 1 = cc in let w : ⊥ = omega arith in absurd w
-    tests c d p q true f false g e = let z : ◌≡◌ {A = ℕ} 0 1 = cc in let w : ⊥ = omega arith in absurd w
+    tests c d p q false f y g e = absurd cc
+    tests c d p q true f false g e = absurd cc
     tests c d p q true f true g e = record { one = c; other = d; left_reads = p; right_reads = q; fit = f; narrow = g; text_is = cc }
 
     by : (T U : Outcome Contents) → read_text whole left ≡ T → read_text whole right ≡ U → joining T U ≡ Text text → Both left right text
-    by (Refused a b) U p q e = let z : ◌≡◌ {A = ℕ} 0 1 = cc in let w : ⊥ = omega arith in absurd w
-    by (Gives c) (Refused a b) p q e = let z : ◌≡◌ {A = ℕ} 0 1 = cc in let w : ⊥ = omega arith in absurd w
+    by (Refused a b) U p q e = absurd cc
+    by (Gives c) (Refused a b) p q e = absurd cc
     by (Gives c) (Gives d) p q e = tests c d p q (seam c d) refl (leb (c.sheet.header.width + d.sheet.header.width) 512) refl e
 
 abbrev beside : Contents → Contents → Contents

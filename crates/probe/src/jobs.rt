@@ -6,12 +6,13 @@ ghost use Rattle.gradients.specs.Blend.{blended, totals};
 ghost use Rattle.start.specs.Auxiliary.{aux_init};
 ghost use Rattle.projection.specs.Blown.{is_blown};
 ghost use Rattle.start.specs.Coef.{Covers, Lent, coef, pairs};
+ghost use Rattle.start.specs.AsCoef.{as_coef};
 ghost use Rattle.fidelity.specs.DctGradient.{data_gradient};
 ghost use Rattle.projection.specs.Projection.{clipped, project_onto_box, transformed};
 ghost use Rattle.probe.specs.Jobs.{own, reorder_from, bits_of};
 
 use gradients::grid::Grid;
-use start::coef::{Own, Reorder};
+use start::coef::{Coef, Own, Reorder};
 use steps::solve::step_constants;
 
 fn reorder_from(n: u32) -> Reorder
@@ -21,6 +22,37 @@ fn reorder_from(n: u32) -> Reorder
         return Reorder::Once;
     }
     Reorder::Each
+}
+
+// A channel's coefficients, of the numbers and slices that a C function takes.
+fn coef_of<'a>(
+    width: usize,
+    height: usize,
+    fx: usize,
+    fy: usize,
+    w: usize,
+    h: usize,
+    lows: &'a [i16],
+    highs: &'a [i16],
+    table: &'a [u16],
+) -> Coef<'a>
+    requires { Covers (own width height fx fy) w h
+        × Lent (own width height fx fy) (pairs lows.now highs.now) table.now }
+    ensures { (as_coef result ≡ coef (own width height fx fy) (pairs lows.now highs.now) table.now) × (result.w ≡ w) × (result.h ≡ h) }
+{
+    Coef {
+        own: Own {
+            width,
+            height,
+            horizontal: fx,
+            vertical: fy,
+        },
+        w,
+        h,
+        lows,
+        highs,
+        table,
+    }
 }
 
 // Start of one channel: own sides `width` and `height`, factors fx across and fy down, full sides w and h, and reordered once where `reorder` is 1.
@@ -57,16 +89,9 @@ pub extern "C" fn probe_start(
     }
         ≡ aux_init (reorder_from reorder) (coef (own width height fx fy) (pairs lows.now highs.now) table.now) w h }
 {
-    let o = Own {
-        width: width,
-        height: height,
-        horizontal: fx,
-        vertical: fy,
-    };
+    let coef = coef_of(width, height, fx, fy, w, h, lows, highs, table);
     let r = reorder_from(reorder);
-    start::auxiliary::start(
-        plane, prior, gradient, across, down, saved, o, w, h, r, lows, highs, table,
-    );
+    start::auxiliary::start(plane, prior, gradient, across, down, saved, &coef, r);
 }
 
 // Job 1 of a step, counted from 0, of a run with full sides w and h.
@@ -111,13 +136,8 @@ pub extern "C" fn probe_data(
         ≡ data_gradient (coef (own width height fx fy) (pairs lows.now highs.now) table.now)
         w h weight saved.now }
 {
-    let o = Own {
-        width: width,
-        height: height,
-        horizontal: fx,
-        vertical: fy,
-    };
-    fidelity::dct_gradient::data(saved, gradient, o, w, h, weight, lows, highs, table);
+    let coef = coef_of(width, height, fx, fy, w, h, lows, highs, table);
+    fidelity::dct_gradient::data(saved, gradient, &coef, weight);
 }
 
 // Job 3 of a run with n channels. Both totals are written by their bits.
@@ -201,15 +221,8 @@ pub extern "C" fn probe_project(
         (transformed (coef (own width height fx fy) (pairs lows.now highs.now) table.now) w h
         (record { plane = plane.old; across = across.old; down = down.old; saved = saved.old }))) }
 {
-    let o = Own {
-        width: width,
-        height: height,
-        horizontal: fx,
-        vertical: fy,
-    };
-    projection::projection::project_onto_box(
-        plane, across, down, saved, o, w, h, lows, highs, table,
-    )
+    let coef = coef_of(width, height, fx, fy, w, h, lows, highs, table);
+    projection::projection::project_onto_box(plane, across, down, saved, &coef)
 }
 
 // The condition of job 5, of the plane and the n saved coefficients: 1 where it holds, 0 where not.

@@ -118,13 +118,16 @@ grey : painted rounding.Truncate sheet.header (replicate 64 (of_bits binary32 0x
 unfolding painted picture_text Output.each Finish.pixel upto to_unsigned
 grey = refl
 
+otherwise : (x : Bool) (one other : List ℕ) → x ≡ false → cond x one other ≡ other
+otherwise x one other e = ap (λ (y : Bool). cond y one other) e
+
 -- "`smooth` prints two lines, `I` tab `2` tab `1`, then `R` tab `818181` tab `818181`", after the line `K`
 pub whole_example : printed example ≡ b "K\t0\t0\nI\t2\t1\nR\t818181\t818181\n"
 unfolding printed says sheet_text
 whole_example =
     let t = totals_lines sheet (totals_of sheet levels tables) in
     let k = clipped_lines 1 (clipped_at sheet levels tables) in
-    ap says reads ∙ ap (λ (x : Bool). cond x (refusal_text 10 0) (t ++ (k ++ painted rounding.Truncate sheet.header (planes sheet levels tables)))) unblown
+    ap says reads ∙ otherwise (blows sheet levels tables) _ (t ++ (k ++ painted rounding.Truncate sheet.header (planes sheet levels tables))) unblown
     ∙ ap (λ (ps : List Float). t ++ (k ++ painted rounding.Truncate sheet.header ps)) start ∙ (λ i. untotalled i ++ (unclipped i ++ grey i))
 
 -- "For 7 it is the unended line, the one after the last when `E` is missing": no line at all

@@ -11,16 +11,18 @@ use lib.ListN.{length, take}
 use lib.Seq.{length-take-le}
 use Rattle.contents.specs.declared.Header.{Header}
 use Rattle.contents.specs.declared.Sheet.{Sheet}
-use Rattle.sheet.specs.declared.Measured.{Measured}
-use Rattle.sheet.specs.declared.Measured.TheVariants as measured
-use Rattle.sheet.specs.declared.Answer as Read
-use Rattle.sheet.specs.declared.Answer.TheVariants as read
+use Rattle.std.specs.Prelude.{Result, Ok, Err, IsOk}
+use Rattle.refusal.specs.declared.Refusal.{Refusal}
+use Rattle.refusal.specs.Refusal.{number_of}
+use Rattle.sheet.specs.declared.Lengths.{Lengths}
+use Rattle.sheet.specs.declared.walk.Refused as walk
+use Rattle.sheet.specs.Walk as Walk
 use Rattle.contents.specs.Legal.{LegalHeader, LegalSheet}
 use Rattle.contents.specs.Sheets.{levels_to, Lent, Marked, held}
 use Rattle.contents.specs.declared.Reader.TheVariants as reader
 use Rattle.sheet.specs.Reading.{Outcome, Contents, contents, read_text}
 use Rattle.sheet.specs.Reading.Outcome.{Gives, Refused}
-use Rattle.sheet.specs.Calls.{Lengths, measured_says, answer_says, lengths_of, measuring, fitted, sheet_in, lent_after, Reads}
+use Rattle.sheet.specs.Calls.{lengths_of, measuring, fitted, sheet_in, lent_after, Reads}
 use Rattle.grammar.proofs.LegalLaws.{legal}
 use Rattle.grammar.specs.Longest.{longest, decisive}
 use Rattle.grammar.proofs.PrefixLaws.{decides}
@@ -29,8 +31,8 @@ use Rattle.start.specs.Coef.{Levels}
 use Rattle.start.specs.Buffers.{Buffers}
 use Rattle.calls.specs.Buffers.{Plane, Prior, Gradient, Across, Down, Saved, Sized}
 use Rattle.calls.specs.Calls.{all_six, lengths}
-use Rattle.record.specs.declared.Answer.{Answer}
-use Rattle.record.specs.declared.Answer.TheVariants.{Done}
+use Rattle.record.specs.declared.Accepted.{Accepted}
+use Rattle.record.specs.declared.Accepted.TheVariants.{Done}
 use Rattle.record.specs.Model.{answer_of}
 use Rattle.calls.proofs.Tests.{sized_names}
 use Rattle.rounds.specs.Whole.{Loan, loan, ClippedAre, Ended, Ends}
@@ -48,7 +50,16 @@ use Rattle.program.proofs.Accepts.{at-most, accepts}
 use Rattle.grammar.proofs.BoundLaws.{LineTo, line_bound}
 use Rattle.program.proofs.Sizes.{values_small, finished, written, refused}
 
--- ---- paint_with: what finish leaves, written out
+-- ---- paint_with: finish does not refuse, and what it leaves, written out
+
+pub finishes : (f : Rounding) (h : Header) → LegalHeader limits h → (ps : List Float) → length ps ≡ h.channels * (h.width * h.height)
+    → (rgb rgb' : List ℕ) → length rgb ≡ 3 * (h.picture_width * h.picture_height) → (t : Result Unit Refusal)
+    → record { answer = Finish.verdict t; bytes = rgb' } ≡ Finish.finishing f h.width h.height h.picture_width h.picture_height h.channels ps rgb → IsOk t
+finishes f h l ps long rgb rgb' room t e = by t (ap (λ (o : Finish.Finished). o.answer) (e ∙ finished h l f ps long rgb room))
+  where
+    by : (t : Result Unit Refusal) → Finish.verdict t ≡ Finish.done → IsOk t
+    by (Ok x) q = refl
+    by (Err r) q = absurd (let z : ◌≡◌ {A = ℕ} 0 1 = cc in omega arith)
 
 pub paints : (f : Rounding) (h : Header) → LegalHeader limits h → (ps : List Float) → length ps ≡ h.channels * (h.width * h.height)
     → (rgb rgb' : List ℕ) → length rgb ≡ 3 * (h.picture_width * h.picture_height) → (t : Finish.Verdict)
@@ -64,9 +75,19 @@ paints f h l ps long rgb rgb' room t e at out r out' m w =
 
 -- ---- solved_with: how solving a legal sheet ends
 
+-- accepted, by what was accepted
+pub is_accepted : (a : Result Accepted Refusal) (f : Accepted) → a ≡ Ok f → f ≡ Done → a ≡ Ok Done
+is_accepted a f e p = e ∙ ap Ok p
+
+pub not_accepted : (a : Result Accepted Refusal) (f : Accepted) → a ≡ Ok f → (f ≡ Done → ⊥) → a ≡ Ok Done → ⊥
+not_accepted a f e other q = other (ok_same f Done (sym e ∙ q))
+  where
+    ok_same : (f g : Accepted) → ◌≡◌ {A = Result Accepted Refusal} (Ok f) (Ok g) → f ≡ g
+    ok_same f g p = cc
+
 module _ (S : Sheet) (b : Lent) (l : LegalSheet limits S b) (B : Buffers)
     (long : SixLong S.header B.plane B.prior B.gradient B.across B.down B.saved) (T₀ : List Float) (room : length T₀ ≡ blend_count S * 2)
-    (a : Answer) (ks : List ℕ) (L' : Loan) (said : SolveIs S (levels_of b) b.tables (loan B T₀) a ks L') where
+    (a : Result Accepted Refusal) (ks : List ℕ) (L' : Loan) (said : SolveIs S (levels_of b) b.tables (loan B T₀) a ks L') where
   abbrev ls : Levels
   ls = levels_of b
 
@@ -89,8 +110,17 @@ module _ (S : Sheet) (b : Lent) (l : LegalSheet limits S b) (B : Buffers)
       subst (λ (n : ℕ). Ends n (whole_of S ls ts) (loan B T₀) (answer_of a) (number_in ks) L')
       (accepts limits S b l (lengths all_six B) (sized_names size B sized all_six) (length T₀) room) said
 
+  -- it is not refused
+  pub solves : IsOk a
+  solves = by a (blows S ls ts) ended
+    where
+      by : (a : Result Accepted Refusal) (b : Bool) → Ended b (whole_of S ls ts) (loan B T₀) (answer_of a) (number_in ks) L' → IsOk a
+      by (Ok f) b e = refl
+      by (Err r) true e = let z : ◌≡◌ {A = ℕ} 0 1 = cc e.0 in absurd (omega arith)
+      by (Err r) false e = let z : ◌≡◌ {A = ℕ} 0 1 = cc e.0 in absurd (omega arith)
+
   -- done: it did not blow, and the planes, the totals and the numbers are there
-  module _ (one : a ≡ Done) where
+  module _ (one : a ≡ Ok Done) where
     not_blown : (b : Bool) → Ended b (whole_of S ls ts) (loan B T₀) (answer_of a) (number_in ks) L'
         → (b ≡ false) × (L' ≡ loan (whole_of S ls ts).buffers (totals_of S ls ts)) × (length L'.buffers.plane ≡ size) × ClippedAre (whole_of S ls ts) (number_in ks)
         × (length L'.totals ≡ length T₀)
@@ -122,7 +152,7 @@ module _ (S : Sheet) (b : Lent) (l : LegalSheet limits S b) (B : Buffers)
         (wrote_more (wrote_as (lines_same S.header.channels (number_in ks) (clipped_at S ls ts) numbers) k) (omega arith) (wrote_as (λ i. painted (q i) S.header (shown i)) w)))
 
   -- any other answer: it blew
-  module _ (other : a ≡ Done → ⊥) where
+  module _ (other : a ≡ Ok Done → ⊥) where
     blown : (b : Bool) → Ended b (whole_of S ls ts) (loan B T₀) (answer_of a) (number_in ks) L' → b ≡ true
     blown true e = refl
     blown false e = absurd (not_done a other (sym e.0))
@@ -139,7 +169,7 @@ module _ (S : Sheet) (b : Lent) (l : LegalSheet limits S b) (B : Buffers)
 given : (a b : Lengths) → Gives a ≡ Gives b → a ≡ b
 given a b e = cc
 
-module _ (text : List ℕ) (into after : Lent) (r : Read.Answer)
+module _ (text : List ℕ) (into after : Lent) (r : Result Sheet walk.Refused)
     (room : measuring limits text ≡ Gives (record { levels = length into.lows; tables = length into.tables })) (even : length into.highs ≡ length into.lows)
     (said : Reads limits reader.Staff text into after r) where
   -- what is read has as many highs as lows
@@ -157,26 +187,26 @@ module _ (text : List ℕ) (into after : Lent) (r : Read.Answer)
       by (Refused k at) q e = refl
 
   -- the sheet and the buffers are what was read, with some kinds of its blocks and some marks
-  sheet_read : (s : Sheet) → r ≡ read.Sheet s → (rs : List Bool) × (ms : List Marked) × (read_text limits text ≡ contents s (held after rs ms))
+  sheet_read : (s : Sheet) → r ≡ Ok s → (rs : List Bool) × (ms : List Marked) × (read_text limits text ≡ contents s (held after rs ms))
   sheet_read s p =
-      by (read_text limits text) (sym (ap answer_says p) ∙ said.answer ∙ ap sheet_in whole) (said.lent ∙ ap (λ (o : Outcome Contents). lent_after reader.Staff o into) whole)
+      by (read_text limits text) (sym (ap Walk.said p) ∙ said.answer ∙ ap sheet_in whole) (said.lent ∙ ap (λ (o : Outcome Contents). lent_after reader.Staff o into) whole)
     where
       by : (T : Outcome Contents) → Gives s ≡ sheet_in T → after ≡ lent_after reader.Staff T into → (rs : List Bool) × (ms : List Marked) × (T ≡ contents s (held after rs ms))
       by (Gives c) e p = let same : c.sheet ≡ s = cc in (c.held.ranged, c.held.marks, λ i. Gives (record { sheet = same i; held = held (sym p i) c.held.ranged c.held.marks }))
       by (Refused k at) e p = absurd (let z : ◌≡◌ {A = ℕ} 0 1 = cc in omega arith)
 
-  pub sheet_legal : (s : Sheet) → r ≡ read.Sheet s → LegalSheet limits s after
+  pub sheet_legal : (s : Sheet) → r ≡ Ok s → LegalSheet limits s after
   sheet_legal s p = let q = sheet_read s p in legal limits text s (held after q.0 q.1) q.2
 
-  pub sheet-text : (s : Sheet) → r ≡ read.Sheet s → (out : List ℕ) (n : ℕ) (out' : List ℕ) → Wrote 0 (sheet_text s (levels_of after) after.tables) out n out' → Wrote 0 (printed text) out n out'
+  pub sheet-text : (s : Sheet) → r ≡ Ok s → (out : List ℕ) (n : ℕ) (out' : List ℕ) → Wrote 0 (sheet_text s (levels_of after) after.tables) out n out' → Wrote 0 (printed text) out n out'
   unfolding printed says
   sheet-text s p out n out' w = wrote_as (ap says (sym (sheet_read s p).2)) w
 
   -- a refusal was measured before
-  pub not_refused : (k line : ℕ) → r ≡ read.Refused k line → ⊥
-  not_refused k line p = by (read_text limits text) room (sym (ap answer_says p) ∙ said.answer ∙ ap sheet_in whole)
+  pub not_refused : (f : walk.Refused) → r ≡ Err f → ⊥
+  not_refused f p = by (read_text limits text) room (sym (ap Walk.said p) ∙ said.answer ∙ ap sheet_in whole)
     where
-      by : (T : Outcome Contents) → lengths_of T ≡ Gives (record { levels = length into.lows; tables = length into.tables }) → Refused k line ≡ sheet_in T → ⊥
+      by : (T : Outcome Contents) → lengths_of T ≡ Gives (record { levels = length into.lows; tables = length into.tables }) → Refused (number_of f.refusal) f.line ≡ sheet_in T → ⊥
       by (Gives c) m e = let z : ◌≡◌ {A = ℕ} 0 1 = cc in omega arith
       by (Refused k at) m e = let z : ◌≡◌ {A = ℕ} 0 1 = cc in omega arith
 
@@ -224,20 +254,20 @@ pub decisive_32 : decisive 32 ≡ decided
 unfolding decisive longest decimal
 decisive_32 = refl
 
-pub measured_room : (o : Outcome Lengths) (r : Measured) (n m : ℕ) → measured_says r ≡ o → r ≡ measured.Lengths n m → o ≡ Gives (record { levels = n; tables = m })
-measured_room o r n m e p = sym e ∙ ap measured_says p
+pub measured_room : (o : Outcome Lengths) (r : Result Lengths walk.Refused) (n : Lengths) → Walk.said r ≡ o → r ≡ Ok n → o ≡ Gives n
+measured_room o r n e p = sym e ∙ ap Walk.said p
 
-pub refusal-text : (text : List ℕ) → length text ≤ decisive 32 → (r : Measured) (k line : ℕ) → measured_says r ≡ measuring limits text → r ≡ measured.Refused k line
-    → (out : List ℕ) (n : ℕ) (out' : List ℕ) → most_printed ≤ length out → Wrote 0 (refusal_into k line (length out)) out n out' → Wrote 0 (printed text) out n out'
+pub refusal-text : (text : List ℕ) → length text ≤ decisive 32 → (r : Result Lengths walk.Refused) (f : walk.Refused) → Walk.said r ≡ measuring limits text → r ≡ Err f → (k : ℕ) → k ≡ number_of f.refusal
+    → (out : List ℕ) (n : ℕ) (out' : List ℕ) → most_printed ≤ length out → Wrote 0 (refusal_into k f.line (length out)) out n out' → Wrote 0 (printed text) out n out'
 unfolding printed says
-refusal-text text h r k line e p out n out' m w = by (read_text limits text) (line_bound limits text) (sym (ap measured_says p) ∙ e)
+refusal-text text h r f e p k same_number out n out' m w = by (read_text limits text) (line_bound limits text) (sym (ap Walk.said p) ∙ e)
   where
-    by : (T : Outcome Contents) → LineTo (length text + 2) T → Refused k line ≡ lengths_of T → Wrote 0 (says T) out n out'
+    by : (T : Outcome Contents) → LineTo (length text + 2) T → Refused (number_of f.refusal) f.line ≡ lengths_of T → Wrote 0 (says T) out n out'
     by (Gives c) b q = absurd (let z : ◌≡◌ {A = ℕ} 0 1 = cc in omega arith)
     by (Refused k' line') b q =
         let number : k ≡ k' = cc in
-        let same : line ≡ line' = cc in
-        wrote_as (refused k line (length out) (omega (arith, decisive_32)) m ∙ (λ i. refusal_text (number i) (same i))) w
+        let same : f.line ≡ line' = cc in
+        wrote_as (refused k f.line (length out) (omega (arith, decisive_32)) m ∙ (λ i. refusal_text (number i) (same i))) w
 
 -- ---- smooth_text: enough room, and as much of the text as decides
 

@@ -1,8 +1,8 @@
 -- What the program `smooth` prints for a text (document 01, "Whole run and picture", last paragraph): demands 1 and 2 from end to end.
-use Rattle.std.specs.Prelude.{ℕ, suc, ◌+◌, ◌*◌, ◌≡◌, cond, List, [], ◌++◌, leb, length, Float}
+use Rattle.std.specs.Prelude.{ℕ, Option, Some, None, suc, ◌+◌, ◌*◌, ◌≡◌, cond, List, [], ◌++◌, leb, length, Float}
 use Rattle.contents.specs.declared.Limits.{Limits}
-use Rattle.contents.specs.declared.Choice.{Choice}
-use Rattle.contents.specs.declared.Choice.TheVariants as choice
+use Rattle.contents.specs.declared.Letter.{Letter}
+use Rattle.contents.specs.declared.Letter.TheVariants as letter
 use Rattle.contents.specs.declared.Header.{Header}
 use Rattle.contents.specs.declared.Sheet.{Sheet}
 use Rattle.contents.specs.Sheets.{Lent}
@@ -18,10 +18,10 @@ use Rattle.picture.specs.Finish.{to_byte, picture}
 use Rattle.output.specs.Output.{picture_text, picture_room, refusal_text, totals_text, clipped_text}
 
 -- "A line `F` with `t` or `n` may follow the `S` line; without it `t` holds" (M-100)
-abbrev pub rounding_of : Choice → Rounding
-rounding_of choice.Unsaid = rounding.Truncate
-rounding_of choice.First = rounding.Truncate
-rounding_of choice.Second = rounding.Nearest
+abbrev pub rounding_of : Option Letter → Rounding
+rounding_of None = rounding.Truncate
+rounding_of (Some letter.First) = rounding.Truncate
+rounding_of (Some letter.Second) = rounding.Nearest
 
 -- the text of a header's picture of these planes, by a rounding
 unfoldable pub painted : Rounding → Header → List Float → List ℕ

@@ -5,7 +5,8 @@ ghost use Rattle.std.specs.Prelude.{◌≡◌, ℕ, ◌+◌, ◌*◌, ◌≤◌,
 ghost use Rattle.fold.specs.Join.{join_upto};
 ghost use Rattle.contents.specs.Sheets.{lent};
 ghost use Rattle.start.specs.Coef.{pairs};
-ghost use Rattle.sheet.specs.Calls.{measuring, Lengths};
+ghost use Rattle.sheet.specs.Calls.{measuring};
+ghost use Rattle.sheet.specs.declared.Lengths.{Lengths};
 ghost use Rattle.grammar.specs.Longest.{decisive};
 ghost use Rattle.sheet.specs.Reading.Outcome.{Gives};
 ghost use Rattle.contents.specs.Legal.{LegalHeader, LegalSheet};
@@ -13,10 +14,11 @@ ghost use Rattle.solve.specs.Solve.{blend_count, number_in};
 ghost use Rattle.output.specs.Output.{Wrote};
 ghost use Rattle.program.specs.Printed.{limits, rounding_of, painted, run_lines, totals_lines, clipped_lines, sheet_text, printed, most_picture, most_totals, most_printed, printed_into, SixLong};
 
-use contents::{Choice, Header, Limits, Reader, Sheet};
+use contents::{Header, Letter, Limits, Reader, Sheet};
 use picture::Rounding;
-use record::Answer;
-use sheet::Measured;
+use record::Accepted;
+use refusal::Refusal;
+use sheet::Lengths;
 use solve::counts::{blend_count, iterations_at, steps_before};
 use solve::solve;
 
@@ -24,15 +26,20 @@ use solve::solve;
 const DECISIVE: usize = 39294;
 // No text that is printed takes more bytes: `most_printed`.
 const MOST_PRINTED: usize = 136269;
+// What `smooth` allows: sides to 32, every legal iteration count.
+const LIMITS: Limits = Limits {
+    side: 32,
+    iterations: 1000,
+};
 
 // How the letter of line F rounds; without it t holds.
-fn rounding_of(c: Choice) -> Rounding
+fn rounding_of(c: Option<Letter>) -> Rounding
     ensures { result ≡ rounding_of c }
 {
     match c {
-        Choice::Unsaid => Rounding::Truncate,
-        Choice::First => Rounding::Truncate,
-        Choice::Second => Rounding::Nearest,
+        None => Rounding::Truncate,
+        Some(Letter::First) => Rounding::Truncate,
+        Some(Letter::Second) => Rounding::Nearest,
     }
 }
 
@@ -90,10 +97,11 @@ fn paint_with(
 {
     let width = h.picture_width;
     let height = h.picture_height;
-    let _done = picture::finish(
+    picture::finish(
         rounding, h.width, h.height, width, height, h.channels, planes, rgb,
-    );
-    output::write_picture(width, height, &rgb[..], out, at)
+    )
+    .unwrap();
+    output::write_picture(width, height, rgb, out, at)
 }
 
 // The same, with room of its own.
@@ -106,7 +114,8 @@ fn paint(rounding: Rounding, h: Header, planes: &[f32], out: &mut [u8], at: usiz
     paint_with(rounding, h, planes, &mut rgb[0..n], out, at)
 }
 
-// The text of a sheet that was read: its lines `T` and `K` and its picture, or 10. The six and the totals are room for its runs.
+// The text of a sheet that was read: its lines `T` and `K` and its picture, or 10. The six and the totals are room for its runs, so that solving
+// refuses nothing here.
 fn solved_with(
     s: Sheet,
     lows: &[i16],
@@ -126,20 +135,16 @@ fn solved_with(
     ensures { Wrote 0 (sheet_text s (pairs lows.now highs.now) tables.now) out.old result out.new }
 {
     let h = s.header;
-    let settings = s.settings;
-    let choice = settings.rounding;
-    let rounding = rounding_of(choice);
+    let rounding = rounding_of(s.settings.rounding);
     let t = solve(
         s, lows, highs, tables, plane, prior, gradient, across, down, saved, totals,
     );
-    let answer = t.answer;
-    let Answer::Done = answer else {
-        return output::write_refusal(10, 0, out);
+    let Accepted::Done = t.answer.unwrap() else {
+        return output::write_refusal(Refusal::Blown.number(), 0, out);
     };
-    let clipped = t.clipped;
-    let from = write_sums(s, &totals[..], out);
-    let at = write_numbers(h.channels, clipped, out, from);
-    paint(rounding, h, &plane[..], out, at)
+    let from = write_sums(s, totals, out);
+    let at = write_numbers(h.channels, t.clipped, out, from);
+    paint(rounding, h, plane, out, at)
 }
 
 // The same, with room of its own.
@@ -184,30 +189,22 @@ fn read_with(
     requires { (measuring limits text.now ≡ Gives (record { levels = length lows.old; tables = length tables.old })) × (length highs.old ≡ length lows.old) × (most_printed ≤ length out.old) }
     ensures { Wrote 0 (printed text.now) out.old result out.new }
 {
-    match sheet::read(
-        text,
-        Limits {
-            side: 32,
-            iterations: 1000,
-        },
-        Reader::Staff,
-        lows,
-        highs,
-        tables,
-    ) {
-        sheet::Answer::Sheet(s) => solved(s, &lows[..], &highs[..], &tables[..], out),
-        sheet::Answer::Refused { number, line } => output::write_refusal(number, line, out),
+    match sheet::read(text, LIMITS, Reader::Staff, lows, highs, tables) {
+        Ok(s) => solved(s, lows, highs, tables, out),
+        Err(e) => output::write_refusal(e.refusal.number(), e.line, out),
     }
 }
 
-// The same, with room of its own for n levels and m quantisers.
-fn read_and_solve(text: &[u8], n: usize, m: usize, out: &mut [u8]) -> usize
-    requires { (measuring limits text.now ≡ Gives (record { levels = n; tables = m })) × (most_printed ≤ length out.old) }
+// The same, with room of its own for the levels and quantisers.
+fn read_and_solve(text: &[u8], lengths: Lengths, out: &mut [u8]) -> usize
+    requires { (measuring limits text.now ≡ Gives lengths) × (most_printed ≤ length out.old) }
     ensures { Wrote 0 (printed text.now) out.old result out.new }
 {
     let mut lows = [0i16; 3072];
     let mut highs = [0i16; 3072];
     let mut tables = [0u16; 192];
+    let n = lengths.levels;
+    let m = lengths.tables;
     read_with(
         text,
         &mut lows[0..n],
@@ -222,18 +219,9 @@ fn answer(text: &[u8], out: &mut [u8]) -> usize
     requires { (length text.now ≤ decisive 32) × (most_printed ≤ length out.old) }
     ensures { Wrote 0 (printed text.now) out.old result out.new }
 {
-    match sheet::measure(
-        text,
-        Limits {
-            side: 32,
-            iterations: 1000,
-        },
-    ) {
-        Measured::Refused { number, line } => output::write_refusal(number, line, out),
-        Measured::Lengths {
-            levels: n,
-            tables: m,
-        } => read_and_solve(text, n, m, out),
+    match sheet::measure(text, LIMITS) {
+        Ok(lengths) => read_and_solve(text, lengths, out),
+        Err(e) => output::write_refusal(e.refusal.number(), e.line, out),
     }
 }
 

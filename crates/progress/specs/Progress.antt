@@ -1,22 +1,20 @@
 -- What was read so far of a sheet: the tag that the next line is read by, and what a good line adds.
-use Rattle.std.specs.Prelude.{ℕ, ◌+◌, ◌-◌, ◌*◌, ◌/◌, List, [], Bool, true, false, not, cond, ◌&&◌, get_or, eqb, leb, ltb}
+use Rattle.std.specs.Prelude.{ℕ, ◌+◌, ◌-◌, ◌*◌, ◌/◌, List, [], Bool, true, false, not, cond, ◌&&◌, get_or, eqb, leb, ltb, is_none, Some, Ok, Err, Result}
+use Rattle.refusal.specs.declared.Refusal.{Refusal}
+use Rattle.refusal.specs.declared.Refusal.TheVariants as refusal
 use Rattle.text.specs.Fields.{letter}
-use Rattle.contents.specs.declared.Choice.{Choice}
-use Rattle.contents.specs.declared.Choice.TheVariants as choice
-use Rattle.contents.specs.declared.Hold.{Hold}
-use Rattle.contents.specs.declared.Hold.TheVariants as hold
 use Rattle.contents.specs.declared.Header.{Header}
 use Rattle.contents.specs.declared.Channel.{Channel}
 use Rattle.contents.specs.declared.Mark.{Mark}
 use Rattle.contents.specs.declared.Settings.{Settings}
 use Rattle.contents.specs.declared.Sheet.{Sheet}
+use Rattle.lines.specs.declared.Tag.{Tag}
+use Rattle.lines.specs.declared.Tag.TheVariants as tags
 use Rattle.lines.specs.declared.Setting.{Setting}
 use Rattle.lines.specs.declared.Setting.TheVariants as setting
 use Rattle.lines.specs.declared.Record.{Record}
 use Rattle.lines.specs.declared.Record.TheVariants as line
 use Rattle.progress.specs.declared.State.{State}
-use Rattle.progress.specs.declared.Taken.{Taken}
-use Rattle.progress.specs.declared.Taken.TheVariants as taken
 use Rattle.contents.specs.Marks.{block_of, has_block}
 use Rattle.contents.specs.Sheets.{no_header, no_settings, no_channel}
 
@@ -33,19 +31,21 @@ blank = record { begun = false; sheet = headed no_header; read = 0; left = 0 }
 abbrev pub due_tag : State → ℕ
 due_tag s = cond s.begun (cond (ltb 0 s.left) 66 (cond (ltb s.read s.sheet.header.channels) 67 69)) 83
 
--- No line said this setting
-abbrev pub unsaid : Choice → Bool
-unsaid choice.Unsaid = true
-unsaid choice.First = false
-unsaid choice.Second = false
+-- The settings have an order: F is 1, A is 2, H is 3
+abbrev pub place_of : Tag → ℕ
+place_of tags.Rounding = 1
+place_of tags.Start = 2
+place_of tags.Hold = 3
+place_of tags.Header = 0
+place_of tags.Channel = 0
+place_of tags.Block = 0
+place_of tags.Range = 0
+place_of tags.Mark = 0
+place_of tags.End = 0
 
-abbrev pub no_hold : Hold → Bool
-no_hold hold.Unsaid = true
-no_hold (hold.Counts k l m) = false
-
--- The settings have an order: F is 1, A is 2, H is 3. The last that was said, 0 where none was
+-- The last that a line said, 0 where none did
 abbrev pub last_said : Settings → ℕ
-last_said x = cond (no_hold x.hold) (cond (unsaid x.start) (cond (unsaid x.rounding) 0 1) 2) 3
+last_said x = cond (is_none x.hold) (cond (is_none x.start) (cond (is_none x.rounding) 0 1) 2) 3
 
 -- "`F` .. may follow the `S` line", "`A` .. may follow `S` or `F`", "`H` .. follows the other settings": setting i where no channel was read, and no setting but earlier ones
 abbrev pub may_stand : ℕ → State → Bool
@@ -69,9 +69,9 @@ line_tag s fs = cond (is_setting s fs 1 70) 70 (cond (is_setting s fs 2 65) 65 (
 
 -- one more setting
 abbrev pub with_setting : Settings → Setting → Settings
-with_setting x (setting.Rounding r) = record { rounding = r; start = x.start; hold = x.hold }
-with_setting x (setting.Start a) = record { rounding = x.rounding; start = a; hold = x.hold }
-with_setting x (setting.Hold h) = record { rounding = x.rounding; start = x.start; hold = h }
+with_setting x (setting.Rounding r) = record { rounding = Some r; start = x.start; hold = x.hold }
+with_setting x (setting.Start a) = record { rounding = x.rounding; start = Some a; hold = x.hold }
+with_setting x (setting.Hold h) = record { rounding = x.rounding; start = x.start; hold = Some h }
 
 -- a sheet with these settings
 abbrev pub settled : Sheet → Settings → Sheet
@@ -105,9 +105,9 @@ exists s m = has_block s m && ltb (block_of s m) most_blocks
 
 -- The state after a line whose fields are good, or its fault: "then cover (2)"; "18 "mark", channel or block absent or marked twice", where
 -- `twice` says whether the block was marked before
-unfoldable pub taken_if : State → Bool → Record → Taken
-taken_if s twice (line.Header h) = taken.Good (record { begun = true; sheet = headed h; read = 0; left = 0 })
-taken_if s twice (line.Channel c) = cond (covers s.sheet.header c) (taken.Good (opened s c)) (taken.Bad 2)
-taken_if s twice (line.Setting x) = taken.Good (record { begun = s.begun; sheet = settled s.sheet (with_setting s.sheet.settings x); read = s.read; left = s.left })
-taken_if s twice line.Block = taken.Good (record { begun = s.begun; sheet = s.sheet; read = s.read; left = s.left - 1 })
-taken_if s twice (line.Mark m) = cond (exists s.sheet m && not twice) (taken.Good s) (taken.Bad 18)
+unfoldable pub taken_if : State → Bool → Record → Result State Refusal
+taken_if s twice (line.Header h) = Ok (record { begun = true; sheet = headed h; read = 0; left = 0 })
+taken_if s twice (line.Channel c) = cond (covers s.sheet.header c) (Ok (opened s c)) (Err refusal.Size)
+taken_if s twice (line.Setting x) = Ok (record { begun = s.begun; sheet = settled s.sheet (with_setting s.sheet.settings x); read = s.read; left = s.left })
+taken_if s twice line.Block = Ok (record { begun = s.begun; sheet = s.sheet; read = s.read; left = s.left - 1 })
+taken_if s twice (line.Mark m) = cond (exists s.sheet m && not twice) (Ok s) (Err refusal.Mark)

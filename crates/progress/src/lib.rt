@@ -1,30 +1,26 @@
 // What was read so far, and what the next line adds to it.
 #![tactic(auto)]
 
-ghost use Rattle.std.specs.Prelude.{◌≡◌, cond, false, ◌<◌, length};
+ghost use Rattle.std.specs.Prelude.{◌≡◌, false, ◌<◌, length};
 ghost use Rattle.contents.specs.Sheets.{no_header, no_channel};
 ghost use Rattle.progress.specs.Taking.{Due, twice_in, marked_in};
 ghost use Rattle.text.specs.Pieces.{split};
-ghost use Rattle.progress.specs.Progress.{most_blocks, exists, blank, headed, placed, due_tag, unsaid, no_hold, last_said, may_stand, is_setting, is_range, is_mark, line_tag, with_setting, settled, taken_if};
+ghost use Rattle.progress.specs.Progress.{most_blocks, exists, blank, headed, placed, due_tag, place_of, may_stand, is_setting, is_range, is_mark, line_tag, with_setting, taken_if};
+ghost use Rattle.lines.specs.Lines.{letter_of};
 
-use contents::{Channel, Choice, Header, Hold, Mark, Settings, Sheet, Weight, block_of, has_block};
-use lines::{Record, Setting};
+use contents::{Channel, Header, Mark, Settings, Sheet, Weight, block_of, has_block};
+use lines::{Record, Setting, Tag};
+use refusal::Refusal;
 use text::field;
 
 // The sheet so far: whether the header was read, how many channels were, and how many blocks of the last are still to come.
-#[derive(Clone, Copy)]
+// Kept: an Option of the sheet is no plainer, since all that comes after the header would have to open it again.
+#[derive(Clone, Copy, Debug, PartialEq, Eq)]
 pub struct State {
     pub begun: bool,
     pub sheet: Sheet,
     pub read: u32,
     pub left: u64,
-}
-
-// The state after a good line, or the number of its fault.
-#[derive(Clone, Copy)]
-pub enum Taken {
-    Good(State),
-    Bad(u8),
 }
 
 fn no_channel() -> Channel
@@ -65,278 +61,177 @@ fn no_header() -> Header
 fn no_channels(header: Header) -> Sheet
     ensures { result ≡ headed header }
 {
-    let none = no_channel();
-    let settings = Settings {
-        rounding: Choice::Unsaid,
-        start: Choice::Unsaid,
-        hold: Hold::Unsaid,
-    };
     Sheet {
         header,
-        settings,
-        first: none,
-        second: none,
-        third: none,
+        settings: Settings {
+            rounding: None,
+            start: None,
+            hold: None,
+        },
+        first: no_channel(),
+        second: no_channel(),
+        third: no_channel(),
     }
 }
 
 // Nothing read yet.
+#[tactic(auto, unfolding(crate::specs::Progress::blank))]
 pub fn nothing() -> State
     ensures { result ≡ blank }
 {
-    let sheet = no_channels(no_header());
     State {
         begun: false,
-        sheet,
+        sheet: no_channels(no_header()),
         read: 0,
         left: 0,
     }
 }
 
 // The tag that is due.
-fn due(s: State) -> u8
-    ensures { result ≡ due_tag s }
+fn due(s: State) -> Tag
+    ensures { letter_of result ≡ due_tag s }
 {
-    let sheet = s.sheet;
-    let h = sheet.header;
-    if s.begun {
-        if 0 < s.left {
-            return b'B';
-        }
-        if s.read < h.channels {
-            return b'C';
-        }
-        return b'E';
-    }
-    b'S'
-}
-
-fn is_unsaid(c: Choice) -> bool
-    ensures { result ≡ unsaid c }
-{
-    match c {
-        Choice::Unsaid => true,
-        Choice::First => false,
-        Choice::Second => false,
+    if !s.begun {
+        Tag::Header
+    } else if 0 < s.left {
+        Tag::Block
+    } else if s.read < s.sheet.header.channels {
+        Tag::Channel
+    } else {
+        Tag::End
     }
 }
 
-fn is_no_hold(h: Hold) -> bool
-    ensures { result ≡ no_hold h }
+// May this setting stand here? No setting follows itself or a later one.
+fn may_stand(s: State, tag: Tag) -> bool
+    ensures { result ≡ may_stand (place_of tag) s }
 {
-    match h {
-        Hold::Unsaid => true,
-        Hold::Counts(_, _, _) => false,
-    }
+    let said = s.sheet.settings;
+    let follows = match tag {
+        Tag::Rounding => said.rounding.is_none() && said.start.is_none() && said.hold.is_none(),
+        Tag::Start => said.start.is_none() && said.hold.is_none(),
+        Tag::Hold => said.hold.is_none(),
+        _ => false,
+    };
+    s.begun && s.read == 0 && follows
 }
 
-// The last setting that was said: 1 for F, 2 for A, 3 for H, 0 for none.
-fn last_said(settings: Settings) -> u32
-    ensures { result ≡ last_said settings }
+// Is this the line of the setting with this tag, and may it stand here?
+fn is_setting(s: State, row: &[u8], tag: Tag) -> bool
+    ensures { result ≡ is_setting s (split 9 row.now) (place_of tag) (letter_of tag) }
 {
-    let rounding = settings.rounding;
-    let start = settings.start;
-    let hold = settings.hold;
-    if is_no_hold(hold) {
-        if is_unsaid(start) {
-            if is_unsaid(rounding) {
-                return 0;
-            }
-            return 1;
-        }
-        return 2;
-    }
-    3
-}
-
-// May setting i stand here?
-fn may_stand(s: State, i: u32) -> bool
-    ensures { result ≡ may_stand i s }
-{
-    let sheet = s.sheet;
-    let settings = sheet.settings;
-    if s.begun {
-        if s.read != 0 {
-            return false;
-        }
-        return last_said(settings) < i;
-    }
-    false
-}
-
-// Is this the line of setting i, with this tag, and may it stand here?
-fn is_setting(s: State, row: &[u8], i: u32, tag: u8) -> bool
-    ensures { result ≡ is_setting s (split 9 row.now) i tag }
-{
-    if field::letter_at(row, 0, tag) {
-        return may_stand(s, i);
-    }
-    false
+    field::letter_at(row, 0, tag.letter()) && may_stand(s, tag)
 }
 
 // Is this the line of a block with ranges, and may it stand here?
 fn is_range(s: State, row: &[u8]) -> bool
     ensures { result ≡ is_range s (split 9 row.now) }
 {
-    if field::letter_at(row, 0, b'G') {
-        if s.begun {
-            return 0 < s.left;
-        }
-        return false;
-    }
-    false
+    field::letter_at(row, 0, b'G') && s.begun && 0 < s.left
 }
 
 // Is this the line of a mark, and may it stand here?
 fn is_mark(s: State, row: &[u8]) -> bool
     ensures { result ≡ is_mark s (split 9 row.now) }
 {
-    if field::letter_at(row, 0, b'N') {
-        return due(s) == b'E';
-    }
-    false
+    field::letter_at(row, 0, b'N') && due(s) == Tag::End
 }
 
 // The tag that the next line is read by: its own where it may stand here, else the due one.
-pub fn expected(s: State, row: &[u8]) -> u8
-    ensures { result ≡ line_tag s (split 9 row.now) }
+#[tactic(auto, unfolding(crate::specs::Progress::line_tag))]
+pub fn expected(s: State, row: &[u8]) -> Tag
+    ensures { letter_of result ≡ line_tag s (split 9 row.now) }
 {
-    if is_setting(s, row, 1, b'F') {
-        return b'F';
+    if is_setting(s, row, Tag::Rounding) {
+        Tag::Rounding
+    } else if is_setting(s, row, Tag::Start) {
+        Tag::Start
+    } else if is_setting(s, row, Tag::Hold) {
+        Tag::Hold
+    } else if is_range(s, row) {
+        Tag::Range
+    } else if is_mark(s, row) {
+        Tag::Mark
+    } else {
+        due(s)
     }
-    if is_setting(s, row, 2, b'A') {
-        return b'A';
-    }
-    if is_setting(s, row, 3, b'H') {
-        return b'H';
-    }
-    if is_range(s, row) {
-        return b'G';
-    }
-    if is_mark(s, row) {
-        return b'N';
-    }
-    due(s)
 }
 
 // One more setting.
 fn set_one(settings: Settings, x: Setting) -> Settings
     ensures { result ≡ with_setting settings x }
 {
-    let rounding = settings.rounding;
-    let start = settings.start;
-    let hold = settings.hold;
     match x {
-        Setting::Rounding(r) => Settings {
-            rounding: r,
-            start,
-            hold,
+        Setting::Rounding(letter) => Settings {
+            rounding: Some(letter),
+            ..settings
         },
-        Setting::Start(a) => Settings {
-            rounding,
-            start: a,
-            hold,
+        Setting::Start(letter) => Settings {
+            start: Some(letter),
+            ..settings
         },
-        Setting::Hold(h) => Settings {
-            rounding,
-            start,
-            hold: h,
+        Setting::Hold(counts) => Settings {
+            hold: Some(counts),
+            ..settings
         },
     }
-}
-
-// A sheet with these settings.
-fn settle(sheet: Sheet, settings: Settings) -> Sheet
-    ensures { result ≡ settled sheet settings }
-{
-    let header = sheet.header;
-    let first = sheet.first;
-    let second = sheet.second;
-    let third = sheet.third;
-    Sheet {
-        header,
-        settings,
-        first,
-        second,
-        third,
-    }
-}
-
-fn channel_if(new: bool, c: Channel, old: Channel) -> Channel
-    ensures { result ≡ cond new c old }
-{
-    if new { c } else { old }
 }
 
 // A channel's line at its place.
 fn place(sheet: Sheet, j: u32, c: Channel) -> Sheet
     ensures { result ≡ placed sheet j c }
 {
-    let header = sheet.header;
-    let settings = sheet.settings;
-    let first = sheet.first;
-    let second = sheet.second;
-    let third = sheet.third;
-    let first = channel_if(j == 0, c, first);
-    let second = channel_if(j == 1, c, second);
-    let third = channel_if(j == 2, c, third);
-    Sheet {
-        header,
-        settings,
-        first,
-        second,
-        third,
+    match j {
+        0 => Sheet { first: c, ..sheet },
+        1 => Sheet { second: c, ..sheet },
+        2 => Sheet { third: c, ..sheet },
+        _ => sheet,
     }
 }
 
 // The next channel's line. Blocks and cover are products of 64 bits, which hold every product of two u32.
-fn take_channel(s: State, c: Channel) -> Taken
+#[tactic(auto, unfolding(crate::specs::Progress::taken_if))]
+fn take_channel(s: State, c: Channel) -> Result<State, Refusal>
     requires { s.read < s.sheet.header.channels }
     ensures { result ≡ taken_if s false (Record.Channel c) }
 {
-    let sheet = s.sheet;
-    let h = sheet.header;
-    let read = s.read;
-    let w = c.width as u64;
-    let v = c.height as u64;
-    if (h.width as u64) < w * (c.across as u64) {
-        return Taken::Bad(2);
+    let h = s.sheet.header;
+    let width = u64::from(c.width);
+    let height = u64::from(c.height);
+    if u64::from(h.width) < width * u64::from(c.across)
+        || u64::from(h.height) < height * u64::from(c.down)
+    {
+        return Err(Refusal::Size);
     }
-    if (h.height as u64) < v * (c.down as u64) {
-        return Taken::Bad(2);
-    }
-    let left = w * v / 64;
-    let sheet = place(sheet, read, c);
-    Taken::Good(State {
+    Ok(State {
         begun: true,
-        sheet,
-        read: read + 1,
-        left,
+        sheet: place(s.sheet, s.read, c),
+        read: s.read + 1,
+        left: width * height / 64,
     })
 }
 
 // Is a mark's block one of the sheet?
+#[tactic(auto, unfolding(crate::specs::Progress::exists))]
 fn is_block(s: Sheet, m: Mark) -> bool
     ensures { result ≡ exists s m }
 {
-    if has_block(s, m) {
-        return block_of(s, m) < 12288;
-    }
-    false
+    has_block(s, m) && block_of(s, m) < 12288
 }
 
 // Marks a block in the map of all blocks. Was it marked before?
+#[tactic(auto, using(crate::proofs::StateLaws::exists_within))]
 fn mark_one(s: Sheet, m: Mark, bits: &mut [u8]) -> bool
     requires { length bits.old ≡ most_blocks }
     ensures { (result ≡ twice_in s (Record.Mark m) bits.old) × (bits.new ≡ marked_in s (Record.Mark m) bits.old) }
 {
-    if is_block(s, m) {
-        let b = block_of(s, m) as usize;
-        let old = bits[b];
-        bits[b] = 1;
-        return old != 0;
+    if !is_block(s, m) {
+        return false;
     }
-    false
+    let b = block_of(s, m) as usize;
+    let before = bits[b];
+    bits[b] = 1;
+    before != 0
 }
 
 // Marks the block of a line N. Was it marked before?
@@ -345,61 +240,42 @@ pub fn mark_block(s: Sheet, rec: Record, bits: &mut [u8]) -> bool
     ensures { (result ≡ twice_in s rec bits.old) × (bits.new ≡ marked_in s rec bits.old) }
 {
     match rec {
-        Record::Header(_) => false,
-        Record::Setting(_) => false,
-        Record::Channel(_) => false,
-        Record::Block => false,
         Record::Mark(m) => mark_one(s, m, bits),
+        Record::Header(_) | Record::Setting(_) | Record::Channel(_) | Record::Block => false,
     }
 }
 
-// The state after a mark, where it is known whether its block was marked before.
-fn take_mark(s: State, twice: bool, m: Mark) -> Taken
-    ensures { result ≡ taken_if s twice (Record.Mark m) }
-{
-    let sheet = s.sheet;
-    if is_block(sheet, m) {
-        if twice {
-            return Taken::Bad(18);
-        }
-        return Taken::Good(s);
-    }
-    Taken::Bad(18)
-}
-
-// The state after a good line, or the number of its fault. For a mark it is known whether its block was marked before.
-pub fn take_record(s: State, twice: bool, rec: Record) -> Taken
+// The state after a good line, or its refusal. For a mark it is known whether its block was marked before.
+#[tactic(auto, unfolding(crate::specs::Progress::taken_if))]
+pub fn take_record(s: State, twice: bool, rec: Record) -> Result<State, Refusal>
     requires { Due s rec }
     ensures { result ≡ taken_if s twice rec }
 {
     match rec {
-        Record::Header(h) => {
-            let sheet = no_channels(h);
-            Taken::Good(State {
-                begun: true,
-                sheet,
-                read: 0,
-                left: 0,
-            })
-        }
-        Record::Setting(x) => {
-            let sheet = s.sheet;
-            let settings = sheet.settings;
-            let settings = set_one(settings, x);
-            let sheet = settle(sheet, settings);
-            Taken::Good(State {
-                begun: s.begun,
-                sheet,
-                read: s.read,
-                left: s.left,
-            })
-        }
+        Record::Header(h) => Ok(State {
+            begun: true,
+            sheet: no_channels(h),
+            read: 0,
+            left: 0,
+        }),
+        Record::Setting(x) => Ok(State {
+            sheet: Sheet {
+                settings: set_one(s.sheet.settings, x),
+                ..s.sheet
+            },
+            ..s
+        }),
         Record::Channel(c) => take_channel(s, c),
-        Record::Block => {
-            let mut t = s;
-            t.left = s.left - 1;
-            Taken::Good(t)
+        Record::Block => Ok(State {
+            left: s.left - 1,
+            ..s
+        }),
+        Record::Mark(m) => {
+            if is_block(s.sheet, m) && !twice {
+                Ok(s)
+            } else {
+                Err(Refusal::Mark)
+            }
         }
-        Record::Mark(m) => take_mark(s, twice, m),
     }
 }

@@ -1,8 +1,12 @@
 -- What project leaves at each place of saved: the clamped values, and past them what was lent.
 use Rattle.std.proofs.Common.{◌≡◌, ℕ, zero, suc, ◌+◌, ◌*◌, ◌%◌, ◌<◌, ◌≤◌, Bool, true, false, cond, List, length, set, sym, refl, ap, ◌∙◌, arith, get_or-set_other}
+use Rattle.std.proofs.Common.{[], ◌∷◌, ◌++◌, take, drop, length-set, take-suc}
+use Rattle.std.proofs.lemmas.List.{drop-set-lt, take-append-drop}
+use lib.Seq.{take-suc-set}
+use mir.Val.{bool_byte}
 use lib.Ieee.{Float, nan}
 use Rattle.fold.specs.Fold.{upto}
-use Rattle.fold.proofs.Loops.{upto_ext, upto_nest}
+use Rattle.fold.proofs.Loops.{upto-keeps, upto_ext, upto_nest}
 use Rattle.fold.proofs.Grid.{column_of}
 use Rattle.fold.proofs.Turned.{turn_at, turned_above, turned_at}
 use Rattle.float.specs.Names.{val}
@@ -11,7 +15,7 @@ use Rattle.utils.specs.Dct.{dct8x8}
 use Rattle.utils.proofs.Lengths.{to_blocks_length}
 use Rattle.interval.specs.Interval.{clamp_to, outside}
 use Rattle.start.specs.Coef.{Coef, Eights, block_count, block_h, block_w, Levels, low_at, high_at, px_count, quant_at}
-use Rattle.projection.specs.Projection.{Box, Boxed, clamp_at, clamp_block, clamped, clipped, clipped_at, clipped_block, count_at, keep, onto_box, project_full, project_means, project_onto_box, resample, split, tally, transformed}
+use Rattle.projection.specs.Projection.{Box, Boxed, clamp_at, clamp_block, clamped, clipped, clipped_at, clipped_block, count_at, keep, keep_at, onto_box, project_full, project_means, project_onto_box, resample, split, tally, transformed}
 use Rattle.start.proofs.Cover.{blocks_fill}
 use Rattle.projection.proofs.Lengths.{dcts_length}
 
@@ -83,6 +87,34 @@ module _ (C : Coef) (e : Eights C.own) (W H : ℕ) (b : Box) where
   pub projected_saved_above : (k : ℕ) → px_count C.own ≤ k → val (project_onto_box C W H b).saved k ≡ val b.saved k
   unfolding project_onto_box
   projected_saved_above k l = above (resample C.own W H) k l
+
+-- the copy of the first n values, as what stands before and after place n
+kept_taken : (x saved : List Float) (n : ℕ) → n ≤ length x → n ≤ length saved → take n (upto (keep_at x) n saved) ≡ take n x
+unfolding upto
+kept_taken x saved zero h k = refl
+kept_taken x saved (suc n) h k =
+    let y = upto (keep_at x) n saved in
+    take-suc-set y n (val x n) (omega (arith, upto-keeps length (keep_at x) (λ j a. simp length-set) n saved))
+    ∙ ap (λ (t : List Float). t ++ (val x n ∷ [])) (kept_taken x saved n (omega arith) (omega arith))
+    ∙ sym (take-suc x n nan h)
+
+kept_rest : (x saved : List Float) (m n : ℕ) → n ≤ m → drop m (upto (keep_at x) n saved) ≡ drop m saved
+unfolding upto
+kept_rest x saved m zero h = refl
+kept_rest x saved m (suc n) h = drop-set-lt m (upto (keep_at x) n saved) n (val x n) h ∙ kept_rest x saved m n (omega arith)
+
+pub kept : (n : ℕ) (x saved : List Float) → n ≤ length x → n ≤ length saved → take n x ++ drop n saved ≡ keep n x saved
+unfolding keep
+kept n x saved h k =
+    let y = upto (keep_at x) n saved in
+    sym (ap (λ (t : List Float). t ++ drop n saved) (kept_taken x saved n h k))
+    ∙ sym (ap (λ (t : List Float). take n y ++ t) (kept_rest x saved n n (omega arith)))
+    ∙ take-append-drop n y
+
+-- one more where it moved, as the code adds it
+pub tally_is : (b : Bool) (n : ℕ) → n + bool_byte b ≡ tally b n
+tally_is true n = refl
+tally_is false n = omega arith
 
 -- places that the clamping has not reached
 pub clamp_ahead : (levels : Levels) (table : List ℕ) (i n : ℕ) (x : List Float) (p : ℕ) → i * 64 + n ≤ p → val (upto (clamp_at levels table i) n x) p ≡ val x p

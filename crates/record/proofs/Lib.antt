@@ -6,3 +6,4 @@ pub mod Sizes
 pub mod Tested
 pub mod Turns
 pub mod Held
+pub mod Firsts

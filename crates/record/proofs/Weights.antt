@@ -8,10 +8,9 @@ use lib.Dec.{T, ltb, eqb, leb, ltb→lt}
 use borrow.Author.Tests.{lt-ltb, le-ltb}
 use lib.IntN.{ℤ}
 use lib.Pow.{pow_pos, pow-add}
-use lib.Ieee.{Float, nan, inf, fin, binary32, up, down, size, fits, is_nan, to_bits, ne}
+use lib.Ieee.{Float, nan, inf, fin, binary32, up, down, size, fits, is_nan, to_bits}
 use lib.Ieee.Digits.{size-le}
 use lib.Ieee.Fits.{and_r, kept-lt, down_pos}
-use lib.Ieee.Compare.{nan_differs}
 use Rattle.calls.specs.Run.{weight}
 
 -- a value that f32 holds is below 2 ^ 128
@@ -55,11 +54,11 @@ weight-bits (fin false m e) t q =
     let k : ℕ = m * up e * 2 ^ 149 / down e in
     plain_in ((size k - 24) * 8388608) (k / 2 ^ (size k - 24)) (pattern_small (m * up e) (down e) (down_pos e) (below_top false m e t))
 
-pub a_number : (x : Float) → ne x x ≡ false → T (not (is_nan x))
-unfolding is_nan
-a_number nan e = let z : ◌≡◌ {A = ℕ} 0 1 = cc nan_differs in absurd (omega arith)
-a_number (inf s) e = tt
-a_number (fin s m d) e = tt
+pub nan_none : (x : Float) → not (is_nan x) ≡ false → false ≡ weight x
+unfolding is_nan weight
+nan_none nan e = refl
+nan_none (inf s) e = absurd (subst T e tt)
+nan_none (fin s m d) e = absurd (subst T e tt)
 
 -- a product of two u32 fits a u64
 pub product_fits : {a b : ℕ} → a < 2 ^ 32 → b < 2 ^ 32 → a * b < 2 ^ 64

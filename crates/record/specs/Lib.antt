@@ -1,2 +1,3 @@
 -- The struct as the model's record.
 pub mod Model
+pub mod Job

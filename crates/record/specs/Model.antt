@@ -1,6 +1,8 @@
 -- The code's struct as the model's record: the first `count` of its three channels, a sheet's half and a place of each.
-use Rattle.std.specs.Prelude.{ℕ, ◌≤◌, ◌≡◌, Bool, false, ◌&&◌, List, [], ◌∷◌, map, get_or, take, T, eqb}
+use Rattle.std.specs.Prelude.{ℕ, ◌≤◌, ◌≡◌, Bool, false, ◌&&◌, List, [], ◌∷◌, map, get_or, take, T, eqb, Result, Ok, Err}
 use Rattle.std.specs.Float.{nan}
+use Rattle.refusal.specs.declared.Refusal.{Refusal}
+use Rattle.refusal.specs.Refusal.{number_of}
 use Rattle.start.specs.Coef.{Levels}
 use Rattle.calls.specs.Run.{Numbers, Sheet, Place, Given, own, own_ok, place, place_ok, blends_in, legal}
 use Rattle.calls.specs.Jobs as Jobs
@@ -8,8 +10,10 @@ use Rattle.calls.specs.Calls as Calls
 use Rattle.record.specs.declared.Run.{Run}
 use Rattle.record.specs.declared.Channel.{Channel}
 use Rattle.record.specs.declared.Seen.{Seen}
-use Rattle.record.specs.declared.Answer.{Answer}
-use Rattle.record.specs.declared.Answer.TheVariants.{Refused, Done, Blown, Blended}
+use Rattle.record.specs.declared.Job.{Job}
+use Rattle.record.specs.declared.Job.TheVariants as job
+use Rattle.record.specs.declared.Accepted.{Accepted}
+use Rattle.record.specs.declared.Accepted.TheVariants.{Done, Blown, Blended}
 
 abbrev pub own_of : Channel → Numbers
 own_of c = record { width = c.width; height = c.height; across = c.across; down = c.down; data_weight = c.weight; held = c.held }
@@ -81,15 +85,23 @@ pub record ChannelIs (r : Run) (c : ℕ) (x : Channel) : Type 0 where
   pub its_place : place_of x ≡ place (places_of r) c
   pub position_small : x.position ≤ 5000
 
--- ---- answers
+-- ---- jobs and answers
+
+-- "Its remainder modulo 5 gives the next job, 0 push to 4 project"
+abbrev pub turn_of : Job → ℕ
+turn_of job.Push = 0
+turn_of job.Data = 1
+turn_of job.Blend = 2
+turn_of job.Move = 3
+turn_of job.Project = 4
 
 -- what a job tells
 abbrev pub seen_of : Seen → Jobs.Seen
 seen_of x = record { blown = x.blown; clipped = x.clipped }
 
--- document 01's number and values for each case: a refusal's number in the table, accepted, accepted and blown; blend's totals
-abbrev pub answer_of : Answer → Calls.Answer
-answer_of (Refused n) = Calls.refused n
-answer_of Done = Calls.done
-answer_of Blown = Calls.blown
-answer_of (Blended tv tgv) = Calls.blended tv tgv
+-- document 01's values for each case: a refusal's number in the table, accepted, accepted and blown; blend's totals
+abbrev pub answer_of : Result Accepted Refusal → Calls.Answer
+answer_of (Err r) = Calls.refused (number_of r)
+answer_of (Ok Done) = Calls.done
+answer_of (Ok Blown) = Calls.blown
+answer_of (Ok (Blended tv tgv)) = Calls.blended tv tgv

@@ -6,8 +6,10 @@ pub mod places;
 pub mod refusals;
 pub mod scans;
 
-ghost use Rattle.std.specs.Prelude.{◌≡◌};
+ghost use Rattle.std.specs.Prelude.{◌≡◌, ◌≤◌, take};
+ghost use Rattle.record.specs.Model.{turn_of};
 
+use refusal::Refusal;
 use start::coef::Reorder;
 
 // A channel of the run: own sides, factors across and down, data weight, the step after which it is held (M-108), position, mark, and how many
@@ -39,10 +41,64 @@ pub struct Run {
     pub channels: [Channel; 3],
 }
 
-// A call's answer: refused, with the number in the table; done; done, and the channel is now marked blown; a blend done, with both its totals.
+impl Run {
+    // The channels that the record has.
+    pub fn channels(&self) -> &[Channel]
+        requires { self.now.count ≤ 3 }
+        ensures { result.now ≡ take self.now.count self.now.channels }
+    {
+        &self.channels[..self.count as usize]
+    }
+}
+
+// The five jobs, in the order of their turns.
+#[derive(Clone, Copy, Debug, PartialEq, Eq)]
+pub enum Job {
+    Push,
+    Data,
+    Blend,
+    Move,
+    Project,
+}
+
+impl Job {
+    // Its place in the five, 0 push to 4 project: the remainder of a position modulo 5 gives the next job.
+    pub fn turn(self) -> u8
+        ensures { result ≡ turn_of self }
+    {
+        match self {
+            Job::Push => 0,
+            Job::Data => 1,
+            Job::Blend => 2,
+            Job::Move => 3,
+            Job::Project => 4,
+        }
+    }
+}
+
+// The job of a number; 9 for a number that is no job's.
+impl TryFrom<u8> for Job {
+    type Error = Refusal;
+
+    ghost use Rattle.record.specs.Job.{JobOf};
+
+    ghost try_from_gives = { JobOf };
+
+    fn try_from(n: u8) -> Result<Job, Refusal> {
+        match n {
+            0 => Ok(Job::Push),
+            1 => Ok(Job::Data),
+            2 => Ok(Job::Blend),
+            3 => Ok(Job::Move),
+            4 => Ok(Job::Project),
+            _ => Err(Refusal::Turn),
+        }
+    }
+}
+
+// What an accepted call answers: done; done, and the channel is now marked blown; a blend done, with both its totals.
 #[derive(Clone, Copy)]
-pub enum Answer {
-    Refused(u8),
+pub enum Accepted {
     Done,
     Blown,
     Blended { tv: f64, tgv: f64 },
@@ -53,11 +109,4 @@ pub enum Answer {
 pub struct Seen {
     pub blown: bool,
     pub clipped: u32,
-}
-
-// A call's answer, with the record as it is afterwards.
-#[derive(Clone, Copy)]
-pub struct Answered {
-    pub answer: Answer,
-    pub run: Run,
 }

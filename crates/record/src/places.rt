@@ -1,5 +1,5 @@
 // A channel's part of the lent buffers, and the record with new positions, marks and kept numbers.
-ghost use Rattle.std.specs.Prelude.{◌≡◌, map, ℕ, ◌+◌, ◌*◌, ◌/◌, ◌<◌, ◌≤◌, cond, false, get_or, set};
+ghost use Rattle.std.specs.Prelude.{◌≡◌, map, ℕ, ◌+◌, ◌*◌, ◌/◌, ◌<◌, ◌≤◌, false, get_or, set};
 ghost use Rattle.calls.specs.Run.{Place, fresh, place, coefs, held};
 ghost use Rattle.calls.specs.Calls.{onward, marked};
 ghost use Rattle.record.specs.Model.{Legal, ChannelIs, sheet_of, place_of, places_of, placed, with_channels, with_place, no_channel, seen_of, clipped_of};
@@ -30,10 +30,10 @@ pub fn clipped_of(run: Run, c: u32) -> u32
     ensures { result ≡ clipped_of run c }
 {
     if c < run.count {
-        let x = run.channels[c as usize];
-        return x.clipped;
+        run.channels[c as usize].clipped
+    } else {
+        0
     }
-    0
 }
 
 // Where channel c's values begin and end in a lent buffer, and the step that its next job belongs to.
@@ -73,11 +73,7 @@ fn held_in(run: Run, c: u32, step: u32) -> bool
     requires { Legal run }
     ensures { result ≡ held (sheet_of run) c step }
 {
-    if c >= run.count {
-        return false;
-    }
-    let x = channel_of(run, c);
-    x.held <= step
+    c < run.count && channel_of(run, c).held <= step
 }
 
 // Which channels are held in the step of the next blend, which is that of channel 0's position.
@@ -85,22 +81,12 @@ pub fn held_flags(run: Run) -> [bool; 3]
     requires { Legal run }
     ensures { (c : ℕ) → get_or result c false ≡ held (sheet_of run) c ((place (places_of run) 0).position / 5) }
 {
-    let s = span_of(run, 0);
-    let step = s.step;
-    let first = held_in(run, 0, step);
-    let second = held_in(run, 1, step);
-    let third = held_in(run, 2, step);
-    [first, second, third]
-}
-
-// The record with another channel c.
-fn with_channel(run: Run, c: usize, x: Channel) -> Run
-    requires { c < 3 }
-    ensures { result ≡ with_channels run (set run.channels c x) }
-{
-    let mut next = run;
-    next.channels[c] = x;
-    next
+    let step = span_of(run, 0).step;
+    [
+        held_in(run, 0, step),
+        held_in(run, 1, step),
+        held_in(run, 2, step),
+    ]
 }
 
 // A channel after an accepted job.
@@ -108,9 +94,10 @@ fn onward(x: Channel) -> Channel
     requires { x.position < 4294967295 }
     ensures { result ≡ with_place x (onward (place_of x)) }
 {
-    let mut next = x;
-    next.position = x.position + 1;
-    next
+    Channel {
+        position: x.position + 1,
+        ..x
+    }
 }
 
 // A channel after an accepted project, which told this of it.
@@ -118,22 +105,24 @@ fn marked(x: Channel, seen: Seen) -> Channel
     requires { x.position < 4294967295 }
     ensures { result ≡ with_place x (marked (seen_of seen) (place_of x)) }
 {
-    let mut next = x;
-    next.position = x.position + 1;
-    next.mark = seen.blown;
-    next.clipped = seen.clipped;
-    next
+    Channel {
+        position: x.position + 1,
+        mark: seen.blown,
+        clipped: seen.clipped,
+        ..x
+    }
 }
 
 // A channel of a fresh run: position 0, no mark, nothing clipped.
 fn fresh(x: Channel) -> Channel
     ensures { result ≡ with_place x fresh }
 {
-    let mut next = x;
-    next.position = 0;
-    next.mark = false;
-    next.clipped = 0;
-    next
+    Channel {
+        position: 0,
+        mark: false,
+        clipped: 0,
+        ..x
+    }
 }
 
 // The record with channel c, x, at another place.
@@ -141,7 +130,9 @@ fn replaced(run: Run, c: u32, x: Channel) -> Run
     requires { Legal run × (c < run.count) }
     ensures { (p : Place) → x ≡ with_place (get_or run.channels c no_channel) p → result ≡ placed run (set (places_of run) c p) }
 {
-    with_channel(run, c as usize, x)
+    let mut next = run;
+    next.channels[c as usize] = x;
+    next
 }
 
 // The record after an accepted job of channel c, but for project.
@@ -160,25 +151,16 @@ pub fn projected(run: Run, c: u32, seen: Seen) -> Run
     replaced(run, c, marked(channel_of(run, c), seen))
 }
 
-// A channel at the place of a fresh run, or after an accepted job.
-fn next_place(x: Channel, anew: bool) -> Channel
-    requires { x.position < 4294967295 }
-    ensures { result ≡ with_place x (cond anew fresh (onward (place_of x))) }
-{
-    if anew {
-        return fresh(x);
-    }
-    onward(x)
-}
-
-// The record with every channel so.
-fn next_places(run: Run, anew: bool) -> Run
-    requires { Legal run }
-    ensures { result ≡ placed run (map (λ p. cond anew fresh (onward p)) (places_of run)) }
+// The record with every channel moved to its next place.
+fn next_places<F: Fn(Channel) -> Channel>(run: Run, next_place: F) -> Run
+    requires legal { Legal run }
+    requires callable { (x : Channel) → x.position < 4294967295 → F.pre next_place x }
+    ensures { (g : Place → Place) → ((x y : Channel) → F.post next_place x y → y ≡ with_place x (g (place_of x))) → result ≡ placed run (map g (places_of run)) }
 {
     let mut next = run;
+    // Kept: after a loop over `iter_mut` a proof knows no element, so the places are written by index.
     for c in 0..run.count as usize {
-        next = with_channel(next, c, next_place(run.channels[c], anew));
+        next.channels[c] = next_place(run.channels[c]);
     }
     next
 }
@@ -188,7 +170,7 @@ pub fn blended(run: Run) -> Run
     requires { Legal run }
     ensures { result ≡ placed run (map onward (places_of run)) }
 {
-    next_places(run, false)
+    next_places(run, onward)
 }
 
 // The record of a fresh run.
@@ -196,5 +178,5 @@ pub fn cleared(run: Run) -> Run
     requires { Legal run }
     ensures { result ≡ placed run (map (λ p. fresh) (places_of run)) }
 {
-    next_places(run, true)
+    next_places(run, fresh)
 }

@@ -1,36 +1,18 @@
-// What each call refuses, in the order of the tests: 13, 8, 4, pair by pair 5 and 14, then 12, 10, 11, 9. An answer 0 is no refusal.
-ghost use Rattle.std.specs.Prelude.{◌≡◌, List, [], ◌∷◌, true, false, ℕ, ◌*◌, ◌≤◌, length};
+// What each call refuses, in the order of the tests: 13, 8, 4, pair by pair 5 and 14, then 12, 10, 11, 9.
+ghost use Rattle.std.specs.Prelude.{◌≡◌, List, true, false, ℕ, ◌*◌, ◌<◌, ◌≤◌, length, OnOk};
+ghost use Rattle.refusal.specs.Refusal.{answer_number};
 ghost use Rattle.start.specs.Coef.{Levels, pairs};
 ghost use Rattle.calls.specs.Run.{levels_before};
-ghost use Rattle.calls.specs.Jobs.{Job, on, blend, turn};
-ghost use Rattle.calls.specs.Calls.{first, test, turn_tests, lend_tests, lent_levels, values_long, refusal, start_refusal};
-ghost use Rattle.record.specs.Model.{Legal, sheet_of, places_of, given_of};
+ghost use Rattle.calls.specs.Jobs as jobs;
+ghost use Rattle.calls.specs.Jobs.{on, blend, turn};
+ghost use Rattle.calls.specs.Calls.{first, turn_tests, lend_tests, lent_levels, values_long, refusal, start_refusal};
+ghost use Rattle.record.specs.Model.{Legal, sheet_of, places_of, given_of, turn_of};
 
-use crate::Run;
 use crate::legal::legal;
 use crate::places::channel_of;
 use crate::scans::{all_equal, levels_fault, tables_ok};
-use fold::flags::{both, either};
-
-// The number n where the test holds, else 0.
-pub fn test(n: u8, holds: bool) -> u8
-    ensures { result ≡ test n holds }
-{
-    if holds {
-        return n;
-    }
-    0
-}
-
-// The first of two that isn't 0.
-pub fn first(a: u8, b: u8) -> u8
-    ensures { result ≡ first (a ∷ b ∷ []) }
-{
-    if a == 0 {
-        return b;
-    }
-    a
-}
+use crate::{Job, Run};
+use refusal::Refusal;
 
 // W × H, the values of a channel in a lent buffer.
 pub fn area(run: Run) -> usize
@@ -53,10 +35,9 @@ pub fn levels_before(run: Run, c: u32) -> usize
     requires { Legal run × (c ≤ run.count) }
     ensures { result ≡ levels_before (sheet_of run) c }
 {
-    let mut sum = 0usize;
-    for k in 0..c as usize {
-        let x = run.channels[k];
-        sum = sum + (x.width as usize) * (x.height as usize);
+    let mut sum = 0;
+    for x in &run.channels[..c as usize] {
+        sum += (x.width as usize) * (x.height as usize);
     }
     sum
 }
@@ -66,88 +47,96 @@ fn values_long(run: Run, lows: usize, highs: usize, tables: usize) -> bool
     requires { Legal run }
     ensures { (ls : Levels) (ts : List ℕ) → length ls.lows ≡ lows → length ls.highs ≡ highs → length ts ≡ tables → result ≡ values_long (given_of run ls ts) }
 {
-    let count = run.count as usize;
     let places = levels_before(run, run.count);
-    let levels = both(lows == places, highs == places);
-    both(levels, tables == count * 64)
+    lows == places && highs == places && tables == (run.count as usize) * 64
 }
 
 // 13 and 8 of a call that is lent neither levels nor tables, its buffers' lengths being given.
-fn lend_refusal(run: Run, lengths: &[usize]) -> u8
-    ensures { (ls : Levels) (ts : List ℕ) → result ≡ first (lend_tests (given_of run ls ts) (places_of run) lengths.now false) }
+fn lend_refusal(run: Run, lengths: &[usize]) -> Result<(), Refusal>
+    ensures ok { OnOk result (Legal run) }
+    ensures number { (ls : Levels) (ts : List ℕ) → answer_number result ≡ first (lend_tests (given_of run ls ts) (places_of run) lengths.now false) }
 {
     if !legal(run) {
-        return 13;
+        return Err(Refusal::Record);
     }
     if !all_equal(total(run), lengths) {
-        return 8;
+        return Err(Refusal::Length);
     }
-    0
+    Ok(())
 }
 
 // 13, 8, 4, and pair by pair 5 and 14, of a call that is lent levels and tables: all that start refuses.
-pub fn start_refusal(run: Run, lengths: &[usize], lows: &[i16], highs: &[i16], tables: &[u16]) -> u8
-    ensures { result ≡ start_refusal (given_of run (pairs lows.now highs.now) tables.now) (places_of run) lengths.now }
+pub fn start_refusal(
+    run: Run,
+    lengths: &[usize],
+    lows: &[i16],
+    highs: &[i16],
+    tables: &[u16],
+) -> Result<(), Refusal>
+    ensures ok { OnOk result (Legal run) }
+    ensures number { answer_number result ≡ start_refusal (given_of run (pairs lows.now highs.now) tables.now) (places_of run) lengths.now }
 {
     if !legal(run) {
-        return 13;
+        return Err(Refusal::Record);
     }
-    let buffers = all_equal(total(run), lengths);
-    let long = both(
-        buffers,
-        values_long(run, lows.len(), highs.len(), tables.len()),
-    );
-    if !long {
-        return 8;
+    if !all_equal(total(run), lengths) {
+        return Err(Refusal::Length);
     }
-    let table = test(4, !tables_ok(tables));
-    let level = levels_fault(lows, highs);
-    first(table, level)
+    if !values_long(run, lows.len(), highs.len(), tables.len()) {
+        return Err(Refusal::Length);
+    }
+    if !tables_ok(tables) {
+        return Err(Refusal::Table);
+    }
+    levels_fault(lows, highs)
 }
 
-// 12, 10, 11 and 9 of a job of one channel; `job` is its place in the five.
-fn turn_refusal(run: Run, c: u32, job: u32) -> u8
+// 12, 10, 11 and 9 of a job of one channel.
+fn turn_refusal(run: Run, c: u32, job: Job) -> Result<(), Refusal>
     requires { Legal run }
-    ensures { (j : Job) → turn j ≡ job → result ≡ first (turn_tests (sheet_of run) (places_of run) (on j c)) }
+    ensures ok { OnOk result (c < run.count) }
+    ensures number { (j : jobs.Job) → turn j ≡ turn_of job → answer_number result ≡ first (turn_tests (sheet_of run) (places_of run) (on j c)) }
 {
     if run.count <= c {
-        return 12;
+        return Err(Refusal::Channel);
     }
     let x = channel_of(run, c);
-    let marked = test(10, x.mark);
-    let ended = test(11, x.position == 5 * run.n);
-    let turn = test(9, x.position % 5 != job);
-    let past = first(ended, turn);
-    first(marked, past)
+    if x.mark {
+        return Err(Refusal::Blown);
+    }
+    if x.position == 5 * run.n {
+        return Err(Refusal::Done);
+    }
+    if x.position % 5 != u32::from(job.turn()) {
+        return Err(Refusal::Turn);
+    }
+    Ok(())
 }
 
 // 10, 11 and 9 of blend: any channel marked, any at its end, not every channel's turn.
-fn blend_turn_refusal(run: Run) -> u8
+fn blend_turn_refusal(run: Run) -> Result<(), Refusal>
     requires { Legal run }
-    ensures { result ≡ first (turn_tests (sheet_of run) (places_of run) blend) }
+    ensures { answer_number result ≡ first (turn_tests (sheet_of run) (places_of run) blend) }
 {
-    let end = 5 * run.n;
-    let mut marked = false;
-    let mut ended = false;
-    let mut due = true;
-    for c in 0..run.count as usize {
-        let x = run.channels[c];
-        marked = either(marked, x.mark);
-        ended = either(ended, x.position == end);
-        due = both(due, x.position % 5 == 2);
+    if run.channels().iter().any(|x| x.mark) {
+        return Err(Refusal::Blown);
     }
-    let past = first(test(11, ended), test(9, !due));
-    first(test(10, marked), past)
+    let end = 5 * run.n;
+    if run.channels().iter().any(|x| x.position == end) {
+        return Err(Refusal::Done);
+    }
+    if !run.channels().iter().all(|x| x.position % 5 == 2) {
+        return Err(Refusal::Turn);
+    }
+    Ok(())
 }
 
 // The refusal of push or move.
-pub fn job_refusal(run: Run, c: u32, job: u32, lengths: &[usize]) -> u8
-    ensures { (j : Job) (ls : Levels) (ts : List ℕ) → turn j ≡ job → lent_levels (on j c) ≡ false → result ≡ refusal (given_of run ls ts) (places_of run) (on j c) lengths.now }
+pub fn job_refusal(run: Run, c: u32, job: Job, lengths: &[usize]) -> Result<(), Refusal>
+    ensures ok { OnOk result (Legal run × (c < run.count)) }
+    ensures number { (j : jobs.Job) (ls : Levels) (ts : List ℕ) → turn j ≡ turn_of job → lent_levels (on j c) ≡ false → answer_number result ≡ refusal (given_of run ls ts) (places_of run) (on j c) lengths.now }
 {
-    let r = lend_refusal(run, lengths);
-    if r != 0 {
-        return r;
-    }
+    lend_refusal(run, lengths)?;
     turn_refusal(run, c, job)
 }
 
@@ -155,28 +144,24 @@ pub fn job_refusal(run: Run, c: u32, job: u32, lengths: &[usize]) -> u8
 pub fn fed_refusal(
     run: Run,
     c: u32,
-    job: u32,
+    job: Job,
     lengths: &[usize],
     lows: &[i16],
     highs: &[i16],
     tables: &[u16],
-) -> u8
-    ensures { (j : Job) → turn j ≡ job → lent_levels (on j c) ≡ true → result ≡ refusal (given_of run (pairs lows.now highs.now) tables.now) (places_of run) (on j c) lengths.now }
+) -> Result<(), Refusal>
+    ensures ok { OnOk result (Legal run × (c < run.count)) }
+    ensures number { (j : jobs.Job) → turn j ≡ turn_of job → lent_levels (on j c) ≡ true → answer_number result ≡ refusal (given_of run (pairs lows.now highs.now) tables.now) (places_of run) (on j c) lengths.now }
 {
-    let r = start_refusal(run, lengths, lows, highs, tables);
-    if r != 0 {
-        return r;
-    }
+    start_refusal(run, lengths, lows, highs, tables)?;
     turn_refusal(run, c, job)
 }
 
 // The refusal of blend.
-pub fn blend_refusal(run: Run, lengths: &[usize]) -> u8
-    ensures { (ls : Levels) (ts : List ℕ) → result ≡ refusal (given_of run ls ts) (places_of run) blend lengths.now }
+pub fn blend_refusal(run: Run, lengths: &[usize]) -> Result<(), Refusal>
+    ensures ok { OnOk result (Legal run) }
+    ensures number { (ls : Levels) (ts : List ℕ) → answer_number result ≡ refusal (given_of run ls ts) (places_of run) blend lengths.now }
 {
-    let r = lend_refusal(run, lengths);
-    if r != 0 {
-        return r;
-    }
+    lend_refusal(run, lengths)?;
     blend_turn_refusal(run)
 }

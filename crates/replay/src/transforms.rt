@@ -1,149 +1,94 @@
 // The transforms of a block (`idct`, `dct`: 64 values, 64 results), the reorderings (`from`, `to`: sides) and the upsampling (`up`:
 // own sides, factors, full sides) of the values 0, 1, 2, ..
-ghost use Rattle.std.specs.Prelude.{◌≡◌, ◌*◌, ◌<◌, ◌≤◌, length};
+ghost use Rattle.std.specs.Prelude.{◌*◌, ◌<◌, ◌≤◌};
 
 use float::bits::{from_bits, to_bits};
-use words::{next_word, number, word_at};
+use words::{from_word, number_at, read, same_values, word};
 
-// The values from word k of the line on.
-fn read(s: &[u8], at: usize, k: usize, xs: &mut [f32])
-    requires { at ≤ length s.now }
-    ensures { length xs.new ≡ length xs.old }
-{
-    let mut i = word_at(s, at, k);
-    for n in 0..xs.len() {
-        xs[n] = from_bits(number(s, i));
-        i = next_word(s, i);
-    }
+// Whether the words from word k on are the bits of the values.
+fn same_bits(line: &[u8], k: usize, xs: &[f32]) -> bool {
+    same_values(from_word(line, k), xs, |x, n| to_bits(x) == n)
 }
 
-// Whether the words from word k on are the bits of the first `count` values.
-fn same_values(s: &[u8], at: usize, k: usize, xs: &[f32], count: usize) -> bool
-    requires { (at ≤ length s.now) × (count ≤ length xs.now) }
-{
-    let mut i = word_at(s, at, k);
-    for n in 0..count {
-        if to_bits(xs[n]) != number(s, i) {
-            return false;
-        }
-        i = next_word(s, i);
-    }
-    true
-}
-
-pub fn same_idct(s: &[u8], at: usize) -> bool
-    requires { at ≤ length s.now }
-{
+pub fn same_transform(line: &[u8]) -> bool {
     let mut a = [0.0f32; 64];
-    read(s, at, 1, &mut a);
-    utils::dct::idct8x8(&mut a);
-    same_values(s, at, 65, &a, 64)
-}
-
-pub fn same_dct(s: &[u8], at: usize) -> bool
-    requires { at ≤ length s.now }
-{
-    let mut a = [0.0f32; 64];
-    read(s, at, 1, &mut a);
-    utils::dct::dct8x8(&mut a);
-    same_values(s, at, 65, &a, 64)
+    read(from_word(line, 1), &mut a, from_bits);
+    match word(line, 0) {
+        b"idct" => utils::dct::idct8x8(&mut a),
+        _ => utils::dct::dct8x8(&mut a),
+    }
+    same_bits(line, 65, &a)
 }
 
 // The values 0, 1, 2, ..
-fn count_up(xs: &mut [f32])
-    ensures { length xs.new ≡ length xs.old }
-{
+fn count_up() -> [f32; 576] {
+    let mut xs = [0.0f32; 576];
     let mut v = 0.0f32;
-    for n in 0..xs.len() {
-        xs[n] = v;
+    for x in xs.iter_mut() {
+        *x = v;
         v += 1.0;
     }
+    xs
 }
 
 // Word k as a side of at most three blocks, in blocks.
-fn blocks(s: &[u8], at: usize, k: usize) -> usize
-    requires { at ≤ length s.now }
+fn blocks(line: &[u8], k: usize) -> usize
     ensures { result ≤ 3 }
 {
-    let n = number(s, word_at(s, at, k)) / 8;
-    if n <= 3 {
-        return n as usize;
-    }
-    0
+    let n = number_at(line, k) / 8;
+    if n <= 3 { n as usize } else { 0 }
 }
 
 // Word k as a factor.
-fn factor(s: &[u8], at: usize, k: usize) -> usize
-    requires { at ≤ length s.now }
+fn factor(line: &[u8], k: usize) -> usize
     ensures { 0 < result }
 {
-    let n = number(s, word_at(s, at, k));
-    if n == 0 {
-        return 1;
-    }
-    n as usize
+    number_at(line, k).max(1) as usize
 }
 
-// w * h, for sides of at most three blocks.
+// The values of w by h blocks.
 fn area(w: usize, h: usize) -> usize
-    requires { (w ≤ 24) × (h ≤ 24) }
-    ensures { (result ≡ w * h) × (result ≤ 576) }
+    requires { (w ≤ 3) × (h ≤ 3) }
+    ensures { (w * 8 * (h * 8) ≤ result) × (result ≤ 576) }
 {
-    w * h
+    w * 8 * (h * 8)
 }
 
-pub fn same_from(s: &[u8], at: usize) -> bool
-    requires { at ≤ length s.now }
-{
-    let bw = blocks(s, at, 1);
-    let bh = blocks(s, at, 2);
-    let w = bw * 8;
-    let h = bh * 8;
-    let n = area(w, h);
-    let mut image = [0.0f32; 576];
+pub fn same_order(line: &[u8]) -> bool {
+    let bw = blocks(line, 1);
+    let bh = blocks(line, 2);
+    let n = area(bw, bh);
+    let image = count_up();
     let mut out = [0.0f32; 576];
-    count_up(&mut image);
-    utils::blocks::from_blocks(&image, &mut out, w, h, bw, bh);
-    same_values(s, at, 3, &out, n)
-}
-
-pub fn same_to(s: &[u8], at: usize) -> bool
-    requires { at ≤ length s.now }
-{
-    let bw = blocks(s, at, 1);
-    let bh = blocks(s, at, 2);
-    let w = bw * 8;
-    let h = bh * 8;
-    let n = area(w, h);
-    let mut image = [0.0f32; 576];
-    let mut out = [0.0f32; 576];
-    count_up(&mut image);
-    utils::blocks::to_blocks(&image, &mut out, w, h, bw, bh);
-    same_values(s, at, 3, &out, n)
-}
-
-pub fn same_up(s: &[u8], at: usize) -> bool
-    requires { at ≤ length s.now }
-{
-    let w = blocks(s, at, 1) * 8;
-    let h = blocks(s, at, 2) * 8;
-    let across = factor(s, at, 3);
-    let down = factor(s, at, 4);
-    let maxw = blocks(s, at, 5) * 8;
-    let maxh = blocks(s, at, 6) * 8;
-    if w == 0 {
-        return false;
+    match word(line, 0) {
+        b"from" => utils::blocks::from_blocks(&image, &mut out, bw * 8, bh * 8, bw, bh),
+        _ => utils::blocks::to_blocks(&image, &mut out, bw * 8, bh * 8, bw, bh),
     }
-    if h == 0 {
+    same_bits(line, 3, &out[..n])
+}
+
+pub fn same_up(line: &[u8]) -> bool {
+    let w = blocks(line, 1);
+    let h = blocks(line, 2);
+    let across = factor(line, 3);
+    let down = factor(line, 4);
+    let maxw = blocks(line, 5);
+    let maxh = blocks(line, 6);
+    if w == 0 || h == 0 {
         return false;
     }
     let n = area(maxw, maxh);
-    if area(w, h) == 0 {
-        return false;
-    }
-    let mut image = [0.0f32; 576];
+    let image = count_up();
     let mut out = [0.0f32; 576];
-    count_up(&mut image);
-    utils::auxiliary::upsample_pixels(&image, w, h, across, down, maxw, maxh, &mut out);
-    same_values(s, at, 7, &out, n)
+    utils::auxiliary::upsample_pixels(
+        &image,
+        w * 8,
+        h * 8,
+        across,
+        down,
+        maxw * 8,
+        maxh * 8,
+        &mut out,
+    );
+    same_bits(line, 7, &out[..n])
 }

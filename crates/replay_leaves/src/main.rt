@@ -6,80 +6,28 @@ mod segments;
 mod stitches;
 mod tapes;
 
-ghost use Rattle.std.specs.Prelude.{◌≤◌, length};
-
+use refusal::Refusal;
 use std::io;
-use std::io::Read;
-use words::{Tally, byte_at, line_end, refill};
+use words::{count, word};
 
-// Whether the line at `at` has what the proved code gives. The first letter tells the crate's call.
-fn same_line(s: &[u8], at: usize) -> bool
-    requires { at ≤ length s.now }
-{
-    let first = byte_at(s, at, 0);
-    if first == b'i' {
-        return segments::same_import_line(s, at);
-    }
-    if first == b'e' {
-        return segments::same_export_line(s, at);
-    }
-    if first == b's' {
-        return stitches::same_line(s, at);
-    }
-    tapes::same_line(s, at)
+// An answer's number: 0 for done, else the refusal's.
+fn answer_number(answer: Result<(), Refusal>) -> u32 {
+    answer.map_or_else(u32::from, |()| 0)
 }
 
-// The tally after some lines, and where the first line that has no end yet starts.
-#[derive(Clone, Copy)]
-struct Counted {
-    tally: Tally,
-    at: usize,
-}
-
-// Counts the lines that end before `to`.
-fn count_lines(s: &[u8], to: usize, tally: Tally) -> Counted
-    requires { to ≤ length s.now }
-    ensures { result.at ≤ to }
-{
-    let mut so_far = tally;
-    let mut at = 0;
-    while at < to {
-        let e = line_end(s, at);
-        if e >= to {
-            return Counted {
-                tally: so_far,
-                at: at,
-            };
-        }
-        so_far = so_far.with(same_line(s, at));
-        at = e + 1;
+// Whether the line has what the proved code gives. The first word tells the call.
+fn same_line(line: &[u8]) -> bool {
+    match word(line, 0) {
+        b"import" => segments::same_import(line),
+        b"export" => segments::same_export(line),
+        b"stitch" => stitches::same_line(line),
+        b"rearrange" => tapes::same_call(line, archive::rearrange),
+        b"restore" => tapes::same_call(line, archive::restore),
+        _ => false,
     }
-    Counted {
-        tally: so_far,
-        at: at,
-    }
-}
-
-// Counts all lines of standard input, read into `text` piece by piece. The loop ends where nothing more is counted.
-fn count_input<R: Read>(input: &mut R, text: &mut [u8]) -> io::Result<Tally> {
-    let turns: usize = 1000000;
-    let mut tally = Tally::none();
-    let mut from = 0;
-    let mut to = 0;
-    for _ in 0..turns {
-        to = refill(input, text, from, to)?;
-        let counted = count_lines(&text[..], to, tally);
-        tally = counted.tally;
-        from = counted.at;
-        if from == 0 {
-            return Ok(tally);
-        }
-    }
-    Ok(tally)
 }
 
 fn main(rt: HostRuntime) -> io::Result<()> {
-    let mut space = [0u8; 65536];
-    let tally = count_input(&mut rt.stdin(), &mut space)?;
-    tally.print(&rt)
+    let tally = count(&mut rt.stdin(), same_line)?;
+    println!(rt; "{tally}")
 }

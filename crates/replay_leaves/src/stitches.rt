@@ -1,101 +1,46 @@
 // The stitching of two texts: a line's words are `stitch`, the refusal's number, text and line (0 where there is none), the length that measuring gives (0 where it refuses),
 // and, as bytes in one word each, the left text, the right text, and the output afterwards; before, it is 7.
-ghost use Rattle.std.specs.Prelude.{◌≤◌, length};
+use stitch::Refused;
+use words::{bytes, number_at, word};
 
-use crate::segments::same_bytes;
-use stitch::{Answer, Measured};
-use words::{bytes, number, word_at};
-
-// Whether word k of the line at `at` is this number.
-fn is_word(s: &[u8], at: usize, k: usize, n: u64) -> bool
-    requires { at ≤ length s.now }
-{
-    number(s, word_at(s, at, k)) as u64 == n
+// Whether word k of the line is this number.
+fn is_word(line: &[u8], k: usize, n: usize) -> bool {
+    number_at(line, k) as usize == n
 }
 
-// Whether the line at `at` has this refusal.
-fn answered(s: &[u8], at: usize, number: u8, which: u8, line: usize) -> bool
-    requires { at ≤ length s.now }
-{
-    if !is_word(s, at, 1, number as u64) {
-        return false;
-    }
-    if !is_word(s, at, 2, which as u64) {
-        return false;
-    }
-    is_word(s, at, 3, line as u64)
+// Whether the line has this answer: a refusal's number, text and line.
+fn answered(line: &[u8], answer: Result<(), Refused>) -> bool {
+    let (number, which, at) = match answer {
+        Ok(()) => (0, 0, 0),
+        Err(refused) => (
+            refused.refusal.number(),
+            refused.which_number(),
+            refused.line,
+        ),
+    };
+    is_word(line, 1, usize::from(number))
+        && is_word(line, 2, usize::from(which))
+        && is_word(line, 3, at)
 }
 
-// Whether the line at `at` has what measuring gives, which knows no output and so never 8.
-fn same_measured(s: &[u8], at: usize, left: &[u8], right: &[u8]) -> bool
-    requires { at ≤ length s.now }
-{
+// Whether the line has what measuring gives, which knows no output and so never 8.
+fn same_measured(line: &[u8], left: &[u8], right: &[u8]) -> bool {
     match stitch::measure(left, right) {
-        Measured::Length(n) => {
-            if !is_word(s, at, 4, n as u64) {
-                return false;
-            }
-            if is_word(s, at, 1, 8) {
-                return true;
-            }
-            answered(s, at, 0, 0, 0)
-        }
-        Measured::Refused {
-            number,
-            which,
-            line,
-        } => {
-            if !is_word(s, at, 4, 0) {
-                return false;
-            }
-            answered(s, at, number, which, line)
-        }
+        Ok(n) => is_word(line, 4, n) && (is_word(line, 1, 8) || answered(line, Ok(()))),
+        Err(refused) => is_word(line, 4, 0) && answered(line, Err(refused)),
     }
 }
 
-// Whether the line at `at` has what stitching into this output answers.
-fn same_answer(s: &[u8], at: usize, left: &[u8], right: &[u8], out: &mut [u8]) -> bool
-    requires { at ≤ length s.now }
-{
-    match stitch::stitch(left, right, out) {
-        Answer::Done => answered(s, at, 0, 0, 0),
-        Answer::Refused {
-            number,
-            which,
-            line,
-        } => answered(s, at, number, which, line),
-    }
-}
-
-// The same, and whether the output is then what it is to be.
-fn same_output(s: &[u8], at: usize, left: &[u8], right: &[u8], out: &mut [u8], after: &[u8]) -> bool
-    requires { at ≤ length s.now }
-{
-    if !same_answer(s, at, left, right, out) {
-        return false;
-    }
-    same_bytes(&out[..], after)
-}
-
-pub fn same_line(s: &[u8], at: usize) -> bool
-    requires { at ≤ length s.now }
-{
+// Whether the line has what the proved code measures, answers and writes.
+pub fn same_line(line: &[u8]) -> bool {
     let mut left = [0u8; 4096];
     let mut right = [0u8; 4096];
     let mut after = [0u8; 8192];
     let mut out = [7u8; 8192];
-    let n = bytes(s, word_at(s, at, 5), &mut left);
-    let m = bytes(s, word_at(s, at, 6), &mut right);
-    let k = bytes(s, word_at(s, at, 7), &mut after);
-    if !same_measured(s, at, &left[0..n], &right[0..m]) {
-        return false;
-    }
-    same_output(
-        s,
-        at,
-        &left[0..n],
-        &right[0..m],
-        &mut out[0..k],
-        &after[0..k],
-    )
+    let n = bytes(word(line, 5), &mut left);
+    let m = bytes(word(line, 6), &mut right);
+    let k = bytes(word(line, 7), &mut after);
+    same_measured(line, &left[..n], &right[..m])
+        && answered(line, stitch::stitch(&left[..n], &right[..m], &mut out[..k]))
+        && out[..k] == after[..k]
 }

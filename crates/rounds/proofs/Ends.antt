@@ -6,7 +6,7 @@ use mathlib.Core.List.{List, [], ◌∷◌, ◌++◌, map}
 use Prim.Native.Nat.{ℕ, zero, suc, ◌+◌, ◌*◌, ◌/◌, ◌%◌, ◌≤◌, ◌<◌}
 use native.Mathlib.Omega.{arith}
 use native.Mathlib.Numerals.{add-one}
-use lib.ListN.{length, drop, set, length-append, length-drop}
+use lib.ListN.{length, drop, length-append, length-drop}
 use lib.Dec.{eqb}
 use lib.Ieee.{Float}
 use lib.Ieee.Fits.{and_r}
@@ -30,13 +30,15 @@ use Rattle.calls.proofs.Runs.{between, given_ok}
 use Rattle.demand.specs.Solver.{jobs}
 use Rattle.demand.proofs.Laws.{laws}
 use Rattle.record.specs.declared.Run.{Run}
-use Rattle.record.specs.declared.Answer.{Answer}
-use Rattle.record.specs.declared.Answer.TheVariants.{Refused, Done, Blown, Blended}
+use Rattle.std.specs.Prelude.{Result, Ok, Err}
+use Rattle.refusal.specs.declared.Refusal.{Refusal}
+use Rattle.record.specs.declared.Accepted.{Accepted}
+use Rattle.record.specs.declared.Accepted.TheVariants.{Done, Blown, Blended}
 use Rattle.record.specs.Model.{sheet_of, places_of, clipped_of, given_of, answer_of}
 use Rattle.record.proofs.Placed.{sheet_stays, places_placed}
-use Rattle.run.specs.Public.{Result, state_of, StartIs}
+use Rattle.run.specs.Public.{Outcome, state_of, StartIs}
 use Rattle.rounds.specs.Whole.{job_count, run_blows, pair_at, run_totals, Whole, last, run_of, Loan, loan, SameLengths, ClippedAre, Ended, Ends, RunIs}
-use Rattle.rounds.specs.Rounds.{AllAt, round_blows, RoundAsks, RoundIs, with_pair, goes, RunAsks}
+use Rattle.rounds.specs.Rounds.{AllAt, round_blows, RoundAsks, RoundIs, with_pair, RunAsks}
 use Rattle.rounds.proofs.Steps.{Kept, kept_of}
 
 -- ---- lengths
@@ -127,6 +129,18 @@ summed_all : (G : Given) (T₀ T : List Float) → length T₀ ≡ G.sheet.N * 2
 unfolding run_totals
 summed_all G T₀ T long e = fill_all (pair_at G) 2 (pair_long G) (blends_in (job_count G)) G.sheet.N T₀ e (omega arith) long
 
+-- an answer with which a run goes on
+abbrev pub goes : Result Accepted Refusal → Bool
+goes (Err n) = false
+goes (Ok Done) = true
+goes (Ok Blown) = false
+goes (Ok (Blended tv tgv)) = true
+
+pub going : (a : Accepted) → (a ≡ Blown → ⊥) → goes (Ok a) ≡ true
+going Done n = refl
+going Blown n = absurd (n refl)
+going (Blended tv tgv) n = refl
+
 -- the loop: p of n rounds
 pub record Rounding (G : Given) (n p : ℕ) (r : Run) (B₀ : Buffers) (T₀ : List Float) (B : Buffers) (T : List Float) : Type 0 where
   pub most : p ≤ n
@@ -171,7 +185,7 @@ module _ (r₀ : Run) (levels : Levels) (tables : List ℕ) (B₀ : Buffers) (T�
       pub room : p / 5 * 2 + 2 ≤ length T
       room = omega (arith, h.totals_long, asks.long)
 
-      module _ (a : Answer) (r' : Run) (B' : Buffers) (T' : List Float) (said : RoundIs (given_of r levels tables) p a r' B') (put : T' ≡ with_pair a (p / 5) T) where
+      module _ (a : Result Accepted Refusal) (r' : Run) (B' : Buffers) (T' : List Float) (said : RoundIs (given_of r levels tables) p a r' B') (put : T' ≡ with_pair a (p / 5) T) where
         said_of : RoundIs G p a r' B'
         said_of = subst (λ (H : Given). RoundIs H p a r' B') given_is said
 
@@ -190,21 +204,21 @@ module _ (r₀ : Run) (levels : Levels) (tables : List ℕ) (B₀ : Buffers) (T�
                   totals_long = summed_long G (suc p) r₀.n T₀ T' (omega arith) asks.long summed;
                 }
 
-            go : (a : Answer) → goes a ≡ true → RoundIs G p a r' B' → T' ≡ with_pair a (p / 5) T → Rounding G (5 * r₀.n) (p + 1) r' B₀ T₀ B' T'
-            go (Refused m) on s put = absurd s
-            go Blown on s put = never false refl on
-            go Done on s put = one_more s.0 s.1 (summed_same G p T₀ T' s.2 (put ∙ h.summed))
-            go (Blended tv tgv) on s put = one_more s.0 s.1 (summed_more G p T₀ T T' tv tgv s.2 s.3 h.summed put)
+            go : (a : Result Accepted Refusal) → goes a ≡ true → RoundIs G p a r' B' → T' ≡ with_pair a (p / 5) T → Rounding G (5 * r₀.n) (p + 1) r' B₀ T₀ B' T'
+            go (Err m) on s put = absurd s
+            go (Ok Blown) on s put = never false refl on
+            go (Ok Done) on s put = one_more s.0 s.1 (summed_same G p T₀ T' s.2 (put ∙ h.summed))
+            go (Ok (Blended tv tgv)) on s put = one_more s.0 s.1 (summed_more G p T₀ T T' tv tgv s.2 s.3 h.summed put)
 
         pub stops : goes a ≡ false → Ends 0 (run_of G) (loan B₀ T₀) Calls.blown (clipped_of r') (loan B' T')
         unfolding run_of run_blows
         stops off = go a off said_of put
           where
-            go : (a : Answer) → goes a ≡ false → RoundIs G p a r' B' → T' ≡ with_pair a (p / 5) T → Ends 0 (run_of G) (loan B₀ T₀) Calls.blown (clipped_of r') (loan B' T')
-            go (Refused m) off s put = absurd s
-            go Done off s put = never true off refl
-            go (Blended tv tgv) off s put = never true off refl
-            go Blown off s put =
+            go : (a : Result Accepted Refusal) → goes a ≡ false → RoundIs G p a r' B' → T' ≡ with_pair a (p / 5) T → Ends 0 (run_of G) (loan B₀ T₀) Calls.blown (clipped_of r') (loan B' T')
+            go (Err m) off s put = absurd s
+            go (Ok Done) off s put = never true off refl
+            go (Ok (Blended tv tgv)) off s put = never true off refl
+            go (Ok Blown) off s put =
                 rw (among_true (job_count G) (round_blows G) p left s.0)
                 (refl, (same_lengths B₀ B' (kept_of (count G * area G) B₀ B' asks.all.inv.sized s.1), ap length put ∙ h.totals_long))
 
@@ -217,21 +231,6 @@ module _ (r₀ : Run) (levels : Levels) (tables : List ℕ) (B₀ : Buffers) (T�
         let totals-are : T ≡ (run_of G).totals = summed_all G T₀ T asks.long (subst (λ (k : ℕ). Summed G k T₀ T) last h.summed) in
         rw none (refl, λ i. loan (six_are i) (totals-are i), (same_lengths B₀ B h.kept, h.totals_long), clipped_are G r B (rw last at h.all))
 
--- ---- the totals' places
-
-pub two_set : (xs : List Float) (a b : Float) → length xs ≡ 2 → set (set xs 0 a) 1 b ≡ a ∷ b ∷ []
-two_set [] a b h = absurd (omega arith)
-two_set (x ∷ []) a b h = absurd (omega arith)
-two_set (x ∷ y ∷ []) a b h = refl
-two_set (x ∷ y ∷ z ∷ xs) a b h = absurd (omega arith)
-
--- an answer that has no totals
-pub no_pair : (a : Answer) (k : ℕ) (T : List Float) → ((tv tgv : Float) → a ≡ Blended tv tgv → ⊥) → T ≡ with_pair a k T
-no_pair (Refused m) k T one = refl
-no_pair Done k T one = refl
-no_pair Blown k T one = refl
-no_pair (Blended tv tgv) k T one = absurd (one tv tgv refl)
-
 -- ---- start
 
 fresh_at : (ps : List Place) (c : ℕ) → place (map (λ p. fresh) ps) c ≡ fresh
@@ -240,19 +239,19 @@ fresh_at (p ∷ ps) zero = refl
 fresh_at (p ∷ ps) (suc c) = fresh_at ps c
 
 -- an answer by its case
-pub is_done : (a : Answer) → a ≡ Done → answer_of a ≡ done
-is_done (Refused m) one = let z : ◌≡◌ {A = ℕ} 0 1 = cc in absurd (omega arith)
-is_done Done one = refl
-is_done Blown one = let z : ◌≡◌ {A = ℕ} 0 1 = cc in absurd (omega arith)
-is_done (Blended tv tgv) one = let z : ◌≡◌ {A = ℕ} 0 1 = cc in absurd (omega arith)
+pub is_done : (a : Result Accepted Refusal) → a ≡ (Ok Done) → answer_of a ≡ done
+is_done (Err m) one = let z : ◌≡◌ {A = ℕ} 0 1 = cc in absurd (omega arith)
+is_done (Ok Done) one = refl
+is_done (Ok Blown) one = let z : ◌≡◌ {A = ℕ} 0 1 = cc in absurd (omega arith)
+is_done (Ok (Blended tv tgv)) one = let z : ◌≡◌ {A = ℕ} 0 1 = cc in absurd (omega arith)
 
-pub not_done : (a : Answer) → (a ≡ Done → ⊥) → done ≡ answer_of a → ⊥
-not_done (Refused m) one e = let z : ◌≡◌ {A = ℕ} 0 1 = cc in omega arith
-not_done Done one e = one refl
-not_done Blown one e = let z : ◌≡◌ {A = ℕ} 0 1 = cc in omega arith
-not_done (Blended tv tgv) one e = let z : ◌≡◌ {A = ℕ} 0 1 = cc in omega arith
+pub not_done : (a : Result Accepted Refusal) → (a ≡ (Ok Done) → ⊥) → done ≡ answer_of a → ⊥
+not_done (Err m) one e = let z : ◌≡◌ {A = ℕ} 0 1 = cc in omega arith
+not_done (Ok Done) one e = one refl
+not_done (Ok Blown) one e = let z : ◌≡◌ {A = ℕ} 0 1 = cc in omega arith
+not_done (Ok (Blended tv tgv)) one e = let z : ◌≡◌ {A = ℕ} 0 1 = cc in omega arith
 
-module _ (r : Run) (levels : Levels) (tables : List ℕ) (B : Buffers) (T : List Float) (a : Answer) (r' : Run) (B' : Buffers) (h : StartIs r levels tables B a r' B') where
+module _ (r : Run) (levels : Levels) (tables : List ℕ) (B : Buffers) (T : List Float) (a : Result Accepted Refusal) (r' : Run) (B' : Buffers) (h : StartIs r levels tables B a r' B') where
   abbrev H : Given
   H = given_of r levels tables
 
@@ -260,18 +259,30 @@ module _ (r : Run) (levels : Levels) (tables : List ℕ) (B : Buffers) (T : List
   s = state_of r B
 
   -- refused: as it was
-  pub refuses : (a ≡ Done → ⊥) → RunIs r levels tables (loan B T) a r' (loan B' T)
+  pub refuses : (a ≡ (Ok Done) → ⊥) → RunIs r levels tables (loan B T) a r' (loan B' T)
   unfolding start
-  refuses one = go (start_refusal H (places_of r) (lengths all_six B)) (ap (λ (y : Result). y.answer) h) (ap (λ (y : Result). y.buffers) h)
+  refuses one = go (start_refusal H (places_of r) (lengths all_six B)) (ap (λ (y : Outcome). y.answer) h) (ap (λ (y : Outcome). y.buffers) h)
     where
       go : (n : ℕ) → (settle n s (begin jobs H s)).answer ≡ answer_of a → (settle n s (begin jobs H s)).after.buffers ≡ B'
           → Ends n (run_of H) (loan B T) (answer_of a) (clipped_of r') (loan B' T)
       go zero e f = absurd (not_done a one e)
       go (suc n) e f = (sym e, λ i. loan (sym f i) T)
 
-  module _ (one : a ≡ Done) where
+  -- start answers nothing but done
+  pub started : (f : Accepted) → a ≡ Ok f → a ≡ Ok Done
+  unfolding start
+  started f e = e ∙ go f (start_refusal H (places_of r) (lengths all_six B)) (ap (λ (y : Outcome). y.answer) h ∙ ap answer_of e)
+    where
+      go : (f : Accepted) (n : ℕ) → (settle n s (begin jobs H s)).answer ≡ answer_of (Ok f) → ◌≡◌ {A = Result Accepted Refusal} (Ok f) (Ok Done)
+      go Done n q = refl
+      go Blown zero q = let z : ◌≡◌ {A = ℕ} 0 1 = cc in absurd (omega arith)
+      go Blown (suc n) q = let z : ◌≡◌ {A = ℕ} 0 1 = cc in absurd (omega arith)
+      go (Blended tv tgv) zero q = let z : ◌≡◌ {A = ℕ} 0 1 = cc in absurd (omega arith)
+      go (Blended tv tgv) (suc n) q = let z : ◌≡◌ {A = ℕ} 0 1 = cc in absurd (omega arith)
+
+  module _ (one : a ≡ (Ok Done)) where
     said_done : (start jobs H s).answer ≡ done
-    said_done = ap (λ (y : Result). y.answer) h ∙ is_done a one
+    said_done = ap (λ (y : Outcome). y.answer) h ∙ is_done a one
 
     pub accepted : start_refusal H (places_of r) (lengths all_six B) ≡ 0
     unfolding start
@@ -300,10 +311,10 @@ module _ (r : Run) (levels : Levels) (tables : List ℕ) (B : Buffers) (T : List
     places_long = (places_are (sheet_of r) (places_of r) (and_r (sheet_ok (sheet_of r)) (places_ok (sheet_of r) (places_of r)) passed.is-legal)).long
 
     places_now : places_of r' ≡ (start jobs H s).after.places
-    places_now = ap (λ (y : Result). places_of y.run) (sym h) ∙ places_placed r (start jobs H s).after.places (inv.legal_places.long ∙ sym places_long)
+    places_now = ap (λ (y : Outcome). places_of y.run) (sym h) ∙ places_placed r (start jobs H s).after.places (inv.legal_places.long ∙ sym places_long)
 
     sheet_now : sheet_of r' ≡ sheet_of r
-    sheet_now = ap (λ (y : Result). sheet_of y.run) (sym h) ∙ sheet_stays r (start jobs H s).after.places
+    sheet_now = ap (λ (y : Outcome). sheet_of y.run) (sym h) ∙ sheet_stays r (start jobs H s).after.places
 
     given_now : given_of r' levels tables ≡ H
     given_now = ap (λ (S : Sheet). record { sheet = S; levels = levels; tables = tables }) sheet_now
@@ -340,7 +351,7 @@ module _ (r : Run) (levels : Levels) (tables : List ℕ) (B : Buffers) (T : List
         go false e = (e.0, e.1, (λ n. e.2.0 n ∙ longs n, e.2.1), e.3)
 
     -- and ends as its rounds do
-    pub runs_on : (d : Answer) (u : Run) (D : Loan) → Ends 0 (run_of (given_of r' levels tables)) (loan B' T) (answer_of d) (clipped_of u) D
+    pub runs_on : (d : Result Accepted Refusal) (u : Run) (D : Loan) → Ends 0 (run_of (given_of r' levels tables)) (loan B' T) (answer_of d) (clipped_of u) D
         → RunIs r levels tables (loan B T) d u D
     runs_on d u D e =
         rw accepted

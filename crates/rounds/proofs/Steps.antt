@@ -25,11 +25,14 @@ use Rattle.calls.proofs.Turns.{on_answer, on_places, blend_answer, blend_places}
 use Rattle.demand.specs.Solver.{jobs}
 use Rattle.demand.proofs.Laws.{laws}
 use Rattle.record.specs.declared.Run.{Run}
-use Rattle.record.specs.declared.Answer.{Answer}
-use Rattle.record.specs.declared.Answer.TheVariants.{Refused, Done, Blown, Blended}
+use Rattle.std.specs.Prelude.{Result, Ok, Err}
+use Rattle.refusal.specs.declared.Refusal.{Refusal}
+use Rattle.refusal.specs.Refusal.{number_of}
+use Rattle.record.specs.declared.Accepted.{Accepted}
+use Rattle.record.specs.declared.Accepted.TheVariants.{Done, Blown, Blended}
 use Rattle.record.specs.Model.{sheet_of, places_of, given_of, answer_of}
 use Rattle.record.proofs.Placed.{sheet_stays, places_placed}
-use Rattle.run.specs.Public.{Result, result, gave, state_of, call_of}
+use Rattle.run.specs.Public.{Outcome, result, gave, state_of, call_of}
 use Rattle.numbered.specs.Numbered.{numbered}
 use Rattle.rounds.specs.Whole.{blows_at}
 use Rattle.rounds.specs.Rounds.{AllAt, passed, Within, turns, round_blows, RoundAsks, RoundIs}
@@ -37,7 +40,7 @@ use Rattle.rounds.specs.Rounds.{AllAt, passed, Within, turns, round_blows, Round
 -- ---- what a call by its number leaves, where it is the model's call x
 
 module _ (G : Given) (ok : GivenOk G) (r : Run) (B : Buffers) (same : sheet_of r ≡ G.sheet) (inv : Inv jobs G (state_of r B)) (x : Call)
-    (a : Answer) (r' : Run) (B' : Buffers) (gives : result r (call jobs G x (state_of r B)) ≡ gave a r' B') where
+    (a : Result Accepted Refusal) (r' : Run) (B' : Buffers) (gives : result r (call jobs G x (state_of r B)) ≡ gave a r' B') where
   o : Called
   o = call jobs G x (state_of r B)
 
@@ -45,15 +48,15 @@ module _ (G : Given) (ok : GivenOk G) (r : Run) (B : Buffers) (same : sheet_of r
   good = (call_good jobs laws G ok (state_of r B) inv x).again
 
   pub same_answer : (call jobs G x (state_of r B)).answer ≡ answer_of a
-  same_answer = ap (λ (y : Result). y.answer) gives
+  same_answer = ap (λ (y : Outcome). y.answer) gives
 
   pub same_places : places_of r' ≡ (call jobs G x (state_of r B)).after.places
   same_places =
-      ap (λ (y : Result). places_of y.run) (sym gives)
+      ap (λ (y : Outcome). places_of y.run) (sym gives)
       ∙ places_placed r (call jobs G x (state_of r B)).after.places (good.legal_places.long ∙ sym inv.legal_places.long)
 
   pub same-sheet : sheet_of r' ≡ G.sheet
-  same-sheet = ap (λ (y : Result). sheet_of y.run) (sym gives) ∙ sheet_stays r (call jobs G x (state_of r B)).after.places ∙ same
+  same-sheet = ap (λ (y : Outcome). sheet_of y.run) (sym gives) ∙ sheet_stays r (call jobs G x (state_of r B)).after.places ∙ same
 
   same_state : (call jobs G x (state_of r B)).after ≡ state_of r' B'
   same_state = λ i. record { places = sym same_places i; buffers = (gives i).buffers }
@@ -165,11 +168,11 @@ job_of (suc (suc (suc zero))) h = inl (move, refl)
 job_of (suc (suc (suc (suc k)))) h = inl (project, omega arith)
 
 -- what a call of a round tells
-abbrev pub StepIs : Given → ℕ → ℕ → Answer → Run → Buffers → Type 0
-StepIs G p i (Refused n) r B = ⊥
-StepIs G p i Done r B = Within G p (suc i) r B × (blows_at G i p ≡ false) × (p % 5 ≢ 2)
-StepIs G p i (Blended tv tgv) r B = Within G p (suc i) r B × (blows_at G i p ≡ false) × (p % 5 ≡ 2) × (totals_at jobs G p ≡ (tv, tgv))
-StepIs G p i Blown r B = (i < count G) × (blows_at G i p ≡ true) × Sized (count G * area G) B
+abbrev pub StepIs : Given → ℕ → ℕ → Result Accepted Refusal → Run → Buffers → Type 0
+StepIs G p i (Err n) r B = ⊥
+StepIs G p i (Ok Done) r B = Within G p (suc i) r B × (blows_at G i p ≡ false) × (p % 5 ≢ 2)
+StepIs G p i (Ok (Blended tv tgv)) r B = Within G p (suc i) r B × (blows_at G i p ≡ false) × (p % 5 ≡ 2) × (totals_at jobs G p ≡ (tv, tgv))
+StepIs G p i (Ok Blown) r B = (i < count G) × (blows_at G i p ≡ true) × Sized (count G * area G) B
 
 module _ (G : Given) (ok : GivenOk G) (p : ℕ) (left : p < 5 * G.sheet.N) (i : ℕ) (r : Run) (B : Buffers) (w : Within G p i r B) (r' : Run) (B' : Buffers) where
   module _ (j : Job) (t : p % 5 ≡ turn j) (below : i < count G) where
@@ -185,7 +188,7 @@ module _ (G : Given) (ok : GivenOk G) (p : ℕ) (left : p < 5 * G.sheet.N) (i : 
     long : i < length (places_of r)
     long = omega (arith, w.inv.legal_places.long)
 
-    module _ (a : Answer) (gives : result r (call jobs G (on j i) (state_of r B)) ≡ gave a r' B') where
+    module _ (a : Result Accepted Refusal) (gives : result r (call jobs G (on j i) (state_of r B)) ≡ gave a r' B') where
       replied : reply j x ≡ answer_of a
       unfolding x
       replied =
@@ -235,29 +238,29 @@ module _ (G : Given) (ok : GivenOk G) (p : ℕ) (left : p < 5 * G.sheet.N) (i : 
             | no f ↦ ap (λ (k : Place). k.mark) (place_elsewhere (places_of r) i q c f) ∙ w.unmarked c h
           ]
 
-    on_step : (a : Answer) → result r (call jobs G (on j i) (state_of r B)) ≡ gave a r' B' → StepIs G p i a r' B'
+    on_step : (a : Result Accepted Refusal) → result r (call jobs G (on j i) (state_of r B)) ≡ gave a r' B' → StepIs G p i a r' B'
     unfolding x q blows_at
-    on_step (Refused n) g = not_refused j p t x n (replied (Refused n) g)
-    on_step Done g =
-        let d = done_on j p t x (place (places_of r) i) (w.unmarked i below) (replied Done g) in (
+    on_step (Err n) g = not_refused j p t x (number_of n) (replied (Err n) g)
+    on_step (Ok Done) g =
+        let d = done_on j p t x (place (places_of r) i) (w.unmarked i below) (replied (Ok Done) g) in (
           record {
-            sheet = same-sheet G ok r B w.sheet w.inv (on j i) Done r' B' g;
-            inv = inv_now Done g;
-            at_place = now_at Done g;
-            unmarked = now_unmarked Done g d.0;
+            sheet = same-sheet G ok r B w.sheet w.inv (on j i) (Ok Done) r' B' g;
+            inv = inv_now (Ok Done) g;
+            at_place = now_at (Ok Done) g;
+            unmarked = now_unmarked (Ok Done) g d.0;
           },
           d.1,
           not_blend j p t,
         )
-    on_step (Blended tv tgv) g = absurd (not_blended j p t x tv tgv (replied (Blended tv tgv) g))
-    on_step Blown g = (below, blown_on j p t x (replied Blown g), (inv_now Blown g).sized)
+    on_step (Ok (Blended tv tgv)) g = absurd (not_blended j p t x tv tgv (replied (Ok (Blended tv tgv)) g))
+    on_step (Ok Blown) g = (below, blown_on j p t x (replied (Ok Blown) g), (inv_now (Ok Blown) g).sized)
 
   -- blend: one call for all channels
   module _ (t : p % 5 ≡ 2) (first : i ≡ 0) where
     all_here : (c : ℕ) → c < count G → (place (places_of r) c).position ≡ p
     all_here c h = w.at_place c h ∙ ap (λ (b : Bool). cond b (suc p) p) (ap (λ (k : ℕ). passed k i c) t ∙ ap (λ (k : ℕ). ltb 0 k) first)
 
-    blend_step : (a : Answer) → result r (call jobs G blend (state_of r B)) ≡ gave a r' B' → StepIs G p i a r' B'
+    blend_step : (a : Result Accepted Refusal) → result r (call jobs G blend (state_of r B)) ≡ gave a r' B' → StepIs G p i a r' B'
     unfolding blows_at
     blend_step a g =
         let says : blend_reply (totals_at jobs G p) ≡ answer_of a =
@@ -273,12 +276,12 @@ module _ (G : Given) (ok : GivenOk G) (p : ℕ) (left : p < 5 * G.sheet.N) (i : 
             let second : (totals_at jobs G p).1 ≡ tgv = cc in
             λ i. (first i, second i)
 
-        go : (a : Answer) → blend_reply (totals_at jobs G p) ≡ answer_of a → places_of r' ≡ map onward (places_of r) → Inv jobs G (state_of r' B') → sheet_of r' ≡ G.sheet
+        go : (a : Result Accepted Refusal) → blend_reply (totals_at jobs G p) ≡ answer_of a → places_of r' ≡ map onward (places_of r) → Inv jobs G (state_of r' B') → sheet_of r' ≡ G.sheet
             → StepIs G p i a r' B'
-        go (Refused n) e o v s = let z : ◌≡◌ {A = ℕ} 0 1 = cc in omega arith
-        go Blown e o v s = let z : ◌≡◌ {A = ℕ} 0 1 = cc in absurd (omega arith)
-        go Done e o v s = let z : ◌≡◌ {A = ℕ} 0 1 = cc in absurd (omega arith)
-        go (Blended tv tgv) e o v s =
+        go (Err n) e o v s = let z : ◌≡◌ {A = ℕ} 0 1 = cc in omega arith
+        go (Ok Blown) e o v s = let z : ◌≡◌ {A = ℕ} 0 1 = cc in absurd (omega arith)
+        go (Ok Done) e o v s = let z : ◌≡◌ {A = ℕ} 0 1 = cc in absurd (omega arith)
+        go (Ok (Blended tv tgv)) e o v s =
             let each : (c : ℕ) → c < count G → place (places_of r') c ≡ onward (place (places_of r) c) =
             λ c h. ap (λ (ps : List Place). place ps c) o ∙ get_d_map_lt onward (places_of r) fresh fresh c (omega (arith, w.inv.legal_places.long)) in (
               record {
@@ -297,7 +300,7 @@ module _ (G : Given) (ok : GivenOk G) (p : ℕ) (left : p < 5 * G.sheet.N) (i : 
             )
 
   -- the round's next call, by the job's number
-  pub next_call : i < turns (p % 5) (count G) → (a : Answer) → call_of r (numbered (p % 5) i) G.levels G.tables B ≡ gave a r' B' → StepIs G p i a r' B'
+  pub next_call : i < turns (p % 5) (count G) → (a : Result Accepted Refusal) → call_of r (numbered (p % 5) i) G.levels G.tables B ≡ gave a r' B' → StepIs G p i a r' B'
   next_call more a g = go (job_of (p % 5) (omega arith))
     where
       given_is : given_of r G.levels G.tables ≡ G
@@ -349,6 +352,14 @@ none_blown G p e = go (job_of (p % 5) (omega arith))
     go (inl q) = ap (λ (n : ℕ). among n (λ c. blows_at G c p)) (sym (turns_are q.0 p q.1 (count G))) ∙ e
     go (inr t) = among_false (count G) (λ c. blows_at G c p) (λ c h. ap (λ (k : ℕ). eqb k 4 && channel_blown G c (fixed jobs G (suc p) c)) t)
 
+-- ---- results that differ
+
+pub ok_same : {a b : Accepted} → ◌≡◌ {A = Result Accepted Refusal} (Ok a) (Ok b) → a ≡ b
+ok_same {a} {b} z = cc
+
+pub err_ok : {e : Refusal} {a : Accepted} → ◌≡◌ {A = Result Accepted Refusal} (Err e) (Ok a) → ⊥
+err_ok {e} {a} z = let q : ◌≡◌ {A = ℕ} 0 1 = cc in omega arith
+
 -- ---- a round's loop: after i of n calls
 
 -- each of the six has its length still
@@ -394,15 +405,15 @@ module _ (r₀ : Run) (p : ℕ) (levels : Levels) (tables : List ℕ) (B₀ : Bu
 
   module _ (n i : ℕ) (is : n ≡ turns (p % 5) (count G)) (r : Run) (B : Buffers) (h : Passing G p n i r B₀ B) where
     -- a call that was answered `done`, and one that was not
-    pub goes-on : i < n → (a : Answer) (r' : Run) (B' : Buffers) → call_of r (numbered (p % 5) i) levels tables B ≡ gave a r' B' → a ≡ Done
+    pub goes-on : i < n → (a : Result Accepted Refusal) (r' : Run) (B' : Buffers) → call_of r (numbered (p % 5) i) levels tables B ≡ gave a r' B' → a ≡ (Ok Done)
         → Passing G p n (i + 1) r' B₀ B'
     goes-on more a r' B' g one = go a one (next_call G asks.ok p asks.left i r B h.within r' B' (omega arith) a g)
       where
-        go : (a : Answer) → a ≡ Done → StepIs G p i a r' B' → Passing G p n (i + 1) r' B₀ B'
-        go (Refused m) one s = absurd s
-        go Blown one s = let z : ◌≡◌ {A = ℕ} 0 1 = cc in absurd (omega arith)
-        go (Blended tv tgv) one s = let z : ◌≡◌ {A = ℕ} 0 1 = cc in absurd (omega arith)
-        go Done one s =
+        go : (a : Result Accepted Refusal) → a ≡ (Ok Done) → StepIs G p i a r' B' → Passing G p n (i + 1) r' B₀ B'
+        go (Err m) one s = absurd s
+        go (Ok Blown) one s = let z : ◌≡◌ {A = ℕ} 0 1 = cc in absurd (omega arith)
+        go (Ok (Blended tv tgv)) one s = let z : ◌≡◌ {A = ℕ} 0 1 = cc in absurd (omega arith)
+        go (Ok Done) one s =
             rw (add-one)
             record {
               most = omega (arith, h.most);
@@ -412,15 +423,15 @@ module _ (r₀ : Run) (p : ℕ) (levels : Levels) (tables : List ℕ) (B₀ : Bu
               kept = kept_of (count G * area G) B₀ B' asks.all.inv.sized s.0.inv.sized;
             }
 
-    pub stops : i < n → (a : Answer) (r' : Run) (B' : Buffers) → call_of r (numbered (p % 5) i) levels tables B ≡ gave a r' B' → (a ≡ Done → ⊥)
+    pub stops : i < n → (a : Result Accepted Refusal) (r' : Run) (B' : Buffers) → call_of r (numbered (p % 5) i) levels tables B ≡ gave a r' B' → (a ≡ (Ok Done) → ⊥)
         → RoundIs G p a r' B'
     stops more a r' B' g one = go a one (next_call G asks.ok p asks.left i r B h.within r' B' (omega arith) a g)
       where
-        go : (a : Answer) → (a ≡ Done → ⊥) → StepIs G p i a r' B' → RoundIs G p a r' B'
-        go (Refused m) one s = s
-        go Done one s = absurd (one refl)
-        go Blown one s = (among_true (count G) (λ c. blows_at G c p) i s.0 s.1, s.2)
-        go (Blended tv tgv) one s =
+        go : (a : Result Accepted Refusal) → (a ≡ (Ok Done) → ⊥) → StepIs G p i a r' B' → RoundIs G p a r' B'
+        go (Err m) one s = s
+        go (Ok Done) one s = absurd (one refl)
+        go (Ok Blown) one s = (among_true (count G) (λ c. blows_at G c p) i s.0 s.1, s.2)
+        go (Ok (Blended tv tgv)) one s =
             let only : turns (p % 5) (count G) ≡ 1 = ap (λ (k : ℕ). turns k (count G)) s.2 in
             let last : suc i ≡ turns (p % 5) (count G) = omega arith in
             let none : among (suc i) (λ c. blows_at G c p) ≡ false = rw h.none s.1 in (
@@ -430,7 +441,7 @@ module _ (r₀ : Run) (p : ℕ) (levels : Levels) (tables : List ℕ) (B₀ : Bu
               s.3,
             )
 
-    pub ends : n ≤ i → RoundIs G p Done r B
+    pub ends : n ≤ i → RoundIs G p (Ok Done) r B
     ends l =
         let last : i ≡ turns (p % 5) (count G) = omega (arith, h.most) in
         let other : p % 5 ≢ 2 =

@@ -9,8 +9,10 @@ use Rattle.calls.specs.Jobs.{totals_at}
 use Rattle.calls.specs.Between.{GivenOk, Inv}
 use Rattle.demand.specs.Solver.{jobs}
 use Rattle.record.specs.declared.Run.{Run}
-use Rattle.record.specs.declared.Answer.{Answer}
-use Rattle.record.specs.declared.Answer.TheVariants.{Refused, Done, Blown, Blended}
+use Rattle.std.specs.Prelude.{Result, Ok, Err}
+use Rattle.refusal.specs.declared.Refusal.{Refusal}
+use Rattle.record.specs.declared.Accepted.{Accepted}
+use Rattle.record.specs.declared.Accepted.TheVariants.{Done, Blown, Blended}
 use Rattle.record.specs.Model.{sheet_of, places_of, given_of}
 use Rattle.run.specs.Public.{state_of}
 use Rattle.rounds.specs.Whole.{blows_at, job_count}
@@ -48,25 +50,18 @@ pub record RoundAsks (r : Run) (p : ℕ) (levels : Levels) (tables : List ℕ) (
   pub all : AllAt (given_of r levels tables) p r B
 
 -- and answers: done, with all channels one job on, and where the job is blend with its totals; or blown, with one that is
-abbrev pub RoundIs : Given → ℕ → Answer → Run → Buffers → Type 0
-RoundIs G p (Refused n) r B = ⊥
-RoundIs G p Done r B = AllAt G (suc p) r B × (round_blows G p ≡ false) × (p % 5 ≢ 2)
-RoundIs G p (Blended tv tgv) r B = AllAt G (suc p) r B × (round_blows G p ≡ false) × (p % 5 ≡ 2) × (totals_at jobs G p ≡ (tv, tgv))
-RoundIs G p Blown r B = (round_blows G p ≡ true) × Sized (count G * area G) B
+abbrev pub RoundIs : Given → ℕ → Result Accepted Refusal → Run → Buffers → Type 0
+RoundIs G p (Err n) r B = ⊥
+RoundIs G p (Ok Done) r B = AllAt G (suc p) r B × (round_blows G p ≡ false) × (p % 5 ≢ 2)
+RoundIs G p (Ok (Blended tv tgv)) r B = AllAt G (suc p) r B × (round_blows G p ≡ false) × (p % 5 ≡ 2) × (totals_at jobs G p ≡ (tv, tgv))
+RoundIs G p (Ok Blown) r B = (round_blows G p ≡ true) × Sized (count G * area G) B
 
 -- the totals with those of a blend's answer at the places of step k; with other answers as they were
-abbrev pub with_pair : Answer → ℕ → List Float → List Float
-with_pair (Refused n) k T = T
-with_pair Done k T = T
-with_pair Blown k T = T
-with_pair (Blended tv tgv) k T = splice T (k * 2) (k * 2 + 2) (tv ∷ tgv ∷ [])
-
--- an answer with which a run goes on
-abbrev pub goes : Answer → Bool
-goes (Refused n) = false
-goes Done = true
-goes Blown = false
-goes (Blended tv tgv) = true
+abbrev pub with_pair : Result Accepted Refusal → ℕ → List Float → List Float
+with_pair (Err n) k T = T
+with_pair (Ok Done) k T = T
+with_pair (Ok Blown) k T = T
+with_pair (Ok (Blended tv tgv)) k T = splice T (k * 2) (k * 2 + 2) (tv ∷ tgv ∷ [])
 
 -- all rounds are asked for where a run stands at its start, with room for its totals
 pub record RunAsks (r : Run) (levels : Levels) (tables : List ℕ) (B : Buffers) (T : List Float) : Type 0 where

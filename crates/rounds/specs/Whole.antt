@@ -10,7 +10,9 @@ use Rattle.calls.specs.Calls as Calls
 use Rattle.calls.specs.Calls.{lengths, all_six, start_refusal}
 use Rattle.demand.specs.Solver.{jobs}
 use Rattle.record.specs.declared.Run.{Run}
-use Rattle.record.specs.declared.Answer.{Answer}
+use Rattle.std.specs.Prelude.{Result}
+use Rattle.refusal.specs.declared.Refusal.{Refusal}
+use Rattle.record.specs.declared.Accepted.{Accepted}
 use Rattle.record.specs.Model.{places_of, clipped_of, given_of, answer_of}
 
 -- ---- what a run leaves, by what it is given
@@ -101,7 +103,7 @@ Ends (suc n) w L a k L' = (a ≡ Calls.refused (suc n)) × (L' ≡ L)
 Ends zero w L a k L' = Ended w.blown w L a k L'
 
 -- the run of one record, from its start to its last job, which leaves the record r'
-abbrev pub RunIs : Run → Levels → List ℕ → Loan → Answer → Run → Loan → Type 0
+abbrev pub RunIs : Run → Levels → List ℕ → Loan → Result Accepted Refusal → Run → Loan → Type 0
 RunIs r levels tables L a r' L' =
     let G = given_of r levels tables in
     Ends (start_refusal G (places_of r) (lengths all_six L.buffers)) (run_of G) L (answer_of a) (clipped_of r') L'

@@ -105,6 +105,7 @@ pub fn sparse(norm: &[f32], w: usize) -> bool
     w / 16 < zeros
 }
 
+// Kept: the seven below; as one function over an enum of neighbours, with quotients by a closure, blend takes 64.1 ms on random planes of 512 by 512, and 59.9 as it is.
 // Own places. Rules out: a change where the norm is 0, and by the quotient of another pixel. So do the six below.
 pub fn own(gradient: &mut [f32], norm: &[f32], q: &[f32], g: Grid, alpha: f32, y: usize, c: usize)
     requires { (c < g.n) × (y < g.h) × (0 < g.w) × (g.w ≤ length norm.now) × (g.w ≤ length q.now) × Fills g (length gradient.old) }

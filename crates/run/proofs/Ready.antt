@@ -1,11 +1,15 @@
 -- How a call ends, for the proofs of the public calls: refused, with all as it was, or accepted.
-use mathlib.Core.Path.{◌≡◌, refl, sym, ap, ◌∙◌}
-use mathlib.Core.Logic.{◌≢◌}
+use mathlib.Core.Path.{◌≡◌, sym, ap, ◌∙◌}
 use mathlib.Core.Bool.{true}
 use mathlib.Core.List.{List, [], ◌∷◌}
-use Prim.Native.Nat.{ℕ, zero, suc, ◌*◌, ◌<◌}
+use Prim.Native.Nat.{ℕ, zero, suc, ◌*◌, ◌<◌, ◌≤◌}
 use lib.Dec.{T, eqb, eqb→eq}
 use lib.Ieee.Fits.{and_l, and_r}
+use native.Mathlib.Omega.{arith}
+use Rattle.std.specs.Prelude.{Result, Err}
+use Rattle.refusal.specs.declared.Refusal.{Refusal}
+use Rattle.refusal.specs.Refusal.{number_of}
+use Rattle.refusal.proofs.Laws.{number_of-positive}
 use Rattle.start.specs.Coef.{Levels}
 use lib.ListN.{set}
 use Rattle.start.specs.Buffers.{Buffers}
@@ -18,8 +22,7 @@ use Rattle.calls.proofs.Tests.{passed_all}
 use Rattle.calls.proofs.Legal.{Ready, ready_of}
 use Rattle.demand.specs.Solver.{jobs}
 use Rattle.record.specs.declared.Run.{Run}
-use Rattle.record.specs.declared.Answer.{Answer}
-use Rattle.record.specs.declared.Answer.TheVariants.{Refused}
+use Rattle.record.specs.declared.Accepted as said
 use Rattle.record.specs.Model.{Legal, sheet_of, places_of, given_of, placed, answer_of}
 use Rattle.record.proofs.Placed.{placed_same}
 use Rattle.parts.specs.Parts.{Fed}
@@ -27,15 +30,18 @@ use Rattle.run.specs.Public.{result, gave, state_of, call_of}
 
 -- ---- refused
 
-pub settled : (r : Run) (B : Buffers) (t : ℕ) → t ≢ 0 → (o : Calls.Called) → result r (settle t (state_of r B) o) ≡ gave (Refused t) r B
-settled r B zero n o = absurd (n refl)
-settled r B (suc t) n o = ap (λ (q : Run). gave (Refused (suc t)) q B) (placed_same r)
+pub settled : (r : Run) (B : Buffers) (e : Refusal) (o : Calls.Called) → result r (settle (number_of e) (state_of r B) o) ≡ gave (Err e) r B
+settled r B e o = go (number_of e) (number_of-positive e)
+  where
+    go : (n : ℕ) → 1 ≤ n → result r (settle n (state_of r B) o) ≡ record { answer = Calls.refused n; run = r; buffers = B }
+    go zero h = absurd (omega arith)
+    go (suc t) h = ap (λ (q : Run). record { answer = Calls.refused (suc t); run = q; buffers = B }) (placed_same r)
 
 module _ (r : Run) (levels : Levels) (tables : List ℕ) (x : Call) (B : Buffers) where
-  pub call_refused : (t : ℕ) → t ≡ refusal (given_of r levels tables) (places_of r) x (lengths (lent x) B) → t ≢ 0
-      → call_of r x levels tables B ≡ gave (Refused t) r B
+  pub call_refused : {a : Result said.Accepted Refusal} (e : Refusal) → a ≡ Err e → number_of e ≡ refusal (given_of r levels tables) (places_of r) x (lengths (lent x) B)
+      → call_of r x levels tables B ≡ gave a r B
   unfolding call
-  call_refused t e n = rw (← e) (settled r B t n (accept jobs (given_of r levels tables) x (state_of r B)))
+  call_refused e is n = rw (is, ← n) (settled r B e (accept jobs (given_of r levels tables) x (state_of r B)))
 
   pub call_accepted : refusal (given_of r levels tables) (places_of r) x (lengths (lent x) B) ≡ 0
       → call_of r x levels tables B ≡ result r (accept jobs (given_of r levels tables) x (state_of r B))
@@ -99,7 +105,7 @@ module _ (r : Run) (levels : Levels) (tables : List ℕ) (j : Job) (c : ℕ) (B 
 module _ (r : Run) (levels : Levels) (tables : List ℕ) (c : ℕ) (B : Buffers) where
   pub project_result : refusal (given_of r levels tables) (places_of r) (on project c) (lengths (lent (on project c)) B) ≡ 0
       → (x : Seen) → seen_in jobs (given_of r levels tables) project c (state_of r B) ≡ x
-      → (a : Answer) → answer_of a ≡ reply project x
+      → (a : Result said.Accepted Refusal) → answer_of a ≡ reply project x
       → {r' : Run} → r' ≡ placed r (set (places_of r) c (marked x (place (places_of r) c)))
       → {B' : Buffers} → put_channel (r.w * r.h) c B (worked jobs (given_of r levels tables) project c (state_of r B)) ≡ B'
       → call_of r (on project c) levels tables B ≡ gave a r' B'

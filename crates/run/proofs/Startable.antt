@@ -1,9 +1,11 @@
 -- Start: refused, or what an accepted one has passed, and its result.
 use mathlib.Core.Path.{◌≡◌, refl, sym, ◌∙◌}
-use mathlib.Core.Logic.{◌≢◌}
 use mathlib.Core.Bool.{true}
 use mathlib.Core.List.{List, map}
 use Prim.Native.Nat.{ℕ, ◌*◌}
+use Rattle.std.specs.Prelude.{Result, Ok, Err}
+use Rattle.refusal.specs.declared.Refusal.{Refusal}
+use Rattle.refusal.specs.Refusal.{number_of}
 use Rattle.start.specs.Coef.{Levels}
 use Rattle.fold.specs.Fold.{upto}
 use Rattle.start.specs.Buffers.{Buffers}
@@ -14,7 +16,8 @@ use Rattle.calls.specs.Calls.{lengths, all_six, start_refusal, start, begin}
 use Rattle.calls.proofs.Tests.{lent_of}
 use Rattle.demand.specs.Solver.{jobs}
 use Rattle.record.specs.declared.Run.{Run}
-use Rattle.record.specs.declared.Answer.TheVariants.{Refused, Done}
+use Rattle.record.specs.declared.Accepted.{Accepted}
+use Rattle.record.specs.declared.Accepted.TheVariants.{Done}
 use Rattle.record.specs.Model.{Legal, places_of, given_of, placed}
 use Rattle.parts.specs.Parts.{FedAll, started_part}
 use Rattle.run.specs.Public.{result, gave, state_of, start_of}
@@ -24,10 +27,10 @@ use Rattle.parts.proofs.Started.{six_long, all_started}
 -- ---- refused, and what an accepted start has passed
 
 module _ (r : Run) (levels : Levels) (tables : List ℕ) (B : Buffers) where
-  pub start_refused : (t : ℕ) → t ≡ start_refusal (given_of r levels tables) (places_of r) (lengths all_six B) → t ≢ 0
-      → start_of r levels tables B ≡ gave (Refused t) r B
+  pub start_refused : {a : Result Accepted Refusal} (e : Refusal) → a ≡ Err e → number_of e ≡ start_refusal (given_of r levels tables) (places_of r) (lengths all_six B)
+      → start_of r levels tables B ≡ gave a r B
   unfolding start
-  start_refused t e n = rw (← e) (settled r B t n (begin jobs (given_of r levels tables) (state_of r B)))
+  start_refused e is n = rw (is, ← n) (settled r B e (begin jobs (given_of r levels tables) (state_of r B)))
 
   pub start_accepted : start_refusal (given_of r levels tables) (places_of r) (lengths all_six B) ≡ 0
       → start_of r levels tables B ≡ result r (begin jobs (given_of r levels tables) (state_of r B))
@@ -59,7 +62,7 @@ pub start_result : (r : Run) (levels : Levels) (tables : List ℕ) (B : Buffers)
     → start_refusal (given_of r levels tables) (places_of r) (lengths all_six B) ≡ 0
     → {r' : Run} → r' ≡ placed r (map (λ p. fresh) (places_of r))
     → {B' : Buffers} → B' ≡ upto (started_part (given_of r levels tables)) r.count B
-    → start_of r levels tables B ≡ gave Done r' B'
+    → start_of r levels tables B ≡ gave (Ok Done) r' B'
 start_result r levels tables B e p b =
     let G = given_of r levels tables in
     let long : Sized (count G * area G) B = six_are (count G * area G) B (startable r levels tables (lengths all_six B) e).long in

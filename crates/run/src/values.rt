@@ -1,5 +1,5 @@
-// The public calls with the record by value: each looks at everything it is lent, and refuses or does its job.
-ghost use Rattle.std.specs.Prelude.{◌≡◌, ◌/◌, ◌<◌};
+// The public calls: each looks at everything it is lent, and refuses, the record and the buffers being left as they were, or does its job.
+ghost use Rattle.std.specs.Prelude.{◌≡◌, ◌/◌, ◌<◌, Ok};
 ghost use Rattle.start.specs.Coef.{pairs};
 ghost use Rattle.calls.specs.Run.{place};
 ghost use Rattle.calls.specs.Jobs.{project};
@@ -9,7 +9,10 @@ ghost use Rattle.record.specs.Model.{Legal, sheet_of, places_of, seen_of, answer
 ghost use Rattle.run.specs.Public.{StartIs, PushIs, DataIs, BlendIs, MoveIs, ProjectIs};
 
 use gradients::grid::Grid;
-use record::{Answer, Answered, Run, Seen};
+use record::places::{advanced, blended, cleared, held_flags, held_of, projected, span_of};
+use record::refusals::{area, blend_refusal, fed_refusal, job_refusal, start_refusal};
+use record::{Accepted, Job, Run, Seen};
+use refusal::Refusal;
 use steps::solve::Constants;
 
 // The constants of the step that channel c's next job belongs to.
@@ -17,95 +20,63 @@ fn constants_of(run: Run, c: u32) -> Constants
     requires { Legal run × (c < run.count) }
     ensures { result ≡ constants_of (sheet_of run) ((place (places_of run) c).position / 5) }
 {
-    let s = record::places::span_of(run, c);
-    steps::solve::step_constants(run.w, run.h, run.n, run.smoothing, s.step)
+    steps::solve::step_constants(run.w, run.h, run.n, run.smoothing, span_of(run, c).step)
 }
 
 // Push. Rules out: a plane handed back unmoved, a position counted up without the job, and a held channel's prior overwritten by its plane.
-pub fn push_value(run: Run, c: u32, plane: &mut [f32], prior: &mut [f32]) -> Answered
-    ensures { PushIs run c plane.old prior.old result.answer result.run plane.new prior.new }
+pub fn push(
+    run: &mut Run,
+    c: u32,
+    plane: &mut [f32],
+    prior: &mut [f32],
+) -> Result<Accepted, Refusal>
+    ensures { PushIs run.old c plane.old prior.old result run.new plane.new prior.new }
 {
-    let lengths = [plane.len(), prior.len()];
-    let r = record::refusals::job_refusal(run, c, 0, &lengths);
-    if r != 0 {
-        return Answered {
-            answer: Answer::Refused(r),
-            run,
-        };
+    job_refusal(*run, c, Job::Push, &[plane.len(), prior.len()])?;
+    if !held_of(*run, c) {
+        let k = constants_of(*run, c);
+        steps::solve::push_channel(plane, prior, k, c as usize, area(*run));
     }
-    if record::places::held_of(run, c) {
-        let next = record::places::advanced(run, c);
-        return Answered {
-            answer: Answer::Done,
-            run: next,
-        };
-    }
-    let k = constants_of(run, c);
-    let n = record::refusals::area(run);
-    steps::solve::push_channel(plane, prior, k, c as usize, n);
-    let next = record::places::advanced(run, c);
-    Answered {
-        answer: Answer::Done,
-        run: next,
-    }
+    *run = advanced(*run, c);
+    Ok(Accepted::Done)
 }
 
 // Data. Rules out: saved coefficients changed, the levels of another channel taken for this one's, and a held channel's gradient zeroed.
-pub fn data_value(
-    run: Run,
+pub fn data(
+    run: &mut Run,
     c: u32,
     lows: &[i16],
     highs: &[i16],
     tables: &[u16],
     gradient: &mut [f32],
     saved: &[f32],
-) -> Answered
-    ensures { DataIs run c (pairs lows.now highs.now) tables.now gradient.old saved.now result.answer result.run gradient.new }
+) -> Result<Accepted, Refusal>
+    ensures { DataIs run.old c (pairs lows.now highs.now) tables.now gradient.old saved.now result run.new gradient.new }
 {
     let lengths = [gradient.len(), saved.len()];
-    let r = record::refusals::fed_refusal(run, c, 1, &lengths, lows, highs, tables);
-    if r != 0 {
-        return Answered {
-            answer: Answer::Refused(r),
-            run,
-        };
+    fed_refusal(*run, c, Job::Data, &lengths, lows, highs, tables)?;
+    if !held_of(*run, c) {
+        parts::data_part(*run, c, lows, highs, tables, gradient, saved);
     }
-    if record::places::held_of(run, c) {
-        let next = record::places::advanced(run, c);
-        return Answered {
-            answer: Answer::Done,
-            run: next,
-        };
-    }
-    parts::data_part(run, c, lows, highs, tables, gradient, saved);
-    let next = record::places::advanced(run, c);
-    Answered {
-        answer: Answer::Done,
-        run: next,
-    }
+    *run = advanced(*run, c);
+    Ok(Accepted::Done)
 }
 
 // Blend. Rules out: a gradient that only one channel's plane goes into, positions of some channels left behind, and the totals of another step's planes.
-pub fn blend_value(
-    run: Run,
+pub fn blend(
+    run: &mut Run,
     plane: &[f32],
     gradient: &mut [f32],
     across: &mut [f32],
     down: &mut [f32],
-) -> Answered
-    ensures { BlendIs run plane.now gradient.old across.old down.old
-        result.answer result.run gradient.new across.new down.new }
+) -> Result<Accepted, Refusal>
+    ensures { BlendIs run.old plane.now gradient.old across.old down.old
+        result run.new gradient.new across.new down.new }
 {
     let lengths = [plane.len(), gradient.len(), across.len(), down.len()];
-    let r = record::refusals::blend_refusal(run, &lengths);
-    if r != 0 {
-        return Answered {
-            answer: Answer::Refused(r),
-            run,
-        };
-    }
-    let k = constants_of(run, 0);
-    let held = record::places::held_flags(run);
+    blend_refusal(*run, &lengths)?;
+    let k = constants_of(*run, 0);
+    let held = held_flags(*run);
     let g = Grid {
         n: run.count as usize,
         w: run.w as usize,
@@ -113,58 +84,45 @@ pub fn blend_value(
         held,
     };
     let t = blend::blend(plane, gradient, across, down, g, k);
-    let next = record::places::blended(run);
-    Answered {
-        answer: Answer::Blended {
-            tv: t.tv,
-            tgv: t.tgv,
-        },
-        run: next,
-    }
+    *run = blended(*run);
+    Ok(Accepted::Blended {
+        tv: t.tv,
+        tgv: t.tgv,
+    })
 }
 
 // Move. Rules out: a move up the gradient, and the step size of another step.
-pub fn move_value(run: Run, c: u32, plane: &mut [f32], gradient: &[f32]) -> Answered
-    ensures { MoveIs run c plane.old gradient.now result.answer result.run plane.new }
+pub fn move_plane(
+    run: &mut Run,
+    c: u32,
+    plane: &mut [f32],
+    gradient: &[f32],
+) -> Result<Accepted, Refusal>
+    ensures { MoveIs run.old c plane.old gradient.now result run.new plane.new }
 {
-    let lengths = [plane.len(), gradient.len()];
-    let r = record::refusals::job_refusal(run, c, 3, &lengths);
-    if r != 0 {
-        return Answered {
-            answer: Answer::Refused(r),
-            run,
-        };
+    job_refusal(*run, c, Job::Move, &[plane.len(), gradient.len()])?;
+    if !held_of(*run, c) {
+        let k = constants_of(*run, c);
+        steps::step::move_channel(plane, gradient, k, c as usize, area(*run));
     }
-    if record::places::held_of(run, c) {
-        let next = record::places::advanced(run, c);
-        return Answered {
-            answer: Answer::Done,
-            run: next,
-        };
-    }
-    let k = constants_of(run, c);
-    let n = record::refusals::area(run);
-    steps::step::move_channel(plane, gradient, k, c as usize, n);
-    let next = record::places::advanced(run, c);
-    Answered {
-        answer: Answer::Done,
-        run: next,
-    }
+    *run = advanced(*run, c);
+    Ok(Accepted::Done)
 }
 
-// The answer of an accepted project: done, or done and blown.
-fn project_reply(seen: Seen) -> Answer
-    ensures { answer_of result ≡ reply project (seen_of seen) }
+// What an accepted project answers: done, or done and blown.
+fn project_reply(seen: Seen) -> Accepted
+    ensures { answer_of (Ok result) ≡ reply project (seen_of seen) }
 {
     if seen.blown {
-        return Answer::Blown;
+        Accepted::Blown
+    } else {
+        Accepted::Done
     }
-    Answer::Done
 }
 
 // Project. Rules out: every coefficient set to level × quantiser, and a mark given before the values are blown.
-pub fn project_value(
-    run: Run,
+pub fn project(
+    run: &mut Run,
     c: u32,
     lows: &[i16],
     highs: &[i16],
@@ -173,33 +131,24 @@ pub fn project_value(
     across: &mut [f32],
     down: &mut [f32],
     saved: &mut [f32],
-) -> Answered
-    ensures { ProjectIs run c (pairs lows.now highs.now) tables.now plane.old across.old down.old saved.old
-        result.answer result.run plane.new across.new down.new saved.new }
+) -> Result<Accepted, Refusal>
+    ensures { ProjectIs run.old c (pairs lows.now highs.now) tables.now plane.old across.old down.old saved.old
+        result run.new plane.new across.new down.new saved.new }
 {
     let lengths = [plane.len(), across.len(), down.len(), saved.len()];
-    let r = record::refusals::fed_refusal(run, c, 4, &lengths, lows, highs, tables);
-    if r != 0 {
-        return Answered {
-            answer: Answer::Refused(r),
-            run,
-        };
-    }
-    if record::places::held_of(run, c) {
-        let kept = parts::held_seen(run, c, plane, saved);
-        let next = record::places::projected(run, c, kept);
-        let answer = project_reply(kept);
-        return Answered { answer, run: next };
-    }
-    let seen = parts::project_seen(run, c, lows, highs, tables, plane, across, down, saved);
-    let next = record::places::projected(run, c, seen);
-    let answer = project_reply(seen);
-    Answered { answer, run: next }
+    fed_refusal(*run, c, Job::Project, &lengths, lows, highs, tables)?;
+    let seen = if held_of(*run, c) {
+        parts::held_seen(*run, c, plane, saved)
+    } else {
+        parts::project_seen(*run, c, lows, highs, tables, plane, across, down, saved)
+    };
+    *run = projected(*run, c, seen);
+    Ok(project_reply(seen))
 }
 
 // Start. Rules out: values left over in a buffer, and the levels of one channel taken for every channel's.
-pub fn start_value(
-    run: Run,
+pub fn start(
+    run: &mut Run,
     lows: &[i16],
     highs: &[i16],
     tables: &[u16],
@@ -209,10 +158,10 @@ pub fn start_value(
     across: &mut [f32],
     down: &mut [f32],
     saved: &mut [f32],
-) -> Answered
-    ensures { StartIs run (pairs lows.now highs.now) tables.now
+) -> Result<Accepted, Refusal>
+    ensures { StartIs run.old (pairs lows.now highs.now) tables.now
         (record { plane = plane.old; prior = prior.old; gradient = gradient.old; across = across.old; down = down.old; saved = saved.old })
-        result.answer result.run
+        result run.new
         (record { plane = plane.new; prior = prior.new; gradient = gradient.new; across = across.new; down = down.new; saved = saved.new }) }
 {
     let lengths = [
@@ -223,19 +172,10 @@ pub fn start_value(
         down.len(),
         saved.len(),
     ];
-    let r = record::refusals::start_refusal(run, &lengths, lows, highs, tables);
-    if r != 0 {
-        return Answered {
-            answer: Answer::Refused(r),
-            run,
-        };
-    }
+    start_refusal(*run, &lengths, lows, highs, tables)?;
     parts::start_parts(
-        run, lows, highs, tables, plane, prior, gradient, across, down, saved,
+        *run, lows, highs, tables, plane, prior, gradient, across, down, saved,
     );
-    let next = record::places::cleared(run);
-    Answered {
-        answer: Answer::Done,
-        run: next,
-    }
+    *run = cleared(*run);
+    Ok(Accepted::Done)
 }

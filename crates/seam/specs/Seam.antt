@@ -1,11 +1,11 @@
 -- Which sheets fit together. Document 02, M-107: "two sheet texts .. of equal full and own heights, channels, mode, settings, weights, iterations,
 -- factors and tables. .. It also needs equal picture heights, each channel's w × across equal to W on both sides, and a left picture as wide as its W."
-use Rattle.std.specs.Prelude.{ℕ, zero, suc, ◌*◌, List, [], ◌∷◌, Bool, true, false, not, ◌&&◌, eqb}
+use Rattle.std.specs.Prelude.{ℕ, zero, suc, ◌*◌, List, [], ◌∷◌, Bool, true, false, not, ◌&&◌, eqb, Option, Some, None}
 use Rattle.std.specs.Float.{binary32}
 use Rattle.std.specs.Float.Ieee.{to_bits}
 use Rattle.contents.specs.declared.Weight.{Weight}
-use Rattle.contents.specs.declared.Choice.{Choice}
-use Rattle.contents.specs.declared.Choice.TheVariants as choice
+use Rattle.contents.specs.declared.Letter.{Letter}
+use Rattle.contents.specs.declared.Letter.TheVariants as letter
 use Rattle.contents.specs.declared.Header.{Header}
 use Rattle.contents.specs.declared.Settings.{Settings}
 use Rattle.contents.specs.declared.Channel.{Channel}
@@ -48,10 +48,10 @@ abbrev pub same_header : Header → Header → Bool
 same_header h k = same_shape h k && (same_counts h k && (same_smoothing h k && same_data h k))
 
 -- "settings by meaning, an absent line being its default": `t` and `m` are the defaults, n and o the other letters
-abbrev pub second : Choice → Bool
-second choice.Unsaid = false
-second choice.First = false
-second choice.Second = true
+abbrev pub second : Option Letter → Bool
+second None = false
+second (Some letter.First) = false
+second (Some letter.Second) = true
 
 abbrev pub same_letters : Settings → Settings → Bool
 same_letters x y = same (second x.rounding) (second y.rounding) && same (second x.start) (second y.start)

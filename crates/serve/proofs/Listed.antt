@@ -15,10 +15,12 @@ use Rattle.calls.specs.Jobs.{Call, on, blend}
 use Rattle.calls.specs.Calls.{State, Called, settle, accept, refusal, lengths, lent, call, answers, final, onward}
 use Rattle.demand.specs.Solver.{jobs}
 use Rattle.record.specs.declared.Run.{Run}
-use Rattle.record.specs.declared.Answer.{Answer}
+use Rattle.std.specs.Prelude.{Result}
+use Rattle.refusal.specs.declared.Refusal.{Refusal}
+use Rattle.record.specs.declared.Accepted.{Accepted}
 use Rattle.record.specs.Model.{places_of, given_of, placed, answer_of}
 use Rattle.record.proofs.Placed.{placed_same, sheet_stays, places_placed, placed_twice}
-use Rattle.run.specs.Public.{Result, gave, state_of, call_of}
+use Rattle.run.specs.Public.{Outcome, gave, state_of, call_of}
 use Rattle.calls.proofs.Tests.{all_anywhere}
 use Rattle.numbered.specs.Numbered.{numbered}
 use Rattle.serve.specs.Serve.{call_list, all_jobs, byte_of, GaveNumber, Listed, ran, list_of}
@@ -45,12 +47,12 @@ module _ (G : Given) where
 
 -- ---- what a call gives by value, it gives in numbers
 
-pub in_number : (a : Answer) {x : Result} {r : Run} {B : Buffers} {k : ℕ} → x ≡ gave a r B → k ≡ byte_of (answer_of a) → GaveNumber x k r B
+pub in_number : (a : Result Accepted Refusal) {x : Outcome} {r : Run} {B : Buffers} {k : ℕ} → x ≡ gave a r B → k ≡ byte_of (answer_of a) → GaveNumber x k r B
 in_number a h e =
     record {
-      number = e ∙ ap (λ (o : Result). byte_of o.answer) (sym h);
-      run = ap (λ (o : Result). o.run) (sym h);
-      buffers = ap (λ (o : Result). o.buffers) (sym h);
+      number = e ∙ ap (λ (o : Outcome). byte_of o.answer) (sym h);
+      run = ap (λ (o : Outcome). o.run) (sym h);
+      buffers = ap (λ (o : Outcome). o.buffers) (sym h);
     }
 
 -- ---- a list of calls
@@ -76,7 +78,7 @@ module _ (levels : Levels) (tables : List ℕ) where
       })
 
   -- one call, and the rest of the list
-  after : List Call → Result → Listed
+  after : List Call → Outcome → Listed
   after xs o = let l = list_of o.run levels tables xs o.buffers in record { bytes = byte_of o.answer ∷ l.bytes; run = l.run; buffers = l.buffers }
 
   one_more : (r : Run) (x : Call) (xs : List Call) (B : Buffers) → list_of r levels tables (x ∷ xs) B ≡ after xs (call_of r x levels tables B)

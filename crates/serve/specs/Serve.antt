@@ -1,5 +1,5 @@
 -- A list of calls on a fresh run, with demand 3 of document 01 as its contract.
-use Rattle.std.specs.Prelude.{ℕ, ◌<◌, ◌≡◌, ◌≢◌, Bool, false, not, ◌&&◌, List, [], ◌∷◌, map, ltb, eqb, length}
+use Rattle.std.specs.Prelude.{ℕ, ◌<◌, ◌≡◌, ◌≢◌, Bool, false, not, ◌&&◌, List, [], ◌∷◌, map, ltb, eqb, length, Result}
 use Rattle.start.specs.Coef.{Levels}
 use Rattle.start.specs.Buffers.{Buffers}
 use Rattle.calls.specs.Run.{Given, Place, place, count, area, coefs}
@@ -10,9 +10,10 @@ use Rattle.calls.specs.Calls.{State, first, test, all, all_six, lengths, start_r
 use Rattle.calls.specs.Demand.{SavedIn}
 use Rattle.demand.specs.Solver.{jobs}
 use Rattle.record.specs.declared.Run.{Run}
-use Rattle.record.specs.declared.Answer.{Answer}
+use Rattle.record.specs.declared.Accepted.{Accepted}
+use Rattle.refusal.specs.declared.Refusal.{Refusal}
 use Rattle.record.specs.Model.{places_of, given_of, placed, answer_of}
-use Rattle.run.specs.Public.{Result, state_of}
+use Rattle.run.specs.Public.{Outcome, state_of}
 use Rattle.numbered.specs.Numbered.{numbered}
 
 -- ---- a list of calls
@@ -34,7 +35,7 @@ byte_of Calls.blown = 255
 byte_of (Calls.blended tv tgv) = 0
 
 -- what a call gives, its answer as a number: the number, the record and the buffers afterwards
-pub record GaveNumber (x : Result) (k : ℕ) (r : Run) (B : Buffers) : Type 0 where
+pub record GaveNumber (x : Outcome) (k : ℕ) (r : Run) (B : Buffers) : Type 0 where
   pub number : k ≡ byte_of x.answer
   pub run : r ≡ x.run
   pub buffers : B ≡ x.buffers
@@ -88,7 +89,7 @@ pub record Served (G : Given) (xs : List Call) (r : Run) (ps : List Place) (byte
   pub in_interval : (c : ℕ) → c < count G → (place ps c).mark ≡ false → (k : ℕ) → k < coefs G.sheet c → SavedIn G c k (channel (area G) c B')
 
 -- Either refused, and "lent buffers and any record unchanged"; or done, and demand 3.
-pub record ServeIs (r : Run) (js cs bytes : List ℕ) (levels : Levels) (tables : List ℕ) (B : Buffers) (a : Answer) (r' : Run) (bytes' : List ℕ) (B' : Buffers) : Type 0 where
+pub record ServeIs (r : Run) (js cs bytes : List ℕ) (levels : Levels) (tables : List ℕ) (B : Buffers) (a : Result Accepted Refusal) (r' : Run) (bytes' : List ℕ) (B' : Buffers) : Type 0 where
   pub if_refused : serve_refusal_of r js cs bytes levels tables B ≢ 0
       → (answer_of a ≡ Calls.refused (serve_refusal_of r js cs bytes levels tables B)) × (r' ≡ r) × (bytes' ≡ bytes) × (B' ≡ B)
   pub if_done : serve_refusal_of r js cs bytes levels tables B ≡ 0

@@ -1,4 +1,3 @@
 -- Laws of the definitions.
-pub mod LimitLaws
 pub mod WalkLaws
 pub mod ReadLaws

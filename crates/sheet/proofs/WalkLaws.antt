@@ -1,9 +1,12 @@
 -- A walk over a text: what is left to read, read after what was read, gives the whole answer.
+use Rattle.std.proofs.Common.{Some, None, Ok, Err, Result}
+use Rattle.refusal.specs.declared.Refusal.{Refusal}
+use Rattle.refusal.specs.declared.Refusal.TheVariants as refusal
+use Rattle.refusal.specs.Refusal as table
 use Prim.Native.Nat.{ℕ, zero, suc, ◌+◌, ◌-◌, ◌^◌, ◌<◌, ◌≤◌}
 use mathlib.Core.Path.{◌≡◌, refl, sym, ap, ◌∙◌}
 use mathlib.Core.List.{List, [], ◌∷◌, ◌++◌, append-nil}
 use mathlib.Core.Bool.{Bool, true, false, not, cond, ◌&&◌, ◌||◌}
-use mathlib.Core.Option.{none, some}
 use native.Mathlib.Numerals.{add-one}
 use native.Mathlib.Nat.{zero-add}
 use native.Mathlib.Omega.{arith}
@@ -19,7 +22,7 @@ use Rattle.text.specs.declared.field.Field.TheVariants as field
 use Rattle.text.specs.declared.pieces.Line.{Line}
 use Rattle.text.specs.Pieces.{split, before, onto}
 use Rattle.text.specs.Cursor.{AtField, IsLine}
-use Rattle.text.specs.Fields.{field_of, fault_in, lows_in, highs_in, tables_in}
+use Rattle.text.specs.Fields.{field_of, lows_in, highs_in, tables_in}
 use Rattle.text.proofs.PieceLaws.{at_start, at_here, at_next, at-end, before_le, before_take, split_cut, split_whole, split_first, split_some, split_length}
 use Rattle.contents.specs.declared.Limits.{Limits}
 use Rattle.contents.specs.declared.Header.{Header}
@@ -31,10 +34,9 @@ use Rattle.lines.specs.declared.Setting.TheVariants as setting
 use Rattle.lines.specs.declared.Record.TheVariants as line
 use Rattle.lines.specs.declared.Record.{Record}
 use Rattle.progress.specs.declared.State.{State}
-use Rattle.progress.specs.declared.Taken.{Taken}
-use Rattle.progress.specs.declared.Taken.TheVariants as taken
-use Rattle.sheet.specs.declared.walk.Walked.TheVariants as walked
-use Rattle.lines.specs.Lines.{header_rules, rounding_rules, start_rules, hold_rules, mark_rules, mark_of, marks_in, channel_rules, block_rules, range_rules, end_rules, rules_of, field_count, first_fault, fields_fault, line_adds, holding, header_of, channel_of, choice_of, hold_of, record_of}
+use Rattle.sheet.specs.declared.walk.Walked.{Walked}
+use Rattle.sheet.specs.declared.walk.Refused as walk
+use Rattle.lines.specs.Lines.{header_rules, rounding_rules, start_rules, hold_rules, mark_rules, mark_of, marks_in, channel_rules, block_rules, range_rules, end_rules, rules_of, field_count, first_fault, fields_fault, line_adds, holding, header_of, channel_of, letter_in, hold_of, record_of}
 use Rattle.contents.specs.Sheets.{Lent, lent, Marked, marked, Held, nothing}
 use Rattle.contents.specs.Marks.{block_of, among}
 use Rattle.progress.specs.Progress.{blank, line_tag, most_blocks, exists, taken_if}
@@ -117,15 +119,6 @@ module _ (t : ℕ) (limits : Limits) (top : Header) (fs : List (List ℕ)) (e : 
   unfolding rules_of
   end_tables = rw e (tables_without end_rules fs refl)
 
--- a field that is not bad
-pub good_field : (f : Field) → ((k : ℕ) → f ≡ field.Bad k → ⊥) → fault_in f ≡ none
-good_field (field.Bad k) h = absurd (h k refl)
-good_field (field.Quantiser q) h = refl
-good_field (field.Level z) h = refl
-good_field (field.Low z) h = refl
-good_field (field.High z) h = refl
-good_field field.Good h = refl
-
 -- the next places of the lent buffers
 pub record Places : Type 0 where
   pub lows : ℕ
@@ -139,7 +132,7 @@ places n h m = record { lows = n; highs = h; tables = m }
 pub record Checking (rs : List Rule) (row : List ℕ) (count : ℕ) (into : Lent) (from : Places) (after : Lent) (next : Places) (i a : ℕ) (last : Field) : Type 0 where
   upto : i ≤ count
   field : i < count → AtField row i a
-  pub said : last ≡ said_before rs (split 9 row) i
+  pub said : Ok last ≡ said_before rs (split 9 row) i
   fault : first_fault (drop i rs) (drop i (split 9 row)) ≡ first_fault rs (split 9 row)
   lows : Storing into.lows from.lows after.lows next.lows (line_adds lows_in (drop i rs) (drop i (split 9 row))) (line_adds lows_in rs (split 9 row))
   highs : Storing into.highs from.highs after.highs next.highs (line_adds highs_in (drop i rs) (drop i (split 9 row))) (line_adds highs_in rs (split 9 row))
@@ -163,29 +156,29 @@ check_begin rs row count into from =
       listed_most = omega arith;
     }
 
-few_lows : (f : Field) → length (lows_in f) ≤ 1
-few_lows (field.Bad k) = omega arith
-few_lows (field.Quantiser q) = omega arith
-few_lows (field.Level z) = omega arith
-few_lows (field.Low z) = omega arith
-few_lows (field.High z) = omega arith
-few_lows field.Good = omega arith
+few_lows : (f : Result Field Refusal) → length (lows_in f) ≤ 1
+few_lows (Err k) = omega arith
+few_lows (Ok (field.Quantiser q)) = omega arith
+few_lows (Ok (field.Level z)) = omega arith
+few_lows (Ok (field.Low z)) = omega arith
+few_lows (Ok (field.High z)) = omega arith
+few_lows (Ok field.Good) = omega arith
 
-few_highs : (f : Field) → length (highs_in f) ≤ 1
-few_highs (field.Bad k) = omega arith
-few_highs (field.Quantiser q) = omega arith
-few_highs (field.Level z) = omega arith
-few_highs (field.Low z) = omega arith
-few_highs (field.High z) = omega arith
-few_highs field.Good = omega arith
+few_highs : (f : Result Field Refusal) → length (highs_in f) ≤ 1
+few_highs (Err k) = omega arith
+few_highs (Ok (field.Quantiser q)) = omega arith
+few_highs (Ok (field.Level z)) = omega arith
+few_highs (Ok (field.Low z)) = omega arith
+few_highs (Ok (field.High z)) = omega arith
+few_highs (Ok field.Good) = omega arith
 
-few_tables : (f : Field) → length (tables_in f) ≤ 1
-few_tables (field.Bad k) = omega arith
-few_tables (field.Quantiser q) = omega arith
-few_tables (field.Level z) = omega arith
-few_tables (field.Low z) = omega arith
-few_tables (field.High z) = omega arith
-few_tables field.Good = omega arith
+few_tables : (f : Result Field Refusal) → length (tables_in f) ≤ 1
+few_tables (Err k) = omega arith
+few_tables (Ok (field.Quantiser q)) = omega arith
+few_tables (Ok (field.Level z)) = omega arith
+few_tables (Ok (field.Low z)) = omega arith
+few_tables (Ok (field.High z)) = omega arith
+few_tables (Ok field.Good) = omega arith
 
 module _ {rs : List Rule} {row : List ℕ} {count : ℕ} {into : Lent} {from : Places} {after : Lent} {next : Places} {i a : ℕ} {last : Field}
     (s : Checking rs row count into from after next i a last) where
@@ -207,7 +200,7 @@ module _ {rs : List Rule} {row : List ℕ} {count : ℕ} {into : Lent} {from : P
       check_in = omega (arith, at-end (s.field h))
 
       module _ (cr : length rs ≡ count) (cf : length (split 9 row) ≡ count)
-          {r : Rule} (q : r ≡ get_or rs i (rule.Tag 0)) {f : Field} (d : f ≡ field_of r (take (e - a) (drop a row))) where
+          {r : Rule} (q : r ≡ get_or rs i (rule.Tag 0)) {f : Result Field Refusal} (d : f ≡ field_of r (take (e - a) (drop a row))) where
         here : f ≡ field_of (get_or rs i (rule.Tag 0)) (get_or (split 9 row) i [])
         here =
             let b = length (before 9 (drop a row)) in
@@ -220,30 +213,30 @@ module _ {rs : List Rule} {row : List ℕ} {count : ℕ} {into : Lent} {from : P
         fs_next : drop i (split 9 row) ≡ get_or (split 9 row) i [] ∷ drop (i + 1) (split 9 row)
         fs_next = rw (add-one i) (drop-cons (split 9 row) i [] (omega arith))
 
-        pub check_bad : (k : ℕ) → f ≡ field.Bad k → first_fault rs (split 9 row) ≡ some k
+        pub check_bad : (k : Refusal) → f ≡ Err k → first_fault rs (split 9 row) ≡ Some (table.number_of k)
         check_bad k z = sym s.fault ∙ rw (rs_next, fs_next, sym here, z)
 
-        pub check_step : fault_in f ≡ none → {l' : List ℤ} {n' : ℕ} → Stored after.lows l' next.lows n' (lows_in f) → {h' : List ℤ} {k' : ℕ} → Stored after.highs h' next.highs k' (highs_in f)
-            → {t' : List ℕ} {m' : ℕ} → Stored after.tables t' next.tables m' (tables_in f) → Checking rs row count into from (lent l' h' t') (places n' k' m') (i + 1) (e + 1) f
-        check_step z u w v =
+        pub check_step : (x : Field) → f ≡ Ok x → {l' : List ℤ} {n' : ℕ} → Stored after.lows l' next.lows n' (lows_in (Ok x)) → {h' : List ℤ} {k' : ℕ} → Stored after.highs h' next.highs k' (highs_in (Ok x))
+            → {t' : List ℕ} {m' : ℕ} → Stored after.tables t' next.tables m' (tables_in (Ok x)) → Checking rs row count into from (lent l' h' t') (places n' k' m') (i + 1) (e + 1) x
+        check_step x z u w v =
             record {
               upto = omega arith;
               field = λ g. rw p (at_next (s.field h) (omega arith));
-              said = rw (add-one i) here;
+              said = rw (add-one i) (sym z ∙ here);
               fault = sym (rw (rs_next, fs_next, sym here, z)) ∙ s.fault;
-              lows = storing_more (lows_in f) (line_adds lows_in (drop (i + 1) rs) (drop (i + 1) (split 9 row))) (rw (rs_next, fs_next, sym here) at s.lows) u;
-              highs = storing_more (highs_in f) (line_adds highs_in (drop (i + 1) rs) (drop (i + 1) (split 9 row))) (rw (rs_next, fs_next, sym here) at s.highs) w;
-              tables = storing_more (tables_in f) (line_adds tables_in (drop (i + 1) rs) (drop (i + 1) (split 9 row))) (rw (rs_next, fs_next, sym here) at s.tables) v;
-              low_most = omega (arith, s.low_most, u.next, few_lows f);
-              high_most = omega (arith, s.high_most, w.next, few_highs f);
-              listed_most = omega (arith, s.listed_most, v.next, few_tables f);
+              lows = storing_more (lows_in (Ok x)) (line_adds lows_in (drop (i + 1) rs) (drop (i + 1) (split 9 row))) (rw (rs_next, fs_next, sym here, z) at s.lows) u;
+              highs = storing_more (highs_in (Ok x)) (line_adds highs_in (drop (i + 1) rs) (drop (i + 1) (split 9 row))) (rw (rs_next, fs_next, sym here, z) at s.highs) w;
+              tables = storing_more (tables_in (Ok x)) (line_adds tables_in (drop (i + 1) rs) (drop (i + 1) (split 9 row))) (rw (rs_next, fs_next, sym here, z) at s.tables) v;
+              low_most = omega (arith, s.low_most, u.next, few_lows (Ok x));
+              high_most = omega (arith, s.high_most, w.next, few_highs (Ok x));
+              listed_most = omega (arith, s.listed_most, v.next, few_tables (Ok x));
             }
 
   module _ (cr : length rs ≡ count) (h : count ≤ i) where
     none_left : drop i rs ≡ []
     none_left = drop_of_length-le rs {i = i} (omega arith)
 
-    pub check_good : first_fault rs (split 9 row) ≡ none
+    pub check_good : first_fault rs (split 9 row) ≡ None
     check_good = sym (rw none_left at s.fault)
 
     check_low : Stored into.lows after.lows from.lows next.lows (line_adds lows_in rs (split 9 row))
@@ -277,11 +270,11 @@ module _ (limits : Limits) (s : State) (H : Held) (k : ℕ) (p : List ℕ) (rest
       same : length (split 9 p) ≡ length (rules_of tag limits s.sheet.header (split 9 p))
       same = n ∙ sym (rules_length tag limits s.sheet.header (split 9 p))
 
-      pub line-fault : (m : ℕ) → first_fault (rules_of tag limits s.sheet.header (split 9 p)) (split 9 p) ≡ some m → T ≡ Refused m k
+      pub line-fault : (m : ℕ) → first_fault (rules_of tag limits s.sheet.header (split 9 p)) (split 9 p) ≡ Some m → T ≡ Refused m k
       unfolding line_fault fields_fault
       line-fault m f = sym R ∙ rw (sym g, le-ltb 1024 (length p) h, e, eq-eqb (length (split 9 p)) (length (rules_of tag limits s.sheet.header (split 9 p))) same, f)
 
-      module _ (f : first_fault (rules_of tag limits s.sheet.header (split 9 p)) (split 9 p) ≡ none) where
+      module _ (f : first_fault (rules_of tag limits s.sheet.header (split 9 p)) (split 9 p) ≡ None) where
         good : cond (eqb tag 69) (cond (nothing_left rest) (contents s.sheet H) (Refused 7 (k + 1)))
             (on_taken (taken_of s H.marks (record_of tag (split 9 p))) k
             (λ t. read_from limits t (holding H s.sheet tag (rules_of tag limits s.sheet.header (split 9 p)) (split 9 p)) (k + 1) rest)) ≡ T
@@ -295,10 +288,10 @@ module _ (limits : Limits) (s : State) (H : Held) (k : ℕ) (p : List ℕ) (rest
         line_after t o = sym good ∙ rw (eq-eqb tag 69 t, o)
 
         module _ (t : tag ≡ 69 → ⊥) where
-          pub line_bad : (m : ℕ) → taken_of s H.marks (record_of tag (split 9 p)) ≡ taken.Bad m → T ≡ Refused m k
+          pub line_bad : (m : Refusal) → taken_of s H.marks (record_of tag (split 9 p)) ≡ Err m → T ≡ Refused (table.number_of m) k
           line_bad m o = sym good ∙ rw (ne_eqb tag 69 t, o)
 
-          pub line_next : (u : State) → taken_of s H.marks (record_of tag (split 9 p)) ≡ taken.Good u
+          pub line_next : (u : State) → taken_of s H.marks (record_of tag (split 9 p)) ≡ Ok u
               → read_from limits u (holding H s.sheet tag (rules_of tag limits s.sheet.header (split 9 p)) (split 9 p)) (k + 1) rest ≡ T
           line_next u o = sym (rw (ne_eqb tag 69 t, o)) ∙ good
 
@@ -393,7 +386,7 @@ module _ (ms : List Marked) (bits : List ℕ) (m : Bits ms bits) where
   taken_alike s line.Block = refl
   taken_alike s (line.Mark k) = rw (twice_is s.sheet k) (two (exists s.sheet k))
     where
-      two : (x : Bool) → cond (x && not (cond x (among (block_of s.sheet k) ms) false)) (taken.Good s) (taken.Bad 18) ≡ cond (x && not (among (block_of s.sheet k) ms)) (taken.Good s) (taken.Bad 18)
+      two : (x : Bool) → cond (x && not (cond x (among (block_of s.sheet k) ms) false)) (Ok s) (Err refusal.Mark) ≡ cond (x && not (among (block_of s.sheet k) ms)) (Ok s) (Err refusal.Mark)
       two true = refl
       two false = refl
 
@@ -416,7 +409,7 @@ module _ (ms : List Marked) (bits : List ℕ) (m : Bits ms bits) where
           let q = eqb-true tag 78 e in
           rw (q, h q) (more_bits (marked (mark_of fs) (block_of s (mark_of fs))) (exists_within s (mark_of fs) (h q)))
       two false e =
-          rw (e, append-nil ms, unmarked s (header_of fs) (channel_of fs) (setting.Rounding (choice_of 116 (get_or fs 1 []))) (setting.Start (choice_of 109 (get_or fs 1 []))) (setting.Hold (hold_of fs)) (eqb tag 83) (eqb tag 67) (eqb tag 70) (eqb tag 65) (eqb tag 72)) m
+          rw (e, append-nil ms, unmarked s (header_of fs) (channel_of fs) (setting.Rounding (letter_in 116 (get_or fs 1 []))) (setting.Start (letter_in 109 (get_or fs 1 []))) (setting.Hold (hold_of fs)) (eqb tag 83) (eqb tag 67) (eqb tag 70) (eqb tag 65) (eqb tag 72)) m
 
 marked_length : (s : Sheet) (d : Record) (bits : List ℕ) → length (marked_in s d bits) ≡ length bits
 marked_length s (line.Header h) bits = refl
@@ -430,15 +423,15 @@ marked_length s (line.Mark m) bits = two (exists s m)
     two false = refl
 
 -- a mark that was taken has its block
-taken_exists : (s : State) (t : Bool) (m : Mark) (u : State) → taken_if s t (line.Mark m) ≡ taken.Good u → exists s.sheet m ≡ true
+taken_exists : (s : State) (t : Bool) (m : Mark) (u : State) → taken_if s t (line.Mark m) ≡ Ok u → exists s.sheet m ≡ true
 unfolding taken_if
 taken_exists s t m u e = two (exists s.sheet m) e
   where
-    two : (x : Bool) → cond (x && not t) (taken.Good s) (taken.Bad 18) ≡ taken.Good u → x ≡ true
+    two : (x : Bool) → cond (x && not t) (Ok s) (Err refusal.Mark) ≡ Ok u → x ≡ true
     two true o = refl
     two false o = let z : ◌≡◌ {A = ℕ} 0 1 = cc in let y : ⊥ = omega arith in absurd y
 
-marked_exists : (s : State) (t : Bool) (tag : ℕ) (fs : List (List ℕ)) (u : State) → taken_if s t (record_of tag fs) ≡ taken.Good u → tag ≡ 78 → exists s.sheet (mark_of fs) ≡ true
+marked_exists : (s : State) (t : Bool) (tag : ℕ) (fs : List (List ℕ)) (u : State) → taken_if s t (record_of tag fs) ≡ Ok u → tag ≡ 78 → exists s.sheet (mark_of fs) ≡ true
 unfolding record_of
 marked_exists s t tag fs u e q = taken_exists s t (mark_of fs) u (rw q at e)
 
@@ -476,12 +469,16 @@ read_begin limits text into bits s h e q =
       rest = rw (e, h);
     }
 
-refused : (limits : Limits) (text : List ℕ) (into after : Lent) (bits : List ℕ) (m k : ℕ) → read_text limits text ≡ Refused m k → Walks limits text into after bits (walked.Refused m k)
+-- the answer of a refusal at a line
+abbrev pub at_line : Refusal → ℕ → Result Walked walk.Refused
+at_line m k = Err (record { refusal = m; line = k })
+
+refused : (limits : Limits) (text : List ℕ) (into after : Lent) (bits : List ℕ) (m : Refusal) (k : ℕ) → read_text limits text ≡ Refused (table.number_of m) k → Walks limits text into after bits (at_line m k)
 refused limits text into after bits m k e = record { answer = rw e; stored = rw e tt; mapped = rw e tt }
 
-pub walk_limit : (limits : Limits) (text : List ℕ) (into : Lent) (bits : List ℕ) → allowed limits ≡ false → Walks limits text into into bits (walked.Refused 2 0)
+pub walk_limit : (limits : Limits) (text : List ℕ) (into : Lent) (bits : List ℕ) → allowed limits ≡ false → Walks limits text into into bits (at_line refusal.Size 0)
 unfolding read_text
-walk_limit limits text into bits h = refused limits text into into bits 2 0 (rw h)
+walk_limit limits text into bits h = refused limits text into into bits refusal.Size 0 (rw h)
 
 -- an ended line of at most 1,024 bytes from at to e, where a tag is due
 pub record OnLine (text : List ℕ) (s : State) (at e tag count : ℕ) : Type 0 where
@@ -520,15 +517,15 @@ module _ {limits : Limits} {text : List ℕ} {into after : Lent} {bits₀ bits :
         let w : (at + b) - at ≡ b = omega arith in
         sym (rw (q.end, w) (before_take 10 (drop at text)))
 
-    pub walk_long : 1024 < g.end - at → Walks limits text into after bits (walked.Refused 1 k)
+    pub walk_long : 1024 < g.end - at → Walks limits text into after bits (at_line refusal.Form k)
     walk_long h =
-        refused limits text into after bits 1 k
+        refused limits text into after bits refusal.Form k
         (line_long limits s r.so_far k (before 10 (drop at text)) (drop 1 (split 10 (drop at text))) (read_text limits text)
         (rw (split_head 10 (drop at text)) at r.rest) (omega (arith, q.end)))
 
-    pub walk_cut : g.end - at ≤ 1024 → g.end ≡ length text → Walks limits text into after bits (walked.Refused 7 k)
+    pub walk_cut : g.end - at ≤ 1024 → g.end ≡ length text → Walks limits text into after bits (at_line refusal.Cut k)
     walk_cut h z =
-        refused limits text into after bits 7 k
+        refused limits text into after bits refusal.Cut k
         (line_last limits s r.so_far k (drop at text) [] (read_text limits text)
         (rw (split_whole 10 (drop at text) (omega (arith, q.end, length-drop at text))) at r.rest) (omega (arith, length-drop at text)) refl)
 
@@ -554,9 +551,9 @@ module _ {limits : Limits} {text : List ℕ} {into after : Lent} {bits₀ bits :
     this_line : read_from limits s r.so_far k (take (e - at) (drop at text) ∷ split 10 (drop (e + 1) text)) ≡ read_text limits text
     this_line = rw o.cut at r.rest
 
-    pub walk_count : {g : Line} → IsLine text at g → (g.fields ≡ count → ⊥) → Walks limits text into after bits (walked.Refused 1 k)
+    pub walk_count : {g : Line} → IsLine text at g → (g.fields ≡ count → ⊥) → Walks limits text into after bits (at_line refusal.Form k)
     walk_count q z =
-        refused limits text into after bits 1 k
+        refused limits text into after bits refusal.Form k
         (line_count limits s r.so_far k (take (e - at) (drop at text)) (split 10 (drop (e + 1) text)) (read_text limits text) this_line
         tag o.due o.short (not_last 10 (drop (e + 1) text)) (λ c. z (q.fields ∙ ap (λ (x : List ℕ). length (split 9 x)) o.first ∙ c ∙ sym o.counted)))
 
@@ -577,16 +574,16 @@ module _ {limits : Limits} {text : List ℕ} {into after : Lent} {bits₀ bits :
       pub table_room : length text < 2 ^ 64 → {i m' : ℕ} → i < count → m' ≤ next.tables + i → m' + 1 < 2 ^ 64
       table_room z h q = omega (arith, r.space, split_length 9 (take (e - at) (drop at text)), o.size, o.ordered, o.ended)
 
-      pub walk_fault : {v : ℕ} {stored : Lent} → first_fault (rules_of tag limits s.sheet.header (split 9 (take (e - at) (drop at text)))) (split 9 (take (e - at) (drop at text))) ≡ some v
-          → Walks limits text into stored bits (walked.Refused v k)
+      pub walk_fault : {v : Refusal} {stored : Lent} → first_fault (rules_of tag limits s.sheet.header (split 9 (take (e - at) (drop at text)))) (split 9 (take (e - at) (drop at text))) ≡ Some (table.number_of v)
+          → Walks limits text into stored bits (at_line v k)
       walk_fault {v} {stored} f =
           refused limits text into stored bits v k
           (line-fault limits s r.so_far k (take (e - at) (drop at text)) (split 10 (drop (e + 1) text)) (read_text limits text) this_line
-          tag o.due o.short (not_last 10 (drop (e + 1) text)) (y ∙ o.counted) v f)
+          tag o.due o.short (not_last 10 (drop (e + 1) text)) (y ∙ o.counted) (table.number_of v) f)
 
       module _ {stored : Lent} {filled : Places} {i a : ℕ} {last : Field}
           (c : Checking (rules_of tag limits s.sheet.header (split 9 (take (e - at) (drop at text)))) (take (e - at) (drop at text)) count after next stored filled i a last) (h : count ≤ i) where
-        pub walk_end : tag ≡ 69 → e + 1 ≡ length text → Walks limits text into stored bits (walked.Sheet s.sheet filled.lows filled.highs filled.tables)
+        pub walk_end : tag ≡ 69 → e + 1 ≡ length text → Walks limits text into stored bits (Ok (record { sheet = s.sheet; lows = filled.lows; highs = filled.highs; tables = filled.tables }))
         walk_end x z =
             let w : read_text limits text ≡ contents s.sheet r.so_far =
             line_end limits s r.so_far k (take (e - at) (drop at text)) (split 10 (drop (e + 1) text)) (read_text limits text) this_line
@@ -597,27 +594,27 @@ module _ {limits : Limits} {text : List ℕ} {into after : Lent} {bits₀ bits :
             let v = stored_end r.tables (rw (end_tables tag limits s.sheet.header (split 9 (take (e - at) (drop at text))) x) at (check_listed c rules_count h)) in
             record { answer = rw (w, ← zero-add (length r.so_far.lent.lows), ← u.next, ← zero-add (length r.so_far.lent.highs), ← q.next, ← zero-add (length r.so_far.lent.tables), ← v.next); stored = rw w (u.last, q.last, v.last); mapped = rw w r.mapped }
 
-        pub walk_after : tag ≡ 69 → (e + 1 ≡ length text → ⊥) → Walks limits text into stored bits (walked.Refused 7 (k + 1))
+        pub walk_after : tag ≡ 69 → (e + 1 ≡ length text → ⊥) → Walks limits text into stored bits (at_line refusal.Cut (k + 1))
         walk_after x z =
-            refused limits text into stored bits 7 (k + 1)
+            refused limits text into stored bits refusal.Cut (k + 1)
             (line_after limits s r.so_far k (take (e - at) (drop at text)) (split 10 (drop (e + 1) text)) (read_text limits text) this_line
             tag o.due o.short (not_last 10 (drop (e + 1) text)) (y ∙ o.counted) (check_good c rules_count h) x
             (some_after 10 (drop (e + 1) text) (omega (arith, length-drop (e + 1) text, o.ended))))
 
-        module _ (x : tag ≡ 69 → ⊥) {d : Record} {t : Bool} {bits' : List ℕ} {w : Taken} (u : d ≡ record_of tag (split 9 (take (e - at) (drop at text))))
+        module _ (x : tag ≡ 69 → ⊥) {d : Record} {t : Bool} {bits' : List ℕ} {w : Result State Refusal} (u : d ≡ record_of tag (split 9 (take (e - at) (drop at text))))
             (m : (t ≡ twice_in s.sheet d bits) × (bits' ≡ marked_in s.sheet d bits)) (v : w ≡ taken_if s t d) where
           taken_is : taken_of s r.so_far.marks (record_of tag (split 9 (take (e - at) (drop at text)))) ≡ w
           taken_is =
               ap (taken_of s r.so_far.marks) (sym u) ∙ sym (taken_alike r.so_far.marks bits r.mapped s d) ∙ ap (λ (b : Bool). taken_if s b d) (sym m.0) ∙ sym v
 
-          pub walk_bad : {p : ℕ} → w ≡ taken.Bad p → Walks limits text into stored bits' (walked.Refused p k)
+          pub walk_bad : {p : Refusal} → w ≡ Err p → Walks limits text into stored bits' (at_line p k)
           walk_bad {p} z =
               refused limits text into stored bits' p k
               (line_bad limits s r.so_far k (take (e - at) (drop at text)) (split 10 (drop (e + 1) text)) (read_text limits text) this_line
               tag o.due o.short (not_last 10 (drop (e + 1) text)) (y ∙ o.counted) (check_good c rules_count h) x p
               (taken_is ∙ z))
 
-          pub walk_next : {s' : State} → w ≡ taken.Good s' → Reading limits text into stored bits₀ bits' s' (e + 1) (k + 1) filled
+          pub walk_next : {s' : State} → w ≡ Ok s' → Reading limits text into stored bits₀ bits' s' (e + 1) (k + 1) filled
           walk_next {s'} z =
               let row = take (e - at) (drop at text) in
               record {

@@ -1,29 +1,15 @@
 -- What measuring and reading promise.
-use Rattle.std.specs.Prelude.{ℕ, ◌≡◌, List, Bool, cond, ◌&&◌, length, eqb}
+use Rattle.std.specs.Prelude.{ℕ, ◌≡◌, List, Bool, cond, ◌&&◌, length, eqb, Result}
 use Rattle.contents.specs.declared.Limits.{Limits}
 use Rattle.contents.specs.declared.Sheet.{Sheet}
-use Rattle.sheet.specs.declared.Measured.{Measured}
-use Rattle.sheet.specs.declared.Measured.TheVariants as measured
-use Rattle.sheet.specs.declared.Answer.{Answer}
-use Rattle.sheet.specs.declared.Answer.TheVariants as answer
+use Rattle.sheet.specs.declared.Lengths.{Lengths}
+use Rattle.sheet.specs.declared.walk.Refused as walk
 use Rattle.contents.specs.declared.Reader.{Reader}
 use Rattle.contents.specs.Sheets.{Lent}
 use Rattle.contents.specs.Marks.{seen_by}
+use Rattle.sheet.specs.Walk.{said}
 use Rattle.sheet.specs.Reading.{Outcome, Contents, read_text}
 use Rattle.sheet.specs.Reading.Outcome.{Gives, Refused}
-
-pub record Lengths : Type 0 where
-  pub levels : ℕ
-  pub tables : ℕ
-
--- Each case of the two answers: the paper's values, or its number and line
-abbrev pub measured_says : Measured → Outcome Lengths
-measured_says (measured.Lengths n m) = Gives (record { levels = n; tables = m })
-measured_says (measured.Refused k line) = Refused k line
-
-abbrev pub answer_says : Answer → Outcome Sheet
-answer_says (answer.Sheet s) = Gives s
-answer_says (answer.Refused k line) = Refused k line
 
 -- "a measuring call gives both lengths for a legal text, and for any other the same refusal as reading"
 abbrev pub lengths_of : Outcome Contents → Outcome Lengths
@@ -56,6 +42,6 @@ abbrev pub lent_after : Reader → Outcome Contents → Lent → Lent
 lent_after who (Gives c) into = seen_by who c.held
 lent_after who (Refused k line) into = into
 
-pub record Reads (limits : Limits) (who : Reader) (text : List ℕ) (into after : Lent) (r : Answer) : Type 0 where
-  pub answer : answer_says r ≡ sheet_in (reading limits text into)
+pub record Reads (limits : Limits) (who : Reader) (text : List ℕ) (into after : Lent) (r : Result Sheet walk.Refused) : Type 0 where
+  pub answer : said r ≡ sheet_in (reading limits text into)
   pub lent : after ≡ lent_after who (reading limits text into) into

@@ -1,6 +1,7 @@
 -- What a whole text means: the sheet with its levels and tables, or the first refusal with its line.
-use Rattle.std.specs.Prelude.{ℕ, ◌+◌, List, [], ◌∷◌, Bool, true, false, cond, ◌&&◌, length, eqb, leb, ltb}
-use Rattle.std.proofs.Math.Option.{Option, none, some}
+use Rattle.std.specs.Prelude.{ℕ, ◌+◌, List, [], ◌∷◌, Bool, true, false, cond, ◌&&◌, length, eqb, leb, ltb, Some, None, Ok, Err, Option, Result}
+use Rattle.refusal.specs.declared.Refusal.{Refusal}
+use Rattle.refusal.specs.Refusal as table
 use Rattle.text.specs.declared.field.Rule.{Rule}
 use Rattle.text.specs.Pieces.{split}
 use Rattle.text.specs.Fields.{is_side}
@@ -9,8 +10,6 @@ use Rattle.contents.specs.declared.Sheet.{Sheet}
 use Rattle.lines.specs.declared.Record.{Record}
 use Rattle.lines.specs.declared.Record.TheVariants as line
 use Rattle.progress.specs.declared.State.{State}
-use Rattle.progress.specs.declared.Taken.{Taken}
-use Rattle.progress.specs.declared.Taken.TheVariants as taken
 use Rattle.lines.specs.Lines.{rules_of, fields_fault, holding, record_of}
 use Rattle.contents.specs.Marks.{block_of, among}
 use Rattle.contents.specs.Sheets.{Marked, Held, nothing}
@@ -37,7 +36,7 @@ is_twice s ms (line.Setting x) = false
 is_twice s ms line.Block = false
 is_twice s ms (line.Mark m) = among (block_of s m) ms
 
-abbrev pub taken_of : State → List Marked → Record → Taken
+abbrev pub taken_of : State → List Marked → Record → Result State Refusal
 taken_of s ms rec = taken_if s (is_twice s.sheet ms rec) rec
 
 -- The line p is the last piece: unended, or nothing at all
@@ -50,7 +49,7 @@ is_last (p ∷ ps) = false
 -- `E` is missing": both are the last piece.
 unfoldable pub line_fault : List Rule → List ℕ → List (List ℕ) → Option ℕ
 line_fault rs p rest =
-    cond (ltb 1024 (length p)) (some 1) (cond (is_last rest) (some 7) (fields_fault rs (split 9 p)))
+    cond (ltb 1024 (length p)) (Some 1) (cond (is_last rest) (Some 7) (fields_fault rs (split 9 p)))
 
 -- "A byte after `E` is 7", at "the one after `E`"
 abbrev pub nothing_left : List (List ℕ) → Bool
@@ -61,12 +60,12 @@ nothing_left ((x ∷ p) ∷ qs) = false
 
 -- "Reading stops at the first bad field of the first bad line"
 abbrev pub on_fault : {A : Type 0} → Option ℕ → ℕ → Outcome A → Outcome A
-on_fault none at more = more
-on_fault (some k) at more = Refused k at
+on_fault None at more = more
+on_fault (Some k) at more = Refused k at
 
-abbrev pub on_taken : {A : Type 0} → Taken → ℕ → (State → Outcome A) → Outcome A
-on_taken (taken.Good s) at more = more s
-on_taken (taken.Bad k) at more = Refused k at
+abbrev pub on_taken : {A : Type 0} → Result State Refusal → ℕ → (State → Outcome A) → Outcome A
+on_taken (Ok s) at more = more s
+on_taken (Err k) at more = Refused (table.number_of k) at
 
 -- The text from line `at` on, as its pieces, after what was read so far. Levels and quantisers stand in the order of the
 -- text: "blocks and values row by row, not zigzag".

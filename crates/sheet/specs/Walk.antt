@@ -1,9 +1,10 @@
 -- What the walk over a text promises its two callers.
-use Rattle.std.specs.Prelude.{ℕ, ◌≡◌, List, cond, length, get_or}
+use Rattle.std.specs.Prelude.{ℕ, ◌≡◌, List, cond, length, get_or, Ok, Err, Result}
 use Rattle.std.proofs.lemmas.List.Edits.{sets}
+use Rattle.refusal.specs.Refusal as table
 use Rattle.contents.specs.declared.Limits.{Limits}
 use Rattle.sheet.specs.declared.walk.Walked.{Walked}
-use Rattle.sheet.specs.declared.walk.Walked.TheVariants as walked
+use Rattle.sheet.specs.declared.walk.Refused as walk
 use Rattle.contents.specs.Sheets.{Lent, Marked}
 use Rattle.contents.specs.Marks.{among}
 use Rattle.progress.specs.Progress.{most_blocks}
@@ -15,10 +16,16 @@ pub record Bits (ms : List Marked) (bits : List ℕ) : Type 0 where
   pub long : length bits ≡ most_blocks
   pub bit : (b : ℕ) → get_or bits b 0 ≡ cond (among b ms) 1 0
 
+-- What an answer says: its value, or the number of its refusal in the paper's table and its line
+abbrev pub said : {A : Type 0} → Result A walk.Refused → Outcome A
+said (Ok x) = Gives x
+said (Err r) = Refused (table.number_of r.refusal) r.line
+
 -- The answer of a walk
-abbrev pub walked_of : Outcome Contents → Walked
-walked_of (Gives c) = walked.Sheet c.sheet (length c.held.lent.lows) (length c.held.lent.highs) (length c.held.lent.tables)
-walked_of (Refused k line) = walked.Refused k line
+abbrev pub walked_of : Outcome Contents → Outcome Walked
+walked_of (Gives c) =
+    Gives (record { sheet = c.sheet; lows = length c.held.lent.lows; highs = length c.held.lent.highs; tables = length c.held.lent.tables })
+walked_of (Refused k line) = Refused k line
 
 -- A legal text's levels and quantisers were stored, as far as there is room
 abbrev pub Stores : Outcome Contents → Lent → Lent → Type 0
@@ -31,7 +38,7 @@ abbrev pub Maps : Outcome Contents → List ℕ → Type 0
 Maps (Gives c) bits = Bits c.held.marks bits
 Maps (Refused k line) bits = Unit {0}
 
-pub record Walks (limits : Limits) (text : List ℕ) (into after : Lent) (bits : List ℕ) (r : Walked) : Type 0 where
-  pub answer : r ≡ walked_of (read_text limits text)
+pub record Walks (limits : Limits) (text : List ℕ) (into after : Lent) (bits : List ℕ) (r : Result Walked walk.Refused) : Type 0 where
+  pub answer : said r ≡ walked_of (read_text limits text)
   pub stored : Stores (read_text limits text) into after
   pub mapped : Maps (read_text limits text) bits

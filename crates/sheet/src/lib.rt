@@ -6,29 +6,23 @@ pub mod walk;
 ghost use Rattle.std.specs.Prelude.{◌≡◌};
 ghost use Rattle.contents.specs.Sheets.{lent};
 ghost use Rattle.sheet.specs.Reading.{read_text};
-ghost use Rattle.sheet.specs.Calls.{measuring, measured_says, Reads};
-ghost use Rattle.sheet.specs.Walk.{walked_of};
+ghost use Rattle.sheet.specs.Calls.{measuring, Reads};
+ghost use Rattle.sheet.specs.Walk.{said, walked_of};
 
-use crate::walk::Walked;
+pub use crate::walk::{Refused, Walked};
 use contents::{Limits, Reader, Sheet};
+use refusal::Refusal;
 
-// The answer of measuring: the length of the two levels buffers, lows and highs, and that of the tables, or a refusal.
-#[derive(Clone, Copy)]
-pub enum Measured {
-    Lengths { levels: usize, tables: usize },
-    Refused { number: u8, line: usize },
-}
-
-// The answer of reading: the sheet, or a refusal.
-#[derive(Clone, Copy)]
-pub enum Answer {
-    Sheet(Sheet),
-    Refused { number: u8, line: usize },
+// How long the buffers are that reading needs: each of the two levels buffers, lows and highs, and the tables.
+#[derive(Clone, Copy, Debug, PartialEq, Eq)]
+pub struct Lengths {
+    pub levels: usize,
+    pub tables: usize,
 }
 
 // A walk that keeps no level and no quantiser.
-fn count(text: &[u8], limits: Limits) -> Walked
-    ensures { result ≡ walked_of (read_text limits text.now) }
+fn count(text: &[u8], limits: Limits) -> Result<Walked, Refused>
+    ensures { said result ≡ walked_of (read_text limits text.now) }
 {
     let mut lows = [0i16; 1];
     let mut highs = [0i16; 1];
@@ -40,21 +34,14 @@ fn count(text: &[u8], limits: Limits) -> Walked
 // The lengths that reading needs, or the refusal that it gives. A side or an iteration count above the limit is refused, and so
 // are limits that no caller may set.
 // Ruled out: lengths for a text with a byte after E; a refusal at a later line than the first bad one.
-pub fn measure(text: &[u8], limits: Limits) -> Measured
-    ensures { measured_says result ≡ measuring limits text.now }
+pub fn measure(text: &[u8], limits: Limits) -> Result<Lengths, Refused>
+    ensures { said result ≡ measuring limits text.now }
 {
-    match count(text, limits) {
-        Walked::Sheet {
-            sheet: _,
-            lows: n,
-            highs: _,
-            tables: m,
-        } => Measured::Lengths {
-            levels: n,
-            tables: m,
-        },
-        Walked::Refused { number, line } => Measured::Refused { number, line },
-    }
+    let counted = count(text, limits)?;
+    Ok(Lengths {
+        levels: counted.lows,
+        tables: counted.tables,
+    })
 }
 
 // Reads a sheet into the lent buffers: of each place the lowest and the highest level, and the tables. They are written only
@@ -68,41 +55,22 @@ pub fn read(
     lows: &mut [i16],
     highs: &mut [i16],
     tables: &mut [u16],
-) -> Answer
+) -> Result<Sheet, Refused>
     ensures { Reads limits who text.now (lent lows.old highs.old tables.old) (lent lows.new highs.new tables.new) result }
 {
-    let counted = count(text, limits);
-    match counted {
-        Walked::Refused { number, line } => Answer::Refused { number, line },
-        Walked::Sheet {
-            sheet: _,
-            lows: n,
-            highs: h,
-            tables: m,
-        } => {
-            if n != lows.len() {
-                return Answer::Refused { number: 8, line: 0 };
-            }
-            if h != highs.len() {
-                return Answer::Refused { number: 8, line: 0 };
-            }
-            if m != tables.len() {
-                return Answer::Refused { number: 8, line: 0 };
-            }
-            let mut bits = [0u8; 12288];
-            match walk::walk(text, limits, lows, highs, tables, &mut bits) {
-                Walked::Sheet {
-                    sheet,
-                    lows: _,
-                    highs: _,
-                    tables: _,
-                } => {
-                    hiding::show(who, &bits, lows);
-                    hiding::show(who, &bits, highs);
-                    Answer::Sheet(sheet)
-                }
-                Walked::Refused { number, line } => Answer::Refused { number, line },
-            }
-        }
+    let counted = count(text, limits)?;
+    if counted.lows != lows.len()
+        || counted.highs != highs.len()
+        || counted.tables != tables.len()
+    {
+        return Err(Refused {
+            refusal: Refusal::Length,
+            line: 0,
+        });
     }
+    let mut bits = [0u8; 12288];
+    let walked = walk::walk(text, limits, lows, highs, tables, &mut bits)?;
+    hiding::show(who, &bits, lows);
+    hiding::show(who, &bits, highs);
+    Ok(walked.sheet)
 }

@@ -1,10 +1,9 @@
 -- What `never_blows` tells of the record that C's record says, as a number.
 use mathlib.Core.Path.{◌≡◌, refl, sym, ap, ◌∙◌, subst}
 use mathlib.Core.Bool.{Bool, true, false, cond, ◌&&◌}
-use Prim.Native.Nat.{ℕ, ◌≤◌, ◌<◌}
+use Prim.Native.Nat.{ℕ}
 use native.Mathlib.Omega.{arith}
 use lib.Dec.{leb}
-use borrow.Author.Tests.{le-leb, lt-leb}
 use Rattle.calls.specs.Run.{legal}
 use Rattle.record.specs.declared.Run.{Run}
 use Rattle.record.specs.Model.{sheet_of, places_of}
@@ -24,22 +23,16 @@ module _ (x : LentRun) where
   abbrev test : Bool
   test = legal (sheet_of (run_from x)) (places_of (run_from x)) && mild (sheet_of (run_from x))
 
-  pub no_letter_told : 1 < x.reorder → NeverBlowsNumbers x 0 x
+  pub no_letter_told : leb x.reorder 1 ≡ false → NeverBlowsNumbers x 0 x
   no_letter_told h =
-      let e : ◌≡◌ {A = ℕ} (cond (leb x.reorder 1 && test) 1 0) 0 = ap (λ (b : Bool). number (b && test)) (lt-leb x.reorder 1 h) in
+      let e : ◌≡◌ {A = ℕ} (cond (leb x.reorder 1 && test) 1 0) 0 = ap (λ (b : Bool). number (b && test)) h in
       record { exactly = sym e; promise = λ k. absurd (omega arith); same = refl }
 
-  told : x.reorder ≤ 1 → (r : Run) → r ≡ run_from x → (b : Bool) → Tells r b → NeverBlowsNumbers x (cond b 1 0) x
-  told h r e b t =
+  pub told : leb x.reorder 1 ≡ true → (r : Run) → r ≡ run_from x → (b : Bool) → Tells r b → {k : ℕ} → k ≡ cond b 1 0 → NeverBlowsNumbers x k x
+  told h r e b t {k} n =
       let u : Tells (run_from x) b = subst (λ (q : Run). Tells q b) e t in
       record {
-        exactly = ap (λ (c : Bool). cond c 1 0) (u.exactly ∙ sym (ap (λ (c : Bool). c && test) (le-leb x.reorder 1 h)));
-        promise = λ k. u.promise (is_one b k);
+        exactly = n ∙ ap (λ (c : Bool). cond c 1 0) (u.exactly ∙ sym (ap (λ (c : Bool). c && test) h));
+        promise = λ z. u.promise (is_one b (sym n ∙ z));
         same = refl;
       }
-
-  pub told_no : x.reorder ≤ 1 → (r : Run) → r ≡ run_from x → (b : Bool) → Tells r b → b ≡ false → NeverBlowsNumbers x 0 x
-  told_no h r e b t f = subst (λ (c : Bool). NeverBlowsNumbers x (cond c 1 0) x) f (told h r e b t)
-
-  pub told_yes : x.reorder ≤ 1 → (r : Run) → r ≡ run_from x → (b : Bool) → Tells r b → b ≡ true → NeverBlowsNumbers x 1 x
-  told_yes h r e b t f = subst (λ (c : Bool). NeverBlowsNumbers x (cond c 1 0) x) f (told h r e b t)

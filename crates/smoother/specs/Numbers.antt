@@ -1,6 +1,8 @@
 -- The exported calls on a run: what the public calls of `run` give, with the answer as a number (`byte_of`: the table's for a refusal, 0 for done, 255 for
 -- done with the channel now marked blown), on a record whose letter of line `A` is a number.
-use Rattle.std.specs.Prelude.{ℕ, ◌≡◌, ◌≢◌, true, false, cond, ◌&&◌, List, [], ◌∷◌, eqb, leb, Float, length}
+use Rattle.std.specs.Prelude.{ℕ, ◌≡◌, ◌≢◌, Result, Ok, Err, true, false, cond, ◌&&◌, List, [], ◌∷◌, eqb, leb, Float, length}
+use Rattle.refusal.specs.declared.Refusal.{Refusal}
+use Rattle.refusal.specs.declared.Refusal.TheVariants.{Record}
 use Rattle.start.specs.Coef.{Levels}
 use Rattle.start.specs.declared.coef.Reorder.{Reorder}
 use Rattle.start.specs.declared.coef.Reorder.TheVariants.{Each, Once}
@@ -10,11 +12,9 @@ use Rattle.calls.specs.Run.{legal}
 use Rattle.calls.specs.Calls.{Answer, refused, done, blown, blended, none_yet, plain_places}
 use Rattle.demand.specs.Solver.{jobs}
 use Rattle.record.specs.declared.Run.{Run}
-use Rattle.record.specs.declared.Answered.{Answered}
-use Rattle.record.specs.Model.{sheet_of, places_of, given_of, answer_of}
-use Rattle.run.specs.Public.{Result, call_of, start_of, for_push, for_data, for_blend, for_move, for_project}
+use Rattle.record.specs.Model.{sheet_of, places_of, given_of}
+use Rattle.run.specs.Public.{Outcome, call_of, start_of, for_push, for_data, for_blend, for_move, for_project}
 use Rattle.smoother.specs.declared.LentRun.{LentRun}
-use Rattle.smoother.specs.declared.Numbered.{Numbered}
 use Rattle.mild.specs.Mild.{mild}
 use Rattle.mild.specs.Checked.{RunNeverBlows}
 use Rattle.serve.specs.Serve.{byte_of, call_list, serve_refusal_of, Served}
@@ -38,14 +38,17 @@ abbrev pub lent_from : Run → LentRun
 lent_from r =
     record { w = r.w; h = r.h; n = r.n; smoothing = r.smoothing; reorder = reorder_number r.reorder; count = r.count; channels = r.channels }
 
--- a call's answer and record, both in numbers
-abbrev pub in_numbers : Answered → Numbered
-in_numbers a = record { answer = byte_of (answer_of a.answer); run = lent_from a.run }
+-- "13 record" where the letter's number is neither 0 nor 1
+abbrev pub RunFrom : LentRun → Result Run Refusal → Type 0
+RunFrom x a = a ≡ cond (leb x.reorder 1) (Ok (run_from x)) (Err Record)
+
+abbrev pub LentFrom : Run → LentRun → Type 0
+LentFrom r x = x ≡ lent_from r
 
 -- ---- what a call gives
 
 -- A call f made with C's record x and the buffers B: its answer's number, and the record and the buffers afterwards.
-pub record GaveLent (x : LentRun) (B : Buffers) (f : Run → Result) (k : ℕ) (x' : LentRun) (B' : Buffers) : Type 0 where
+pub record GaveLent (x : LentRun) (B : Buffers) (f : Run → Outcome) (k : ℕ) (x' : LentRun) (B' : Buffers) : Type 0 where
   -- "13 record": the letter's number is neither 0 nor 1, before anything else; and all is as it was
   pub no_letter : leb x.reorder 1 ≡ false → (k ≡ 13) × (x' ≡ x) × (B' ≡ B)
   -- else what the call gives of the record that C's record says

@@ -14,8 +14,9 @@ ghost use Rattle.sheet.specs.Calls.{measuring, reading};
 ghost use Rattle.by_numbers.specs.Sheets.{Measures, ReadsNumbers, with_record, reader_from, by_reader};
 
 use contents::Limits;
-use record::Channel;
-use sheet::Measured;
+use record::{Channel, Run};
+use refusal::Refusal;
+use start::coef::Reorder;
 
 // The run's record as C has it: that of `record`, but for the letter of line A, which is a number here: 0 for m, 1 for o.
 #[repr(C)]
@@ -30,11 +31,54 @@ pub struct LentRun {
     pub channels: [Channel; 3],
 }
 
-// A call's answer as a number, with the record as it is afterwards.
-#[derive(Clone, Copy)]
-pub struct Numbered {
-    pub answer: u32,
-    pub run: LentRun,
+// The record that C's record says; 13 where its letter's number is neither 0 nor 1.
+impl TryFrom<LentRun> for Run {
+    type Error = Refusal;
+
+    ghost use Rattle.smoother.specs.Numbers.{RunFrom};
+
+    ghost try_from_gives = { RunFrom };
+
+    fn try_from(x: LentRun) -> Result<Run, Refusal> {
+        let reorder = match x.reorder {
+            0 => Reorder::Each,
+            1 => Reorder::Once,
+            _ => return Err(Refusal::Record),
+        };
+        let channels = x.channels;
+        Ok(Run {
+            w: x.w,
+            h: x.h,
+            n: x.n,
+            smoothing: x.smoothing,
+            reorder,
+            count: x.count,
+            channels,
+        })
+    }
+}
+
+// And back.
+impl From<Run> for LentRun {
+    ghost use Rattle.smoother.specs.Numbers.{LentFrom};
+
+    ghost from_gives = { LentFrom };
+
+    fn from(r: Run) -> LentRun {
+        let channels = r.channels;
+        LentRun {
+            w: r.w,
+            h: r.h,
+            n: r.n,
+            smoothing: r.smoothing,
+            reorder: match r.reorder {
+                Reorder::Each => 0,
+                Reorder::Once => 1,
+            },
+            count: r.count,
+            channels,
+        }
+    }
 }
 
 // The lengths of the levels and tables buffers that a text needs, or its refusal with the line. A refusal leaves both lengths as they are.
@@ -51,18 +95,15 @@ pub extern "C" fn smoother_measure(
     ensures { Measures (measuring (record { side = side; iterations = iterations }) text.now) levels.old levels.new tables.old tables.new line.new result }
 {
     match sheet::measure(text, Limits { side, iterations }) {
-        Measured::Lengths {
-            levels: n,
-            tables: m,
-        } => {
-            *levels = n;
-            *tables = m;
+        Ok(lengths) => {
+            *levels = lengths.levels;
+            *tables = lengths.tables;
             *line = 0;
             0
         }
-        Measured::Refused { number, line: l } => {
-            *line = l;
-            number as u32
+        Err(e) => {
+            *line = e.line;
+            u32::from(e.refusal)
         }
     }
 }
@@ -86,7 +127,14 @@ pub extern "C" fn smoother_read(
         (lent lows.old highs.old tables.old) (lent lows.new highs.new tables.new) header.old header.new line.new result }
 {
     let limits = Limits { side, iterations };
-    let told = by_numbers::reading::read(text, limits, partner, lows, highs, tables, header);
-    *line = told.line;
-    told.number
+    match by_numbers::reading::read(text, limits, partner, lows, highs, tables, header) {
+        Ok(()) => {
+            *line = 0;
+            0
+        }
+        Err(e) => {
+            *line = e.line;
+            u32::from(e.refusal)
+        }
+    }
 }

@@ -8,7 +8,7 @@ ghost use Rattle.dqt.specs.Dqt.{importing, exporting};
 pub extern "C" fn smoother_dqt_import(segment: &[u8], tables: &mut [u16]) -> u32
     ensures { filled result tables.new ≡ importing segment.now tables.old }
 {
-    answers::number(dqt::import(segment, tables))
+    dqt::import(segment, tables).map_or_else(u32::from, |()| 0)
 }
 
 // The four tables as one segment. Ruled out: a quantiser of 256 written as 0; a stated length of 264, which would count the marker.
@@ -16,5 +16,5 @@ pub extern "C" fn smoother_dqt_import(segment: &[u8], tables: &mut [u16]) -> u32
 pub extern "C" fn smoother_dqt_export(tables: &[u16], out: &mut [u8]) -> u32
     ensures { filled result out.new ≡ exporting tables.now out.old }
 {
-    answers::number(dqt::export(tables, out))
+    dqt::export(tables, out).map_or_else(u32::from, |()| 0)
 }

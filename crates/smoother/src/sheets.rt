@@ -1,14 +1,23 @@
 // The whole run of a sheet and its picture as C functions. Both answer 0 for done, or the table's number.
-ghost use Rattle.std.specs.Prelude.{◌≡◌};
+ghost use Rattle.std.specs.Prelude.{◌≡◌, length};
 ghost use Rattle.start.specs.Coef.{pairs};
 ghost use Rattle.rounds.specs.Whole.{six, loan};
-ghost use Rattle.by_numbers.specs.Whole.{SolveNumbers, FinishNumbers};
+ghost use Rattle.by_numbers.specs.Sheets.{record_count};
+ghost use Rattle.by_numbers.specs.Whole.{letters_ok, SolveNumbers, FinishNumbers};
 
-use crate::runs;
+use crate::runs::answer_number;
 use by_numbers::NUMBERS;
 use by_numbers::sheets::{put_clipped, rounding_from, sheet_of};
-use fold::flags::both;
+use refusal::Refusal;
 use solve::modes::all_legal;
+
+// The mode's and line A's letter are there.
+fn letters_ok(numbers: &[u32]) -> bool
+    requires { length numbers.now ≡ record_count }
+    ensures { result ≡ letters_ok numbers.now }
+{
+    (numbers[5] <= 1) & (numbers[28] <= 1)
+}
 
 // The whole run of a sheet, by the numbers that `smoother_read` lends out. 8 for another count of them, 13 for a mode or a letter of line A that is neither 0 nor 1, and
 // else what `solve` answers, with 8 also for a buffer `clipped` that has not one place for each channel. Where done, that has each channel's number of clipped
@@ -34,31 +43,26 @@ pub extern "C" fn smoother_solve(
         (loan (six plane.new prior.new gradient.new across.new down.new saved.new) totals.new) clipped.new }
 {
     if numbers.len() != NUMBERS {
-        return 8;
+        return u32::from(Refusal::Length);
     }
-    let mode = numbers[5] <= 1;
-    let letter = numbers[28] <= 1;
-    if !both(mode, letter) {
-        return 13;
+    if !letters_ok(numbers) {
+        return u32::from(Refusal::Record);
     }
     let s = sheet_of(numbers);
     if !all_legal(s) {
-        return 13;
+        return u32::from(Refusal::Record);
     }
-    let h = s.header;
-    if clipped.len() != h.channels as usize {
-        return 8;
+    if clipped.len() != s.header.channels as usize {
+        return u32::from(Refusal::Length);
     }
     let t = solve::solve(
         s, lows, highs, tables, plane, prior, gradient, across, down, saved, totals,
     );
-    let a = t.answer;
-    let k = runs::number_of(a);
+    let k = answer_number(t.answer);
     if k != 0 {
         return k;
     }
-    let numbers = t.clipped;
-    put_clipped(numbers, clipped);
+    put_clipped(t.clipped, clipped);
     0
 }
 
@@ -78,7 +82,7 @@ pub extern "C" fn smoother_finish(
     ensures { FinishNumbers rounding w h width height channels planes.now rgb.old result rgb.new }
 {
     if 1 < rounding {
-        return 13;
+        return u32::from(Refusal::Record);
     }
     match picture::finish(
         rounding_from(rounding),
@@ -90,7 +94,7 @@ pub extern "C" fn smoother_finish(
         planes,
         rgb,
     ) {
-        picture::Answer::Done => 0,
-        picture::Answer::Refused(n) => n as u32,
+        Ok(()) => 0,
+        Err(e) => u32::from(e),
     }
 }

@@ -23,12 +23,17 @@ use Rattle.start.specs.Buffers.{Buffers}
 use Rattle.contents.specs.declared.Sheet.{Sheet}
 use Rattle.calls.specs.Run.{Numbers, Given, coefs, levels_before, levels_part, every, among}
 use Rattle.calls.specs.Buffers.{Plane, Prior, Gradient, Across, Down, Saved, get, joined, channel, put_channel, Sized}
+use Rattle.calls.specs.Calls as Calls
 use Rattle.calls.specs.Calls.{done, blown, all, all_six, lengths, table_ok, levels_fault, lend_tests, start_refusal}
 use Rattle.calls.proofs.Parts.{channel_sized, put_sized, put_same, put_other, joined_channels}
 use Rattle.calls.proofs.Tests.{every_at, among_true, all_part, faultless_of, of_faultless, part_faultless, skip, sized_names, sized_of, Lent, lent_of, of_lent}
 use Rattle.record.specs.declared.Run.{Run}
-use Rattle.record.specs.declared.Answer.{Answer}
-use Rattle.record.specs.declared.Answer.TheVariants.{Refused, Done}
+use Rattle.std.specs.Prelude.{Result, Ok, Err}
+use Rattle.refusal.specs.declared.Refusal.{Refusal}
+use Rattle.refusal.specs.Refusal.{number_of}
+use Rattle.refusal.proofs.Laws.{number_of-positive}
+use Rattle.record.specs.declared.Accepted.{Accepted}
+use Rattle.record.specs.declared.Accepted.TheVariants.{Done}
 use Rattle.record.specs.Model.{Legal, own_of, no_channel, sheet_of, places_of, clipped_of, answer_of}
 use Rattle.record.proofs.Channels.{at_own}
 use Rattle.record.proofs.Sizes.{count_3, levels_rise, levels_small}
@@ -224,12 +229,12 @@ module _ (S : Sheet) (c : ℕ) (levels : Levels) (tables : List ℕ) (L : Loan) 
       (splice B.across from to o.buffers.across) (splice B.down from to o.buffers.down) (splice B.saved from to o.buffers.saved))
       (splice L.totals x y o.totals)
 
-  alone_run : (r : Run) → r ≡ alone S c → (a : Answer) (r' : Run) (o : Loan) → RunIs r (levels_part levels l m) (part tables t u) lent_to a r' o
+  alone_run : (r : Run) → r ≡ alone S c → (a : Result Accepted Refusal) (r' : Run) (o : Loan) → RunIs r (levels_part levels l m) (part tables t u) lent_to a r' o
       → RunIs (alone S c) (levels_for S levels c) (tables_for tables c) (loan_of S c L) a r' o
   unfolding channel
   alone_run r e a r' o h = rw (e, p.from_is, p.to_is, p.l_is, p.m_is, p.t_is, p.u_is, p.x-is, p.y_is) at h
 
-  pub alone_is : (r : Run) → r ≡ alone S c → (a : Answer) (r' : Run) (o : Loan) → RunIs r (levels_part levels l m) (part tables t u) lent_to a r' o
+  pub alone_is : (r : Run) → r ≡ alone S c → (a : Result Accepted Refusal) (r' : Run) (o : Loan) → RunIs r (levels_part levels l m) (part tables t u) lent_to a r' o
       → AloneIs S c levels tables L a r' (back o)
   unfolding put_channel
   alone_is r e a r' o h = record { own = o; run = alone_run r e a r' o h; put = rw (p.from_is, p.to_is, p.x-is, p.y_is) }
@@ -329,7 +334,7 @@ module _ (S : Sheet) (levels : Levels) (tables : List ℕ) (L₀ : Loan) (z : Ta
           }
 
       -- how the channel's run ended
-      module _ (a : Answer) (r : Run) (L' : Loan) (said : AloneIs S c levels tables (loan B T) a r L') where
+      module _ (a : Result Accepted Refusal) (r : Run) (L' : Loan) (said : AloneIs S c levels tables (loan B T) a r L') where
         abbrev run : Whole
         run = run_of (alone_given S levels tables c)
 
@@ -451,7 +456,7 @@ module _ (S : Sheet) (levels : Levels) (tables : List ℕ) (L₀ : Loan) (asks :
       pub alone_asks : AloneAsks S i levels tables L
       alone_asks = asks_of S levels tables L₀ z i left L.buffers long L.totals room_now
 
-      module _ (a : Answer) (r : Run) (L' : Loan) (said : AloneIs S i levels tables L a r L') where
+      module _ (a : Result Accepted Refusal) (r : Run) (L' : Loan) (said : AloneIs S i levels tables L a r L') where
         kept_now : Kept L₀.buffers L'.buffers
         kept_now =
             kept_of (S.header.channels * area_of S) L₀.buffers L'.buffers first_sized
@@ -460,7 +465,7 @@ module _ (S : Sheet) (levels : Levels) (tables : List ℕ) (L₀ : Loan) (asks :
         long_now : length L'.totals ≡ length L₀.totals
         long_now = now_long S levels tables L₀ z i left L.buffers long L.totals room_now a r L' said ∙ h.totals_long
 
-        pub goes-on : a ≡ Done → (k : ℕ) → k ≡ clipped_of r 0 → Parting S levels tables S.header.channels (i + 1) L₀ L' (set ks i k)
+        pub goes-on : a ≡ (Ok Done) → (k : ℕ) → k ≡ clipped_of r 0 → Parting S levels tables S.header.channels (i + 1) L₀ L' (set ks i k)
         goes-on one k e =
             let d = done_run S levels tables L₀ z i left L.buffers long L.totals room_now a r L' said (is_done a one) in
             rw (add-one)
@@ -494,14 +499,14 @@ module _ (S : Sheet) (levels : Levels) (tables : List ℕ) (L₀ : Loan) (asks :
                 subst (λ (d : ℕ). number_in (set ks i k) d ≡ alone_clipped S levels tables d) same (get_or-set_same ks i k 0 few ∙ p)
             put c (inr l) p = get_or-set_other ks i c k 0 (λ e. omega arith) ∙ h.numbers c (omega arith)
 
-        pub stops : (a ≡ Done → ⊥) → SeparateIs S levels tables L₀ a ks L'
+        pub stops : (a ≡ (Ok Done) → ⊥) → SeparateIs S levels tables L₀ a ks L'
         unfolding separately
         stops one =
             let d = blown_run S levels tables L₀ z i left L.buffers long L.totals room_now a r L' said (not_done a one) in
             rw (among_true S.header.channels (λ c. run_blows (alone_given S levels tables c)) i left d.0)
             (d.1, (same_lengths L₀.buffers L'.buffers kept_now, long_now))
 
-    pub ends : S.header.channels ≤ i → SeparateIs S levels tables L₀ Done ks L
+    pub ends : S.header.channels ≤ i → SeparateIs S levels tables L₀ (Ok Done) ks L
     unfolding separately
     ends l =
         let end : i ≡ S.header.channels = omega (arith, h.most) in
@@ -521,12 +526,15 @@ module _ (S : Sheet) (levels : Levels) (tables : List ℕ) (L₀ : Loan) (asks :
 -- ---- solve
 
 module _ (S : Sheet) (levels : Levels) (tables : List ℕ) (L : Loan) where
-  pub solve_refused : (n : ℕ) → n ≡ solve_refusal S levels tables (lengths all_six L.buffers) (length L.totals) → n ≢ 0 → (ks : List ℕ)
-      → SolveIs S levels tables L (Refused n) ks L
-  solve_refused zero e f ks = absurd (f refl)
-  solve_refused (suc n) e f ks = rw (← e) (refl, refl)
+  pub solve_refused : (e : Refusal) → number_of e ≡ solve_refusal S levels tables (lengths all_six L.buffers) (length L.totals) → (ks : List ℕ)
+      → SolveIs S levels tables L (Err e) ks L
+  solve_refused e h ks = rw (← h) (go (number_of e) (number_of-positive e))
+    where
+      go : (n : ℕ) → 1 ≤ n → Ends n (whole_of S levels tables) L (Calls.refused n) (number_in ks) L
+      go zero p = absurd (omega arith)
+      go (suc n) p = (refl, refl)
 
-  module _ (z : Taken S levels tables L) (a : Answer) (ks : List ℕ) (L' : Loan) where
+  module _ (z : Taken S levels tables L) (a : Result Accepted Refusal) (ks : List ℕ) (L' : Loan) where
     -- by the mode
     ends_in : (b : Bool) → S.header.joint ≡ b → Ends 0 (cond b (run_of (joint_given S levels tables)) (separately S levels tables)) L (answer_of a) (number_in ks) L'
         → SolveIs S levels tables L a ks L'

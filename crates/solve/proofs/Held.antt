@@ -5,8 +5,7 @@ use native.Mathlib.Omega.{arith}
 use borrow.Author.Tests.{ne_eqb}
 use Rattle.contents.specs.declared.Sheet.{Sheet}
 use Rattle.contents.specs.declared.Header.{Header}
-use Rattle.contents.specs.declared.Hold.{Hold}
-use Rattle.contents.specs.declared.Hold.TheVariants as hold
+use Rattle.std.specs.Prelude.{Option, Some, None, List}
 use Rattle.contents.specs.Hold.{of_three, measured, count_at, hold_at}
 
 -- what the counts are measured against; every place past the second is the third
@@ -21,6 +20,6 @@ pub three_held : (S : Sheet) (c : ℕ) → of_three c (hold_at S 0) (hold_at S 1
 unfolding hold_at
 three_held S c = go S.settings.hold
   where
-    go : (x : Hold) → of_three c (count_at x S.header 0) (count_at x S.header 1) (count_at x S.header 2) ≡ count_at x S.header c
-    go hold.Unsaid = three_measured S.header c
-    go (hold.Counts k l m) = refl
+    go : (x : Option (List ℕ)) → of_three c (count_at x S.header 0) (count_at x S.header 1) (count_at x S.header 2) ≡ count_at x S.header c
+    go None = three_measured S.header c
+    go (Some l) = refl

@@ -11,8 +11,7 @@ use Rattle.start.specs.Coef.{Levels, pairs}
 use Rattle.fold.specs.Fold.{upto}
 use Rattle.fold.specs.Join.{join_upto}
 use Rattle.contents.specs.declared.Sheet.{Sheet}
-use Rattle.contents.specs.declared.Hold.{Hold}
-use Rattle.contents.specs.declared.Hold.TheVariants as hold
+use Rattle.std.specs.Prelude.{Option, Some, None}
 use Rattle.contents.specs.Hold.{measured, count_at, hold_at}
 use Rattle.contents.specs.Sheets.{channel_at}
 use Rattle.contents.specs.Weights.{value_of}
@@ -95,9 +94,9 @@ held_alike : (S : Sheet) → hold_at (lettered true S) 0 ≡ hold_at (lettered f
 unfolding hold_at measured
 held_alike S = go S.settings.hold
   where
-    go : (x : Hold) → count_at x (lettered true S).header 0 ≡ count_at x (lettered false S).header 0
-    go hold.Unsaid = either_is (eqb S.header.channels 3 && true) (eqb S.header.channels 3 && false) S.header.iterations0
-    go (hold.Counts k l m) = refl
+    go : (x : Option (List ℕ)) → count_at x (lettered true S).header 0 ≡ count_at x (lettered false S).header 0
+    go None = either_is (eqb S.header.channels 3 && true) (eqb S.header.channels 3 && false) S.header.iterations0
+    go (Some l) = refl
 
 -- "With one channel the letters act alike": the runs of both modes are given the same, so what they leave is the same.
 module _ (S : Sheet) (levels : Levels) (tables : List ℕ) (L : Loan) (accepted : Taken (lettered true S) levels tables L) (one : S.header.channels ≡ 1) where
@@ -178,7 +177,7 @@ abbrev pub saying : Sheet → ℕ → ℕ → ℕ → Sheet
 saying S k l m =
     record {
       header = S.header;
-      settings = record { rounding = S.settings.rounding; start = S.settings.start; hold = hold.Counts k l m };
+      settings = record { rounding = S.settings.rounding; start = S.settings.start; hold = Some (k ∷ l ∷ m ∷ []) };
       first = S.first;
       second = S.second;
       third = S.third;
@@ -188,10 +187,10 @@ saying S k l m =
 abbrev pub spelled : Sheet → Sheet
 spelled S = saying S (measured S.header 0) (measured S.header 1) (measured S.header 2)
 
-module _ (S : Sheet) (unsaid : S.settings.hold ≡ hold.Unsaid) where
+module _ (S : Sheet) (unsaid : S.settings.hold ≡ None) where
   held_same : (c : ℕ) → hold_at S c ≡ hold_at (spelled S) c
   unfolding hold_at
-  held_same c = ap (λ (x : Hold). count_at x S.header c) unsaid ∙ sym (three_measured S.header c)
+  held_same c = ap (λ (x : Option (List ℕ)). count_at x S.header c) unsaid ∙ sym (three_measured S.header c)
 
   pub same_joint : joint S ≡ joint (spelled S)
   unfolding joint

@@ -1,5 +1,5 @@
 -- Separate mode, inside this crate: each channel's run on its part of what the sheet is lent.
-use Rattle.std.specs.Prelude.{ℕ, suc, ◌+◌, ◌*◌, ◌≤◌, ◌<◌, ◌≡◌, false, List, length}
+use Rattle.std.specs.Prelude.{ℕ, suc, ◌+◌, ◌*◌, ◌≤◌, ◌<◌, ◌≡◌, false, List, length, Result}
 use Rattle.start.specs.Coef.{Levels, Long}
 use Rattle.fold.specs.Part.{part, splice}
 use Rattle.contents.specs.declared.Sheet.{Sheet}
@@ -7,7 +7,8 @@ use Rattle.calls.specs.Run.{levels_before}
 use Rattle.calls.specs.Buffers.{channel, put_channel}
 use Rattle.calls.specs.Calls.{lengths, all_six}
 use Rattle.record.specs.declared.Run.{Run}
-use Rattle.record.specs.declared.Answer.{Answer}
+use Rattle.refusal.specs.declared.Refusal.{Refusal}
+use Rattle.record.specs.declared.Accepted.{Accepted}
 use Rattle.record.specs.Model.{Legal, sheet_of, answer_of}
 use Rattle.rounds.specs.Whole.{Loan, loan, Ends, RunIs}
 use Rattle.solve.specs.Solve.{joint, alone, steps_before, levels_for, tables_for, separately, number_in, solve_refusal}
@@ -26,7 +27,7 @@ put_loan S c L own =
     loan (put_channel (S.header.width * S.header.height) c L.buffers own.buffers) (splice L.totals (totals_from S c) (totals_from S (suc c)) own.totals)
 
 -- channel c's run, on its part of the six and of the totals, which leaves the record r
-pub record AloneIs (S : Sheet) (c : ℕ) (levels : Levels) (tables : List ℕ) (L : Loan) (a : Answer) (r : Run) (L' : Loan) : Type 0 where
+pub record AloneIs (S : Sheet) (c : ℕ) (levels : Levels) (tables : List ℕ) (L : Loan) (a : Result Accepted Refusal) (r : Run) (L' : Loan) : Type 0 where
   pub own : Loan
   pub run : RunIs (alone S c) (levels_for S levels c) (tables_for tables c) (loan_of S c L) a r own
   pub put : L' ≡ put_loan S c L own
@@ -71,5 +72,5 @@ pub record SeparateAsks (S : Sheet) (levels : Levels) (tables : List ℕ) (L : L
   pub apart : S.header.joint ≡ false
   pub accepted : solve_refusal S levels tables (lengths all_six L.buffers) (length L.totals) ≡ 0
 
-abbrev pub SeparateIs : Sheet → Levels → List ℕ → Loan → Answer → List ℕ → Loan → Type 0
+abbrev pub SeparateIs : Sheet → Levels → List ℕ → Loan → Result Accepted Refusal → List ℕ → Loan → Type 0
 SeparateIs S levels tables L a ks L' = Ends 0 (separately S levels tables) L (answer_of a) (number_in ks) L'

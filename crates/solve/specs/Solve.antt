@@ -1,12 +1,12 @@
 -- The whole run (document 01, "Whole run and picture"): which runs a sheet has in each mode, the planes that they leave, the totals of their blends, and when they blow.
-use Rattle.std.specs.Prelude.{ℕ, zero, suc, ◌+◌, ◌*◌, Bool, false, ◌&&◌, not, cond, List, [], ◌∷◌, length, get_or, eqb, Float}
+use Rattle.std.specs.Prelude.{ℕ, zero, suc, ◌+◌, ◌*◌, Bool, false, ◌&&◌, not, cond, List, [], ◌∷◌, length, get_or, eqb, Float, Option, Some, None, Result}
 use Rattle.start.specs.Coef.{Levels}
 use Rattle.fold.specs.Join.{join_upto}
 use Rattle.fold.specs.Part.{part}
 use Rattle.contents.specs.declared.Weight.{Weight}
 use Rattle.contents.specs.Weights.{value_of}
-use Rattle.contents.specs.declared.Choice.{Choice}
-use Rattle.contents.specs.declared.Choice.TheVariants as choice
+use Rattle.contents.specs.declared.Letter.{Letter}
+use Rattle.contents.specs.declared.Letter.TheVariants as letter
 use Rattle.contents.specs.declared.Sheet.{Sheet}
 use Rattle.contents.specs.declared.Channel as Line
 use Rattle.contents.specs.Sheets.{channel_at}
@@ -19,7 +19,8 @@ use Rattle.calls.specs.Buffers.{joined}
 use Rattle.calls.specs.Calls.{lengths, all_six, start_refusal}
 use Rattle.record.specs.declared.Run.{Run}
 use Rattle.record.specs.declared.Channel.{Channel}
-use Rattle.record.specs.declared.Answer.{Answer}
+use Rattle.refusal.specs.declared.Refusal.{Refusal}
+use Rattle.record.specs.declared.Accepted.{Accepted}
 use Rattle.record.specs.Model.{sheet_of, places_of, given_of, answer_of}
 use Rattle.calls.specs.Jobs.{kept}
 use Rattle.demand.specs.Solver.{jobs}
@@ -48,10 +49,10 @@ abbrev pub held_in : Bool → Sheet → ℕ → ℕ → ℕ
 held_in made S c n = cond made (hold_at S c) n
 
 -- M-102's letter: "`m`, also the meaning when it is absent, is the start of document 01. `o` dequantises and transforms all blocks, then reorders once"
-abbrev pub reorder_of : Choice → Reorder
-reorder_of choice.Unsaid = Each
-reorder_of choice.First = Each
-reorder_of choice.Second = Once
+abbrev pub reorder_of : Option Letter → Reorder
+reorder_of None = Each
+reorder_of (Some letter.First) = Each
+reorder_of (Some letter.Second) = Once
 
 -- the channels of the joint run, each with its own data weight and held count
 abbrev pub joint_channels : Sheet → List Channel
@@ -177,6 +178,6 @@ number_in ks c = get_or ks c 0
 
 -- How `solve` ends: refused, with the six and the totals as they were; blown; or done, with the six that the sheet's mode gives after 5N jobs, both
 -- totals of each blend, and each channel's number ks.
-abbrev pub SolveIs : Sheet → Levels → List ℕ → Loan → Answer → List ℕ → Loan → Type 0
+abbrev pub SolveIs : Sheet → Levels → List ℕ → Loan → Result Accepted Refusal → List ℕ → Loan → Type 0
 SolveIs S levels tables L a ks L' =
     Ends (solve_refusal S levels tables (lengths all_six L.buffers) (length L.totals)) (whole_of S levels tables) L (answer_of a) (number_in ks) L'

@@ -8,14 +8,11 @@ use contents::Sheet;
 pub fn iterations_at(s: Sheet, c: u32) -> u32
     ensures { result ≡ iterations_at s c }
 {
-    let h = s.header;
-    if c == 0 {
-        return h.iterations0;
+    match c {
+        0 => s.header.iterations0,
+        1 => s.header.iterations1,
+        _ => s.header.iterations2,
     }
-    if c == 1 {
-        return h.iterations1;
-    }
-    h.iterations2
 }
 
 // How many steps the runs of the channels before c have in separate mode; c is at most 3.

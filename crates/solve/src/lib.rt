@@ -13,13 +13,14 @@ ghost use Rattle.solve.specs.Solve.{SolveIs};
 
 use contents::Sheet;
 use record::places::clipped_of;
-use record::{Answer, Run};
+use record::{Accepted, Run};
+use refusal::Refusal;
 use rounds::run_value;
 
 // What a whole run answers, and each channel's number of clipped coefficients where it is done.
 #[derive(Clone, Copy)]
 pub struct Solved {
-    pub answer: Answer,
+    pub answer: Result<Accepted, Refusal>,
     pub clipped: [u32; 3],
 }
 
@@ -58,23 +59,21 @@ pub fn solve(
         down.len(),
         saved.len(),
     ];
-    let r = modes::solve_refusal(s, &lengths, totals.len(), lows, highs, tables);
-    if r != 0 {
-        let none = [0u32; 3];
+    if let Err(refusal) = modes::solve_refusal(s, &lengths, totals.len(), lows, highs, tables) {
         return Solved {
-            answer: Answer::Refused(r),
-            clipped: none,
+            answer: Err(refusal),
+            clipped: [0; 3],
         };
     }
-    let h = s.header;
-    if h.joint {
-        let run = modes::joint_of(s);
-        let t = run_value(
-            run, lows, highs, tables, plane, prior, gradient, across, down, saved, totals,
+    if s.header.joint {
+        let mut run = modes::joint_of(s);
+        let answer = run_value(
+            &mut run, lows, highs, tables, plane, prior, gradient, across, down, saved, totals,
         );
-        let answer = t.answer;
-        let clipped = numbers_of(t.run);
-        return Solved { answer, clipped };
+        return Solved {
+            answer,
+            clipped: numbers_of(run),
+        };
     }
     separate::separate(
         s, lows, highs, tables, plane, prior, gradient, across, down, saved, totals,

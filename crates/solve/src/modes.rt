@@ -1,14 +1,14 @@
 // The runs of a sheet in both modes, and what solve refuses.
 ghost use Rattle.std.specs.Prelude.{◌≡◌};
+ghost use Rattle.refusal.specs.Refusal.{answer_number};
 ghost use Rattle.start.specs.Coef.{pairs};
-ghost use Rattle.contents.specs.Sheets.{channel_at};
 ghost use Rattle.solve.specs.Solve.{run_channel, reorder_of, held_in, joint_channels, joint, alone, smoothing_at, all_legal, solve_refusal};
 
 use crate::counts::{blend_count, iterations_at};
-use contents::{Choice, Header, Sheet, Weight, held_after, weight_value};
-use fold::flags::both;
+use contents::{Header, Letter, Sheet, Weight, channel_at, held_after, weight_value};
 use record::Run;
 use record::legal::legal;
+use refusal::Refusal;
 use start::coef::Reorder;
 
 // A channel line as a channel of a fresh run, with this data weight, held after this many steps.
@@ -29,13 +29,13 @@ fn run_channel(x: contents::Channel, weight: Weight, held: u32) -> record::Chann
 }
 
 // When a sheet's images are reordered: once where line A has o, else after each block.
-fn reorder_of(letter: Choice) -> Reorder
+fn reorder_of(letter: Option<Letter>) -> Reorder
     ensures { result ≡ reorder_of letter }
 {
     match letter {
-        Choice::Unsaid => Reorder::Each,
-        Choice::First => Reorder::Each,
-        Choice::Second => Reorder::Once,
+        None => Reorder::Each,
+        Some(Letter::First) => Reorder::Each,
+        Some(Letter::Second) => Reorder::Once,
     }
 }
 
@@ -89,31 +89,15 @@ pub fn joint_of(s: Sheet) -> Run
     }
 }
 
-// Channel c's line.
-fn line_at(s: Sheet, c: u32) -> contents::Channel
-    ensures { result ≡ channel_at s c }
-{
-    if c == 0 {
-        return s.first;
-    }
-    if c == 1 {
-        return s.second;
-    }
-    s.third
-}
-
 // Channel c's own smoothing weight.
 fn smoothing_at(s: Sheet, c: u32) -> Weight
     ensures { result ≡ smoothing_at s c }
 {
-    let h = s.header;
-    if c == 0 {
-        return h.smoothing0;
+    match c {
+        0 => s.header.smoothing0,
+        1 => s.header.smoothing1,
+        _ => s.header.smoothing2,
     }
-    if c == 1 {
-        return h.smoothing1;
-    }
-    h.smoothing2
 }
 
 // The run of channel c alone: its own smoothing weight, iteration count and held count, but the first data weight.
@@ -128,7 +112,7 @@ pub fn alone_of(s: Sheet, c: u32) -> Run
     let reorder = reorder_of(start);
     let n = iterations_at(s, c);
     let held = held_in(apart, s, c, n);
-    let x = run_channel(line_at(s, c), d0, held);
+    let x = run_channel(channel_at(s, c), d0, held);
     Run {
         w: h.width,
         h: h.height,
@@ -150,12 +134,12 @@ pub fn all_legal(s: Sheet) -> bool
     let h = s.header;
     let mut ok = true;
     for c in 0..h.channels {
-        ok = both(ok, legal(alone_of(s, c)));
+        ok = ok & legal(alone_of(s, c));
     }
     ok
 }
 
-// 13, 8, 4, then pair by pair 5 and 14, in this order; 0 is no refusal. `lengths` are those of the six, `totals` is that of the totals.
+// 13, 8, 4, then pair by pair 5 and 14, in this order. `lengths` are those of the six, `totals` is that of the totals.
 pub fn solve_refusal(
     s: Sheet,
     lengths: &[usize],
@@ -163,14 +147,14 @@ pub fn solve_refusal(
     lows: &[i16],
     highs: &[i16],
     tables: &[u16],
-) -> u8
-    ensures { result ≡ solve_refusal s (pairs lows.now highs.now) tables.now lengths.now totals }
+) -> Result<(), Refusal>
+    ensures { answer_number result ≡ solve_refusal s (pairs lows.now highs.now) tables.now lengths.now totals }
 {
     if !all_legal(s) {
-        return 13;
+        return Err(Refusal::Record);
     }
     if totals != blend_count(s) * 2 {
-        return 8;
+        return Err(Refusal::Length);
     }
     record::refusals::start_refusal(joint_of(s), lengths, lows, highs, tables)
 }

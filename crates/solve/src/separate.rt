@@ -1,9 +1,9 @@
 // Separate mode: each channel is a run of its own, on its part of the lent buffers.
-ghost use Rattle.std.specs.Prelude.{◌<◌};
+ghost use Rattle.std.specs.Prelude.{◌≡◌, ◌<◌};
 ghost use Rattle.start.specs.Coef.{pairs};
 ghost use Rattle.record.specs.Model.{Legal};
 ghost use Rattle.rounds.specs.Whole.{six, loan};
-ghost use Rattle.solve.specs.Solve.{joint};
+ghost use Rattle.solve.specs.Solve.{joint, alone};
 ghost use Rattle.solve.specs.Separate.{PartsAre, AloneAsks, AloneIs, SeparateAsks, SeparateIs};
 
 use crate::Solved;
@@ -11,7 +11,8 @@ use crate::counts::steps_before;
 use crate::modes::{alone_of, joint_of};
 use contents::Sheet;
 use record::places::clipped_of;
-use record::{Answer, Answered};
+use record::{Accepted, Run};
+use refusal::Refusal;
 use rounds::run_value;
 
 // Where channel c's part begins and ends in the lent buffers, in the levels, in the tables and in the totals.
@@ -50,10 +51,11 @@ fn parts_of(s: Sheet, c: u32) -> Parts
     }
 }
 
-// Channel c's run. Its part of each buffer is lent on to be written. Gives the run's record as it is afterwards.
+// Channel c's run. Its part of each buffer is lent on to be written.
 fn alone_value(
     s: Sheet,
     c: u32,
+    run: &mut Run,
     lows: &[i16],
     highs: &[i16],
     tables: &[u16],
@@ -64,10 +66,11 @@ fn alone_value(
     down: &mut [f32],
     saved: &mut [f32],
     totals: &mut [f64],
-) -> Answered
-    requires { AloneAsks s c (pairs lows.now highs.now) tables.now (loan (six plane.old prior.old gradient.old across.old down.old saved.old) totals.old) }
+) -> Result<Accepted, Refusal>
+    requires alone { run.old ≡ alone s c }
+    requires asks { AloneAsks s c (pairs lows.now highs.now) tables.now (loan (six plane.old prior.old gradient.old across.old down.old saved.old) totals.old) }
     ensures { AloneIs s c (pairs lows.now highs.now) tables.now
-        (loan (six plane.old prior.old gradient.old across.old down.old saved.old) totals.old) result.answer result.run
+        (loan (six plane.old prior.old gradient.old across.old down.old saved.old) totals.old) result run.new
         (loan (six plane.new prior.new gradient.new across.new down.new saved.new) totals.new) }
 {
     let p = parts_of(s, c);
@@ -80,7 +83,7 @@ fn alone_value(
     let x = p.totals_from;
     let y = p.totals_to;
     run_value(
-        alone_of(s, c),
+        run,
         &lows[l..m],
         &highs[l..m],
         &tables[t..u],
@@ -116,18 +119,21 @@ pub fn separate(
     let mut clipped = [0u32; 3];
     let h = s.header;
     for c in 0..h.channels {
-        let t = alone_value(
-            s, c, lows, highs, tables, plane, prior, gradient, across, down, saved, totals,
+        let mut run = alone_of(s, c);
+        let answer = alone_value(
+            s, c, &mut run, lows, highs, tables, plane, prior, gradient, across, down, saved,
+            totals,
         );
-        let a = t.answer;
-        let Answer::Done = a else {
-            return Solved { answer: a, clipped };
+        let Ok(accepted) = answer else {
+            return Solved { answer, clipped };
         };
-        let last = t.run;
-        clipped[c as usize] = clipped_of(last, 0);
+        let Accepted::Done = accepted else {
+            return Solved { answer, clipped };
+        };
+        clipped[c as usize] = clipped_of(run, 0);
     }
     Solved {
-        answer: Answer::Done,
+        answer: Ok(Accepted::Done),
         clipped,
     }
 }

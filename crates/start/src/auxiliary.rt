@@ -1,67 +1,45 @@
 // auxiliary.rs, `Aux::init`: a channel's buffers at the start.
 ghost use Rattle.std.specs.Prelude.{◌≡◌, ◌*◌, length, replicate};
 ghost use Rattle.float.specs.Names.{f0};
-ghost use Rattle.start.specs.Coef.{Covers, Lent, coef, image_of, init_dct_target, pairs};
+ghost use Rattle.start.specs.Coef.{image_of, init_dct_target, px_count};
+ghost use Rattle.start.specs.AsCoef.{as_coef};
 ghost use Rattle.start.specs.Auxiliary.{init_pixels, aux_init};
 
-use crate::coef;
-use crate::coef::{Own, Reorder};
-
-// AlignedF32::zeros(n).
-// Rules out: the first n - 1 values alone, and -0.
-pub fn zeros(xs: &mut [f32], n: usize)
-    requires { length xs.old ≡ n }
-    ensures { xs.new ≡ replicate n f0 }
-{
-    utils::slices::zero(xs);
-}
+use crate::coef::{Coef, Reorder};
 
 // The channel's pixels at full sides. Image and scratch have as many values as the own plane.
 fn init_pixels(
     plane: &mut [f32],
     image: &mut [f32],
     scratch: &mut [f32],
-    o: Own,
-    w: usize,
-    h: usize,
+    coef: &Coef,
     reorder: Reorder,
-    lows: &[i16],
-    highs: &[i16],
-    table: &[u16],
 )
-    requires { Covers o w h × Lent o (pairs lows.now highs.now) table.now × (length plane.old ≡ w * h)
-        × (length image.old ≡ o.width * o.height) × (length scratch.old ≡ o.width * o.height) }
-    ensures { plane.new ≡ init_pixels (image_of reorder (coef o (pairs lows.now highs.now) table.now)) o w h }
+    requires { (length plane.old ≡ coef.now.w * coef.now.h) × (length image.old ≡ px_count coef.now.own) × (length scratch.old ≡ px_count coef.now.own) }
+    ensures { plane.new ≡ init_pixels (image_of reorder (as_coef coef.now)) coef.now.own coef.now.w coef.now.h }
 {
-    coef::image_of(image, scratch, o, reorder, lows, highs, table);
-    zeros(plane, w * h);
+    let o = coef.own;
+    coef.image_of(image, scratch, reorder);
+    plane.fill(0.0);
     utils::auxiliary::upsample_pixels(
-        &image[..],
+        image,
         o.width,
         o.height,
         o.horizontal,
         o.vertical,
-        w,
-        h,
+        coef.w,
+        coef.h,
         plane,
     );
 }
 
 // The saved coefficients: half sum × quantiser, and 0 past them.
-fn init_saved(
-    saved: &mut [f32],
-    o: Own,
-    w: usize,
-    h: usize,
-    lows: &[i16],
-    highs: &[i16],
-    table: &[u16],
-)
-    requires { Covers o w h × Lent o (pairs lows.now highs.now) table.now × (length saved.old ≡ w * h) }
-    ensures { saved.new ≡ init_dct_target (coef o (pairs lows.now highs.now) table.now) (replicate (w * h) f0) }
+fn init_saved(saved: &mut [f32], coef: &Coef)
+    requires { length saved.old ≡ coef.now.w * coef.now.h }
+    ensures { saved.new ≡ init_dct_target (as_coef coef.now) (replicate (coef.now.w * coef.now.h) f0) }
 {
-    zeros(saved, w * h);
-    coef::init_dct_target(saved, o, lows, highs, table);
+    saved.fill(0.0);
+    coef.init_dct_target(saved);
 }
 
 // Plane and prior at the start. Across and down are scratch for the image before they are 0.
@@ -70,36 +48,19 @@ fn init_planes(
     prior: &mut [f32],
     across: &mut [f32],
     down: &mut [f32],
-    o: Own,
-    w: usize,
-    h: usize,
+    coef: &Coef,
     reorder: Reorder,
-    lows: &[i16],
-    highs: &[i16],
-    table: &[u16],
 )
-    requires { Covers o w h × Lent o (pairs lows.now highs.now) table.now × (length plane.old ≡ w * h) × (length prior.old ≡ w * h)
-        × (length across.old ≡ w * h) × (length down.old ≡ w * h) }
-    ensures { (plane.new ≡ init_pixels (image_of reorder (coef o (pairs lows.now highs.now) table.now)) o w h)
-        × (prior.new ≡ plane.new) × (across.new ≡ replicate (w * h) f0) × (down.new ≡ replicate (w * h) f0) }
+    requires { (length plane.old ≡ coef.now.w * coef.now.h) × (length prior.old ≡ coef.now.w * coef.now.h)
+        × (length across.old ≡ coef.now.w * coef.now.h) × (length down.old ≡ coef.now.w * coef.now.h) }
+    ensures { (plane.new ≡ init_pixels (image_of reorder (as_coef coef.now)) coef.now.own coef.now.w coef.now.h)
+        × (prior.new ≡ plane.new) × (across.new ≡ replicate (coef.now.w * coef.now.h) f0) × (down.new ≡ replicate (coef.now.w * coef.now.h) f0) }
 {
-    let area = w * h;
-    let n = coef::px_count(o, w, h);
-    init_pixels(
-        plane,
-        &mut across[0..n],
-        &mut down[0..n],
-        o,
-        w,
-        h,
-        reorder,
-        lows,
-        highs,
-        table,
-    );
-    zeros(across, area);
-    zeros(down, area);
-    utils::slices::copy(&plane[..], prior);
+    let n = coef.px_count();
+    init_pixels(plane, &mut across[..n], &mut down[..n], coef, reorder);
+    across.fill(0.0);
+    down.fill(0.0);
+    prior.copy_from_slice(plane);
 }
 
 // Start of one channel, on its part of each buffer.
@@ -111,16 +72,12 @@ pub fn start(
     across: &mut [f32],
     down: &mut [f32],
     saved: &mut [f32],
-    o: Own,
-    w: usize,
-    h: usize,
+    coef: &Coef,
     reorder: Reorder,
-    lows: &[i16],
-    highs: &[i16],
-    table: &[u16],
 )
-    requires { Covers o w h × Lent o (pairs lows.now highs.now) table.now × (length plane.old ≡ w * h) × (length prior.old ≡ w * h)
-        × (length gradient.old ≡ w * h) × (length across.old ≡ w * h) × (length down.old ≡ w * h) × (length saved.old ≡ w * h) }
+    requires { (length plane.old ≡ coef.now.w * coef.now.h) × (length prior.old ≡ coef.now.w * coef.now.h)
+        × (length gradient.old ≡ coef.now.w * coef.now.h) × (length across.old ≡ coef.now.w * coef.now.h)
+        × (length down.old ≡ coef.now.w * coef.now.h) × (length saved.old ≡ coef.now.w * coef.now.h) }
     ensures { record {
       plane = plane.new;
       prior = prior.new;
@@ -129,11 +86,9 @@ pub fn start(
       down = down.new;
       saved = saved.new;
     }
-        ≡ aux_init reorder (coef o (pairs lows.now highs.now) table.now) w h }
+        ≡ aux_init reorder (as_coef coef.now) coef.now.w coef.now.h }
 {
-    init_saved(saved, o, w, h, lows, highs, table);
-    zeros(gradient, w * h);
-    init_planes(
-        plane, prior, across, down, o, w, h, reorder, lows, highs, table,
-    );
+    init_saved(saved, coef);
+    gradient.fill(0.0);
+    init_planes(plane, prior, across, down, coef, reorder);
 }

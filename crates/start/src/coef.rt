@@ -1,6 +1,6 @@
 // coef.rs: the pixels and the saved coefficients that a channel starts with.
-ghost use Rattle.std.specs.Prelude.{◌≡◌, ◌+◌, ◌*◌, ◌/◌, ◌^◌, ◌<◌, ◌≤◌, length};
-ghost use Rattle.start.specs.Coef.{Covers, Eights, Lent, coef, dequantise, mid_at, pairs, image_block, image_data, image_once, image_of, init_dct_target, spot};
+ghost use Rattle.std.specs.Prelude.{◌≡◌, ◌+◌, ◌*◌, ◌<◌, ◌≤◌, Float, length};
+ghost use Rattle.start.specs.Coef.{Covers, Lent, pairs};
 
 // A channel's own sides and its factors.
 #[derive(Clone, Copy)]
@@ -12,152 +12,143 @@ pub struct Own {
 }
 
 // When the image is reordered: after each block, as the Rust does, or once after all of them (M-102).
-#[derive(Clone, Copy)]
+#[derive(Clone, Copy, Debug, PartialEq, Eq)]
 pub enum Reorder {
     Each,
     Once,
 }
 
-// The blocks of a channel: 64 values each, as many as its own plane has.
-// Rules out: the blocks of the full plane, and the count of values.
-pub fn block_count(o: Own) -> usize
-    requires { Eights o × (o.width * o.height < 2 ^ 63) }
-    ensures { (result ≡ o.width / 8 * (o.height / 8)) × (result * 64 ≡ o.width * o.height) }
-{
-    let w = o.width;
-    let h = o.height;
-    w / 8 * (h / 8)
+// ScalarCoef: a channel's own sides and factors, the full sides w and h that they cover, its levels and its quantisers.
+#[derive(Clone, Copy)]
+pub struct Coef<'a> {
+    pub own: Own,
+    pub w: usize,
+    pub h: usize,
+    pub lows: &'a [i16],
+    pub highs: &'a [i16],
+    pub table: &'a [u16],
+    pub ghost covers: { Covers own w h },
+    pub ghost lent: { Lent own (pairs lows.now highs.now) table.now },
 }
 
-// The values of the own plane, which are no more than those of the full plane.
-// Rules out: the full plane's count, and the count of blocks.
-pub fn px_count(o: Own, w: usize, h: usize) -> usize
-    requires { Covers o w h }
-    ensures { (result ≡ o.width * o.height) × (result ≤ w * h) }
-{
-    let width = o.width;
-    let height = o.height;
-    width * height
-}
+impl Coef<'_> {
+    ghost use Rattle.start.specs.Coef.{block_count, block_h, block_w, change, dequantise, image_block, image_data, image_of, image_once, init_dct_target, px_count, spot};
+    ghost use Rattle.start.specs.AsCoef.{as_coef};
+    ghost use Rattle.utils.specs.Blocks.{from_blocks};
 
-// The values of the levels of block i: half sum × quantiser.
-fn dequantise(out: &mut [f32], lows: &[i16], highs: &[i16], table: &[u16], i: usize)
-    requires { (i * 64 + 64 ≤ length lows.now) × (i * 64 + 64 ≤ length highs.now) × (length table.now ≡ 64) × (i * 64 + 64 ≤ length out.old) }
-    ensures { out.new ≡ dequantise (mid_at (pairs lows.now highs.now)) table.now i out.old }
-{
-    for j in 0..64 {
-        let k = i * 64 + j;
-        let low = lows[k];
-        let high = highs[k];
-        out[k] = interval::dequantised(low, high, table[j]);
+    // The blocks of a channel: 64 values each, as many as its own plane has.
+    // Rules out: the blocks of the full plane, and the count of values.
+    pub fn block_count(&self) -> usize
+        ensures { (result ≡ block_count self.now.own) × (result * 64 ≡ px_count self.now.own) }
+    {
+        self.own.width / 8 * (self.own.height / 8)
     }
-}
 
-// Block i of the image, and then the whole image reordered. The Rust's clone of the image goes to `scratch`.
-fn image_block(
-    image: &mut [f32],
-    scratch: &mut [f32],
-    o: Own,
-    lows: &[i16],
-    highs: &[i16],
-    table: &[u16],
-    i: usize,
-)
-    requires { Eights o × Lent o (pairs lows.now highs.now) table.now × (i < o.width / 8 * (o.height / 8))
-        × (length image.old ≡ o.width * o.height) × (length scratch.old ≡ o.width * o.height) }
-    ensures { image.new ≡ image_block (coef o (pairs lows.now highs.now) table.now) i image.old }
-{
-    let w = o.width;
-    let h = o.height;
-    dequantise(image, lows, highs, table, i);
-    utils::dct::idct_block(image, i);
-    utils::slices::copy(&image[..], scratch);
-    utils::blocks::from_blocks(&scratch[..], image, w, h, w / 8, h / 8);
-}
-
-// The channel's pixels in its own sides. Above width 8 the image is reordered after each block.
-// Rules out: the image reordered once, after the last block, and values that `image` held before.
-fn image_data(
-    image: &mut [f32],
-    scratch: &mut [f32],
-    o: Own,
-    lows: &[i16],
-    highs: &[i16],
-    table: &[u16],
-)
-    requires { Eights o × Lent o (pairs lows.now highs.now) table.now
-        × (length image.old ≡ o.width * o.height) × (length scratch.old ≡ o.width * o.height) }
-    ensures { image.new ≡ image_data (coef o (pairs lows.now highs.now) table.now) }
-{
-    let n = block_count(o);
-    utils::slices::zero(image);
-    for i in 0..n {
-        image_block(image, scratch, o, lows, highs, table, i);
+    // The values of the own plane, which are no more than those of the full plane.
+    // Rules out: the full plane's count, and the count of blocks.
+    pub fn px_count(&self) -> usize
+        ensures { (result ≡ px_count self.now.own) × (result ≤ self.now.w * self.now.h) }
+    {
+        self.own.width * self.own.height
     }
-}
 
-// The saved coefficients at the start: half sum × quantiser.
-// Rules out: the inverse transform of those values, and a value changed past the channel's own.
-pub fn init_dct_target(out: &mut [f32], o: Own, lows: &[i16], highs: &[i16], table: &[u16])
-    requires { Eights o × Lent o (pairs lows.now highs.now) table.now × (o.width * o.height ≤ length out.old) }
-    ensures { out.new ≡ init_dct_target (coef o (pairs lows.now highs.now) table.now) out.old }
-{
-    let n = block_count(o);
-    for i in 0..n {
-        dequantise(out, lows, highs, table, i);
+    // The place in the full plane of the subsample (sx, sy) of the own sample (cx, cy).
+    // Rules out: the factors exchanged, and rows as wide as the own plane's.
+    pub fn spot(&self, cy: usize, cx: usize, sy: usize, sx: usize) -> usize
+        requires { (cy < self.now.own.height) × (cx < self.now.own.width) × (sy < self.now.own.vertical) × (sx < self.now.own.horizontal) }
+        ensures { (result ≡ spot self.now.own self.now.w cy cx sy sx) × (result < self.now.w * self.now.h) }
+    {
+        (cy * self.own.vertical + sy) * self.w + (cx * self.own.horizontal + sx)
     }
-}
 
-// The channel's pixels in its own sides, reordered once: T.81's placement.
-fn image_once(
-    image: &mut [f32],
-    scratch: &mut [f32],
-    o: Own,
-    lows: &[i16],
-    highs: &[i16],
-    table: &[u16],
-)
-    requires { Eights o × Lent o (pairs lows.now highs.now) table.now
-        × (length image.old ≡ o.width * o.height) × (length scratch.old ≡ o.width * o.height) }
-    ensures { image.new ≡ image_once (coef o (pairs lows.now highs.now) table.now) }
-{
-    let w = o.width;
-    let h = o.height;
-    let n = block_count(o);
-    utils::slices::zero(image);
-    init_dct_target(image, o, lows, highs, table);
-    utils::dct::idct_blocks(image, n);
-    utils::slices::copy(&image[..], scratch);
-    utils::blocks::from_blocks(&scratch[..], image, w, h, w / 8, h / 8);
-}
-
-// Either image. Rules out: with `Once` a reordering after each block, and none with `Each`.
-pub fn image_of(
-    image: &mut [f32],
-    scratch: &mut [f32],
-    o: Own,
-    reorder: Reorder,
-    lows: &[i16],
-    highs: &[i16],
-    table: &[u16],
-)
-    requires { Eights o × Lent o (pairs lows.now highs.now) table.now
-        × (length image.old ≡ o.width * o.height) × (length scratch.old ≡ o.width * o.height) }
-    ensures { image.new ≡ image_of reorder (coef o (pairs lows.now highs.now) table.now) }
-{
-    match reorder {
-        Reorder::Each => image_data(image, scratch, o, lows, highs, table),
-        Reorder::Once => image_once(image, scratch, o, lows, highs, table),
+    // f done to each place of the own sample (cx, cy).
+    // Rules out: a place left out or taken twice, and f of another place's value.
+    pub fn change<F: Fn(f32) -> f32>(&self, plane: &mut [f32], cy: usize, cx: usize, f: F)
+        requires { F.IsAlwaysCallable f × (cy < self.now.own.height) × (cx < self.now.own.width) × (length plane.old ≡ self.now.w * self.now.h) }
+        ensures { (g : Float → Float) → ((x y : Float) → F.post f x y → y ≡ g x) → plane.new ≡ change g self.now.own self.now.w cy cx plane.old }
+    {
+        for sy in 0..self.own.vertical {
+            for sx in 0..self.own.horizontal {
+                let k = self.spot(cy, cx, sy, sx);
+                plane[k] = f(plane[k]);
+            }
+        }
     }
-}
 
-// The place in the full plane of the subsample (sx, sy) of the own sample (cx, cy).
-// Rules out: the factors exchanged, and rows as wide as the own plane's.
-pub fn spot(o: Own, w: usize, h: usize, cy: usize, cx: usize, sy: usize, sx: usize) -> usize
-    requires { Covers o w h × (cy < o.height) × (cx < o.width) × (sy < o.vertical) × (sx < o.horizontal) }
-    ensures { (result ≡ spot o w cy cx sy sx) × (result < w * h) }
-{
-    let horizontal = o.horizontal;
-    let vertical = o.vertical;
-    (cy * vertical + sy) * w + (cx * horizontal + sx)
+    // The values of the levels of block i: half sum × quantiser.
+    fn dequantise(&self, out: &mut [f32], i: usize)
+        requires { (i * 64 + 64 ≤ px_count self.now.own) × (i * 64 + 64 ≤ length out.old) }
+        ensures { out.new ≡ dequantise (as_coef self.now).middle self.now.table.now i out.old }
+    {
+        for (j, &q) in self.table.iter().enumerate() {
+            let k = i * 64 + j;
+            out[k] = interval::dequantised(self.lows[k], self.highs[k], q);
+        }
+    }
+
+    // The image from block order to raster order. The Rust's clone of the image goes to `scratch`.
+    fn reorder(&self, image: &mut [f32], scratch: &mut [f32])
+        requires { (length image.old ≡ px_count self.now.own) × (length scratch.old ≡ px_count self.now.own) }
+        ensures { image.new ≡ from_blocks self.now.own.width (block_w self.now.own) (block_h self.now.own) image.old image.old }
+    {
+        let w = self.own.width;
+        let h = self.own.height;
+        scratch.copy_from_slice(image);
+        utils::blocks::from_blocks(scratch, image, w, h, w / 8, h / 8);
+    }
+
+    // Block i of the image, and then the whole image reordered.
+    fn image_block(&self, image: &mut [f32], scratch: &mut [f32], i: usize)
+        requires { (i * 64 + 64 ≤ px_count self.now.own) × (length image.old ≡ px_count self.now.own) × (length scratch.old ≡ px_count self.now.own) }
+        ensures { image.new ≡ image_block (as_coef self.now) i image.old }
+    {
+        self.dequantise(image, i);
+        utils::dct::idct_block(image, i);
+        self.reorder(image, scratch);
+    }
+
+    // The channel's pixels in its own sides. Above width 8 the image is reordered after each block.
+    // Rules out: the image reordered once, after the last block, and values that `image` held before.
+    fn image_data(&self, image: &mut [f32], scratch: &mut [f32])
+        requires { (length image.old ≡ px_count self.now.own) × (length scratch.old ≡ px_count self.now.own) }
+        ensures { image.new ≡ image_data (as_coef self.now) }
+    {
+        image.fill(0.0);
+        for i in 0..self.block_count() {
+            self.image_block(image, scratch, i);
+        }
+    }
+
+    // The saved coefficients at the start: half sum × quantiser.
+    // Rules out: the inverse transform of those values, and a value changed past the channel's own.
+    pub fn init_dct_target(&self, out: &mut [f32])
+        requires { px_count self.now.own ≤ length out.old }
+        ensures { out.new ≡ init_dct_target (as_coef self.now) out.old }
+    {
+        for i in 0..self.block_count() {
+            self.dequantise(out, i);
+        }
+    }
+
+    // The channel's pixels in its own sides, reordered once: T.81's placement.
+    fn image_once(&self, image: &mut [f32], scratch: &mut [f32])
+        requires { (length image.old ≡ px_count self.now.own) × (length scratch.old ≡ px_count self.now.own) }
+        ensures { image.new ≡ image_once (as_coef self.now) }
+    {
+        image.fill(0.0);
+        self.init_dct_target(image);
+        utils::dct::idct_blocks(image, self.block_count());
+        self.reorder(image, scratch);
+    }
+
+    // Either image. Rules out: with `Once` a reordering after each block, and none with `Each`.
+    pub fn image_of(&self, image: &mut [f32], scratch: &mut [f32], reorder: Reorder)
+        requires { (length image.old ≡ px_count self.now.own) × (length scratch.old ≡ px_count self.now.own) }
+        ensures { image.new ≡ image_of reorder (as_coef self.now) }
+    {
+        match reorder {
+            Reorder::Each => self.image_data(image, scratch),
+            Reorder::Once => self.image_once(image, scratch),
+        }
+    }
 }

@@ -1,5 +1,4 @@
 -- Laws for the crates above.
-pub mod Pass
 pub mod Laws
 pub mod Examples
 pub mod Marks

@@ -10,6 +10,7 @@ pub struct Constants {
     pub term: f32,
     pub factor: f32,
     pub step_size: f32,
+    // Kept: the weight of the second-order terms, as the Rust's comments call them: no field by its number.
     pub second: f32,
 }
 
@@ -33,11 +34,7 @@ const MARKS: [f32; 16] = [
 fn mark_before(step: u32) -> usize
     ensures { (result < 16) × (64 * result ≤ step) }
 {
-    let k = step / 64;
-    if 15 < k {
-        return 15;
-    }
-    k as usize
+    (step as usize / 64).min(15)
 }
 
 // The term of a step, counted from 0: from the last mark on, as many turns as steps are left.
@@ -69,7 +66,7 @@ pub fn step_constants(w: u32, h: u32, iterations: u32, weight: f32, step: u32) -
     let radius = root_of(w * h) / 2.0;
     let rest = wide::sqrt(1.0 + std::num::nearest_u32_to_f32(iterations));
     Constants {
-        term: term,
+        term,
         factor: (term - 1.0) / next_term(term),
         step_size: radius / rest,
         second: weight / wide::sqrt(2.0),
@@ -83,6 +80,7 @@ pub fn push_places(plane: &mut [f32], prior: &mut [f32], factor: f32, n: usize)
     ensures { PushedTo factor (record { plane = plane.old; prior = prior.old }) n
         (record { plane = plane.new; prior = prior.new }) }
 {
+    // Kept: tried with a `zip` of two `iter_mut`, and the proof didn't close: after it nothing is known of the values that were stored.
     for i in 0..n {
         let old_plane = plane[i];
         let old_prior = prior[i];

@@ -16,8 +16,7 @@ fn gradient_norm(gradient: &[f32]) -> f32
     ensures { result ≡ gradient_norm gradient.now }
 {
     let mut acc = 0.0f32;
-    for i in 0..gradient.len() {
-        let x = gradient[i];
+    for &x in gradient {
         acc = float::mul_add_rounded(x, x, acc);
     }
     wide::sqrt(acc)
@@ -29,11 +28,10 @@ pub fn move_plane(plane: &mut [f32], gradient: &[f32], k: Constants)
     requires { length plane.old ≡ length gradient.now }
     ensures { plane.new ≡ moved k.step_size gradient.now plane.old }
 {
-    let step_size = k.step_size;
     let norm = gradient_norm(gradient);
     if norm != 0.0 {
-        for i in 0..plane.len() {
-            plane[i] = wide::mul_add(step_size, -(gradient[i] / norm), plane[i]);
+        for (i, x) in plane.iter_mut().enumerate() {
+            *x = wide::mul_add(k.step_size, -(gradient[i] / norm), *x);
         }
     }
 }

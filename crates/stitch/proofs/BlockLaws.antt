@@ -57,8 +57,8 @@ blocks_drop (suc n) (r ∷ rs) ls hs = blocks_drop n rs (drop 64 ls) (drop 64 hs
 pub blocks_both : (rs : List Bool) (ls hs : List ℤ) (qs : List Bool) (xs ys : List ℤ) → length ls ≡ 64 * length rs → length hs ≡ 64 * length rs
     → block_lines (rs ++ qs) (ls ++ xs) (hs ++ ys) ≡ block_lines rs ls hs ++ block_lines qs xs ys
 blocks_both [] [] [] qs xs ys n m = refl
-blocks_both [] [] (y ∷ hs) qs xs ys n m = let w : ⊥ = omega arith in absurd w
-blocks_both [] (z ∷ ls) hs qs xs ys n m = let w : ⊥ = omega arith in absurd w
+blocks_both [] [] (y ∷ hs) qs xs ys n m = absurd (omega arith)
+blocks_both [] (z ∷ ls) hs qs xs ys n m = absurd (omega arith)
 blocks_both (r ∷ rs) ls hs qs xs ys n m =
     let p : 64 ≤ length ls = omega arith in
     let q : 64 ≤ length hs = omega arith in
@@ -135,8 +135,8 @@ kinds_first (suc n) (r ∷ rs) ls hs k = (
 kinds_both : (rs : List Bool) (ls hs : List ℤ) (qs : List Bool) (xs ys : List ℤ) → length ls ≡ 64 * length rs → length hs ≡ 64 * length rs → LegalKinds rs ls hs → LegalKinds qs xs ys
     → LegalKinds (rs ++ qs) (ls ++ xs) (hs ++ ys)
 kinds_both [] [] [] qs xs ys n m k l = l
-kinds_both [] [] (y ∷ hs) qs xs ys n m k l = let w : ⊥ = omega arith in absurd w
-kinds_both [] (z ∷ ls) hs qs xs ys n m k l = let w : ⊥ = omega arith in absurd w
+kinds_both [] [] (y ∷ hs) qs xs ys n m k l = absurd (omega arith)
+kinds_both [] (z ∷ ls) hs qs xs ys n m k l = absurd (omega arith)
 kinds_both (r ∷ rs) ls hs qs xs ys n m k l =
     let p : 64 ≤ length ls = omega arith in
     let q : 64 ≤ length hs = omega arith in (

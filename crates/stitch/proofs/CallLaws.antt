@@ -9,35 +9,36 @@ use lib.Dec.{eqb, leb}
 use lib.IntN.{ℤ}
 use lib.ListN.{length, take, drop, drop_of_length-le}
 use lib.Seq.{sets, sets-eq}
-use borrow.Author.Tests.{eq-eqb, ne_eqb, le-leb, lt-leb, leb-true}
+use borrow.Author.Tests.{eq-eqb, ne_eqb, leb-true}
 use Rattle.digits.specs.Written.{decimal}
 use Rattle.digits.proofs.Both.{both_left}
+use Rattle.std.specs.Prelude.{Result, Ok, Err, Some}
 use Rattle.contents.specs.declared.Sheet.{Sheet}
 use Rattle.contents.specs.Sheets.{lent, channels_of}
 use Rattle.contents.specs.Hold.{hold_at}
 use Rattle.contents.specs.Legal.{LegalSheet, LegalBlocks, LegalMarks}
+use Rattle.refusal.specs.Refusal.{number_of}
+use Rattle.stitch.specs.declared.Side.{Side}
 use Rattle.sheet.specs.declared.walk.Walked.{Walked}
-use Rattle.sheet.specs.declared.walk.Walked.TheVariants as walked
+use Rattle.sheet.specs.declared.walk.Refused as walk
+use Rattle.sheet.specs.Walk.{walked_of, Stores, Walks}
 use Rattle.sheet.specs.Reading.{Outcome, Contents, contents, read_text}
 use Rattle.sheet.specs.Reading.Outcome.{Gives, Refused}
-use Rattle.sheet.specs.Walk.{walked_of, Stores, Walks}
 use Rattle.grammar.specs.Longest.{longest}
 use Rattle.grammar.proofs.CanonicalLaws.{canonical}
 use Rattle.grammar.proofs.LegalLaws.{legal, legal_blocks, legal_marks}
 use Rattle.grammar.proofs.RoundTrip.{round_trip}
 use Rattle.grammar.proofs.PrefixLaws.{at-most}
-use Rattle.copying.specs.Parts.{Put}
-use Rattle.stitch.specs.declared.Judged.{Judged}
-use Rattle.stitch.specs.declared.Judged.TheVariants as judged
-use Rattle.stitch.specs.declared.Measured.TheVariants as measured
-use Rattle.stitch.specs.declared.Answer.TheVariants as answer
+use Rattle.stitch.specs.declared.Fit.{Fit}
+use Rattle.stitch.specs.declared.Refused as faults
+use Rattle.stitch.specs.Numbers.{Numbers, which_of, numbers}
 use Rattle.seam.specs.Seam.{same_header, same_letters, same_holds, same_channels, same_sheet, same_tables, seam}
 use Rattle.stitch.specs.Stitched.{stitched_sheet, stitched_held}
 use Rattle.seam.specs.Used.{used_of, holds_used, same_used}
 use Rattle.stitch.specs.Bytes.{stitch_text}
 use Rattle.stitch.specs.Calls.{whole, Stitch, output_of, joining, stitching, measuring, sized, answering, out_after, Stitches}
 use Rattle.stitch.specs.Calls.Stitch.{Text, Fault}
-use Rattle.stitch.specs.Judging.{Listed, Outlines, judging, fit_of}
+use Rattle.stitch.specs.Judging.{Listed, Outlines, outlining, neither, judging, fit_of}
 use Rattle.stitch.proofs.TextLaws.{as_copied}
 use Rattle.stitch.proofs.LegalLaws.{Fits, header_fits, sheets_fit, used_is, pair, stitched_legal, stitched_blocks, stitched-marks}
 
@@ -47,25 +48,31 @@ listed : (T : Outcome Contents) (l h a b : List ℤ) (before after : List ℕ) �
 listed (Gives c) l h a b before after s = s.2
 listed (Refused k line) l h a b before after s = tt
 
-pub outlined : (text : List ℕ) (l h a b : List ℤ) (before after bits : List ℕ) (r : Walked) → Walks whole text (lent l h before) (lent a b after) bits r → Outlines text before after r
-outlined text l h a b before after bits r w = record { answer = w.answer; tables = listed (read_text whole text) l h a b before after w.stored }
+outlined_ok : (which : ℕ) (T : Outcome Contents) (w : Walked) → Gives w ≡ walked_of T → Ok w.sheet ≡ outlining which T
+outlined_ok which (Gives c) w e =
+    let g : w ≡ record { sheet = c.sheet; lows = length c.held.lent.lows; highs = length c.held.lent.highs; tables = length c.held.lent.tables } = cc in
+    ap (λ (x : Walked). Ok x.sheet) g
+outlined_ok which (Refused k line) w e = absurd cc
 
--- no outcome is both
-gives_not : {A : Type 0} (c : Contents) (k line : ℕ) → walked_of (Gives c) ≡ walked.Refused k line → A
-gives_not c k line e = let z : ◌≡◌ {A = ℕ} 0 1 = cc in let y : ⊥ = omega arith in absurd y
+outlined_err : (which k line : ℕ) (T : Outcome Contents) → Refused k line ≡ walked_of T → Err (record { number = k; which = which; line = line }) ≡ outlining which T
+outlined_err which k line (Gives c) e = absurd cc
+outlined_err which k line (Refused j b) e = cc
 
-refused_not : {A : Type 0} (j b : ℕ) (s : Sheet) (n h m : ℕ) → walked_of (Refused j b) ≡ walked.Sheet s n h m → A
-refused_not j b s n h m e = let z : ◌≡◌ {A = ℕ} 0 1 = cc in let y : ⊥ = omega arith in absurd y
+module _ (side : Side) (text : List ℕ) (l h a b : List ℤ) (before after bits : List ℕ) where
+  pub outlined : (w : Walked) → Walks whole text (lent l h before) (lent a b after) bits (Ok w) → Outlines side text before after (Ok w.sheet)
+  outlined w o =
+      record {
+        answer = outlined_ok (which_of (Some side)) (read_text whole text) w o.answer;
+        tables = listed (read_text whole text) l h a b before after o.stored;
+      }
 
-pub judge_left : (T U : Outcome Contents) (w : Walked) (k line : ℕ) → w ≡ walked_of T → w ≡ walked.Refused k line → judged.Refused k 1 line ≡ judging T U
-judge_left (Gives c) U w k line e p = gives_not c k line (sym e ∙ p)
-judge_left (Refused j b) U w k line e p = cc
-
-pub judge_right : (T U : Outcome Contents) (w : Walked) (s : Sheet) (n h m : ℕ) (v : Walked) (k line : ℕ) → w ≡ walked_of T → w ≡ walked.Sheet s n h m → v ≡ walked_of U → v ≡ walked.Refused k line
-    → judged.Refused k 2 line ≡ judging T U
-judge_right (Refused j b) U w s n h m v k line e p f q = refused_not j b s n h m (sym e ∙ p)
-judge_right (Gives c) (Gives d) w s n h m v k line e p f q = gives_not d k line (sym f ∙ q)
-judge_right (Gives c) (Refused j b) w s n h m v k line e p f q = cc
+  pub unread : (r : walk.Refused) (s : faults.Refused) → numbers s ≡ record { number = number_of r.refusal; which = which_of (Some side); line = r.line }
+      → Walks whole text (lent l h before) (lent a b after) bits (Err r) → Outlines side text before after (Err s)
+  unread r s n o =
+      record {
+        answer = ap Err n ∙ outlined_err (which_of (Some side)) (number_of r.refusal) r.line (read_text whole text) o.answer;
+        tables = listed (read_text whole text) l h a b before after o.stored;
+      }
 
 -- Whether they fit
 
@@ -98,8 +105,8 @@ itself (x ∷ xs) = rw (eq-eqb x x refl) (itself xs)
 
 tables_front : (xs ys zs : List ℕ) → length xs ≡ length ys → same_tables (xs ++ zs) (ys ++ zs) ≡ same_tables xs ys
 tables_front [] [] zs e = itself zs
-tables_front [] (y ∷ ys) zs e = let w : ⊥ = omega arith in absurd w
-tables_front (x ∷ xs) [] zs e = let w : ⊥ = omega arith in absurd w
+tables_front [] (y ∷ ys) zs e = absurd (omega arith)
+tables_front (x ∷ xs) [] zs e = absurd (omega arith)
 tables_front (x ∷ xs) (y ∷ ys) zs e = ap (λ (b : Bool). eqb x y && b) (tables_front xs ys zs (omega arith))
 
 tables_are : (z xs ys : List ℕ) → length xs ≡ length ys → length xs ≤ length z → same_tables (sets z 0 xs) (sets z 0 ys) ≡ same_tables xs ys
@@ -180,140 +187,92 @@ all_set l vs e = sets-eq vs l 0 (omega arith) ∙ rw (drop_of_length-le l {i = 0
 -- Two sheets that fit: the text that is copied is what stitching gives, and it has a length
 pub record Fitted (left right : List ℕ) (s t : Sheet) : Type 0 where
   pub text : stitching left right ≡ Text (stitch_text s t left right)
-  pub short : 0 + length (stitch_text s t left right) < 2 ^ 64
+  pub short : length (stitch_text s t left right) < 2 ^ 64
 
-fitted : (left right : List ℕ) (T U : Outcome Contents) → read_text whole left ≡ T → read_text whole right ≡ U → (s t : Sheet) → judging T U ≡ judged.Fit s t → Fitted left right s t
-fitted left right (Refused k line) U p q s t e = let z : ◌≡◌ {A = ℕ} 0 1 = cc in let y : ⊥ = omega arith in absurd y
-fitted left right (Gives c) (Refused k line) p q s t e = let z : ◌≡◌ {A = ℕ} 0 1 = cc in let y : ⊥ = omega arith in absurd y
-fitted left right (Gives c) (Gives d) p q s t e = by (seam c d) refl (leb (c.sheet.header.width + d.sheet.header.width) 512) refl e
+fit_by : (left right : List ℕ) (T U : Outcome Contents) → read_text whole left ≡ T → read_text whole right ≡ U → (f : Fit) → Ok f ≡ judging T U → Fitted left right f.left f.right
+fit_by left right (Refused k line) U p q f e = absurd cc
+fit_by left right (Gives c) (Refused k line) p q f e = absurd cc
+fit_by left right (Gives c) (Gives d) p q f e = by (seam c d) refl (leb (c.sheet.header.width + d.sheet.header.width) 512) refl e
   where
     by : (a : Bool) → seam c d ≡ a → (b : Bool) → leb (c.sheet.header.width + d.sheet.header.width) 512 ≡ b
-        → cond a (cond b (judged.Fit c.sheet d.sheet) (judged.Refused 2 0 0)) (judged.Refused 16 0 0) ≡ judged.Fit s t → Fitted left right s t
-    by false f b g e = let z : ◌≡◌ {A = ℕ} 0 1 = cc in let y : ⊥ = omega arith in absurd y
-    by true f false g e = let z : ◌≡◌ {A = ℕ} 0 1 = cc in let y : ⊥ = omega arith in absurd y
-    by true f true g e =
-        let a : c.sheet ≡ s = cc in
-        let b : d.sheet ≡ t = cc in
-        let w = leb-true (c.sheet.header.width + d.sheet.header.width) 512 g in
-        let x : stitch_text s t left right ≡ output_of c d = (λ i. stitch_text (sym a i) (sym b i) left right) ∙ text_is left right c d p q f w in
-        record { text = whole_text left right c d p q f g ∙ ap Text (sym x); short = omega (arith, ap length x, text_fits left right c d p q f w) }
+        → Ok f ≡ cond a (cond b (Ok (record { left = c.sheet; right = d.sheet })) (Err (neither 2))) (Err (neither 16)) → Fitted left right f.left f.right
+    by false m b n e = absurd cc
+    by true m false n e = absurd cc
+    by true m true n e =
+        let g : f ≡ record { left = c.sheet; right = d.sheet } = cc in
+        let w = leb-true (c.sheet.header.width + d.sheet.header.width) 512 n in
+        let x : stitch_text f.left f.right left right ≡ output_of c d = ap (λ (k : Fit). stitch_text k.left k.right left right) g ∙ text_is left right c d p q m w in
+        record { text = whole_text left right c d p q m n ∙ ap Text (sym x); short = omega (arith, ap length x, text_fits left right c d p q m w) }
 
-pub fit : (left right : List ℕ) (j : Judged) (s t : Sheet) → j ≡ judging (read_text whole left) (read_text whole right) → j ≡ judged.Fit s t → Fitted left right s t
-fit left right j s t e p = fitted left right (read_text whole left) (read_text whole right) refl refl s t (sym e ∙ p)
+-- of a refusal
+abbrev fault : Numbers → Stitch
+fault n = Fault n.number n.which n.line
 
-pub unfit : (left right : List ℕ) (j : Judged) (k which line : ℕ) → j ≡ judging (read_text whole left) (read_text whole right) → j ≡ judged.Refused k which line → stitching left right ≡ Fault k which line
-unfolding stitching
-unfit left right j k which line e p = by (read_text whole left) (read_text whole right) (sym e ∙ p)
-  where
-    by : (T U : Outcome Contents) → judging T U ≡ judged.Refused k which line → joining T U ≡ Fault k which line
-    by (Refused a b) U e = cc
-    by (Gives c) (Refused a b) e = cc
-    by (Gives c) (Gives d) e = tests (seam c d) (leb (c.sheet.header.width + d.sheet.header.width) 512) e
-      where
-        tests : (a b : Bool) → cond a (cond b (judged.Fit c.sheet d.sheet) (judged.Refused 2 0 0)) (judged.Refused 16 0 0) ≡ judged.Refused k which line
-            → cond a (cond b (Text (output_of c d)) (Fault 2 0 0)) (Fault 16 0 0) ≡ Fault k which line
-        tests false b e = cc
-        tests true false e = cc
-        tests true true e = cc
+module _ (left right : List ℕ) where
+  pub fit : (f : Fit) → Ok f ≡ judging (read_text whole left) (read_text whole right) → Fitted left right f.left f.right
+  fit f e = fit_by left right (read_text whole left) (read_text whole right) refl refl f e
 
--- the calls
-module _ (left right : List ℕ) (j : Judged) (e : j ≡ judging (read_text whole left) (read_text whole right)) where
-  pub measured_refused : (k which line : ℕ) → j ≡ judged.Refused k which line → measured.Refused k which line ≡ measuring (stitching left right)
-  measured_refused k which line p = ap measuring (sym (unfit left right j k which line e p))
+  unfit : (n : Numbers) → Err n ≡ judging (read_text whole left) (read_text whole right) → stitching left right ≡ fault n
+  unfolding stitching
+  unfit n e = by (read_text whole left) (read_text whole right) e
+    where
+      by : (T U : Outcome Contents) → Err n ≡ judging T U → joining T U ≡ fault n
+      by (Refused a b) U e = let g : ◌≡◌ {A = Numbers} (record { number = a; which = 1; line = b }) n = cc in ap fault g
+      by (Gives c) (Refused a b) e = let g : ◌≡◌ {A = Numbers} (record { number = a; which = 2; line = b }) n = cc in ap fault g
+      by (Gives c) (Gives d) e = tests (seam c d) (leb (c.sheet.header.width + d.sheet.header.width) 512) e
+        where
+          tests : (a b : Bool) → ◌≡◌ {A = Result Fit Numbers} (Err n) (cond a (cond b (Ok (record { left = c.sheet; right = d.sheet })) (Err (neither 2))) (Err (neither 16)))
+              → cond a (cond b (Text (output_of c d)) (Fault 2 0 0)) (Fault 16 0 0) ≡ fault n
+          tests false b e = let g : neither 16 ≡ n = cc in ap fault g
+          tests true false e = let g : neither 2 ≡ n = cc in ap fault g
+          tests true true e = absurd cc
 
-  pub stitch_refused : (out : List ℕ) (k which line : ℕ) → j ≡ judged.Refused k which line → Stitches left right out out (answer.Refused k which line)
-  stitch_refused out k which line p =
-      let q = unfit left right j k which line e p in
+  -- the calls
+  pub measured_refused : (n : Numbers) → Err n ≡ judging (read_text whole left) (read_text whole right) → Err n ≡ measuring (stitching left right)
+  measured_refused n e = ap measuring (sym (unfit n e))
+
+  pub measured_fit : (f : Fit) → Ok f ≡ judging (read_text whole left) (read_text whole right) → Ok (length (stitch_text f.left f.right left right)) ≡ measuring (stitching left right)
+  measured_fit f e = ap measuring (sym (fit f e).text)
+
+  pub stitch_refused : (out : List ℕ) (r : faults.Refused) → Err (numbers r) ≡ judging (read_text whole left) (read_text whole right) → Stitches left right out out (Err r)
+  stitch_refused out r e =
+      let q = unfit (numbers r) e in
       record { answer = sym (ap (λ (x : Stitch). answering (sized out x)) q); out = sym (ap (λ (x : Stitch). out_after (sized out x) out) q) }
 
-  module _ (s t : Sheet) (p : j ≡ judged.Fit s t) where
-    pub room : 0 + length (stitch_text s t left right) < 2 ^ 64
-    room = (fit left right j s t e p).short
+  module _ (f : Fit) (e : Ok f ≡ judging (read_text whole left) (read_text whole right)) (out : List ℕ) where
+    pub stitch_length : (length (stitch_text f.left f.right left right) ≡ length out → ⊥) → (r : faults.Refused) → numbers r ≡ neither 8 → Stitches left right out out (Err r)
+    stitch_length h r n =
+        let z : eqb (length (stitch_text f.left f.right left right)) (length out) ≡ false = ne_eqb (length (stitch_text f.left f.right left right)) (length out) h in
+        let g : sized out (stitching left right) ≡ Fault 8 0 0 = ap (sized out) (fit f e).text ∙ ap (λ (b : Bool). cond b (Text (stitch_text f.left f.right left right)) (Fault 8 0 0)) z in
+        record { answer = ap Err n ∙ sym (ap answering g); out = sym (ap (λ (x : Stitch). out_after x out) g) }
 
-    pub measured_fit : (none after : List ℕ) (r : ℕ) → Put none 0 (stitch_text s t left right) after r → measured.Length r ≡ measuring (stitching left right)
-    measured_fit none after r o =
-        let n : r ≡ length (stitch_text s t left right) = omega (arith, o.next) in
-        ap measured.Length n ∙ sym (ap measuring (fit left right j s t e p).text)
-
-    module _ (none after : List ℕ) (r : ℕ) (o : Put none 0 (stitch_text s t left right) after r) (out : List ℕ) where
-      pub stitch_length : (r ≡ length out → ⊥) → Stitches left right out out (answer.Refused 8 0 0)
-      stitch_length h =
-          let n : r ≡ length (stitch_text s t left right) = omega (arith, o.next) in
-          let q = (fit left right j s t e p).text in
-          let z : eqb (length (stitch_text s t left right)) (length out) ≡ false = ne_eqb (length (stitch_text s t left right)) (length out) (λ m. h (n ∙ m)) in
-          let g : sized out (stitching left right) ≡ Fault 8 0 0 = ap (sized out) q ∙ ap (λ (b : Bool). cond b (Text (stitch_text s t left right)) (Fault 8 0 0)) z in
-          record { answer = sym (ap answering g); out = sym (ap (λ (x : Stitch). out_after x out) g) }
-
-      pub stitch_done : r ≡ length out → (last : List ℕ) (m : ℕ) → Put out 0 (stitch_text s t left right) last m → Stitches left right out last answer.Done
-      stitch_done h last m v =
-          let n : r ≡ length (stitch_text s t left right) = omega (arith, o.next) in
-          let k : length (stitch_text s t left right) ≡ length out = sym n ∙ h in
-          let q = (fit left right j s t e p).text in
-          let g : sized out (stitching left right) ≡ Text (stitch_text s t left right) =
-          ap (sized out) q ∙ ap (λ (b : Bool). cond b (Text (stitch_text s t left right)) (Fault 8 0 0)) (eq-eqb (length (stitch_text s t left right)) (length out) k) in
-          let a : last ≡ stitch_text s t left right = v.last ∙ all_set out (stitch_text s t left right) k in
-          record { answer = sym (ap answering g); out = a ∙ sym (ap (λ (x : Stitch). out_after x out) g) }
+    pub stitch_done : length (stitch_text f.left f.right left right) ≡ length out → (last : List ℕ) → last ≡ sets out 0 (stitch_text f.left f.right left right) → Stitches left right out last (Ok tt)
+    stitch_done h last l =
+        let z = eq-eqb (length (stitch_text f.left f.right left right)) (length out) h in
+        let g : sized out (stitching left right) ≡ Text (stitch_text f.left f.right left right) =
+        ap (sized out) (fit f e).text ∙ ap (λ (b : Bool). cond b (Text (stitch_text f.left f.right left right)) (Fault 8 0 0)) z in
+        let a : last ≡ stitch_text f.left f.right left right = l ∙ all_set out (stitch_text f.left f.right left right) h in
+        record { answer = sym (ap answering g); out = a ∙ sym (ap (λ (x : Stitch). out_after x out) g) }
 
 -- What judging answers
 
-module _ (left right z a b : List ℕ) (n : length z ≡ 192) (w v : Walked) (s t : Sheet) (i j k i' j' k' : ℕ)
-    (o : Outlines left z a w) (x : Outlines right z b v) (p : w ≡ walked.Sheet s i j k) (q : v ≡ walked.Sheet t i' j' k') where
-  -- both texts have contents
-  record BothRead : Type 0 where
-    c : Contents
-    d : Contents
-    left_is : read_text whole left ≡ Gives c
-    right_is : read_text whole right ≡ Gives d
-    left_sheet : c.sheet ≡ s
-    right_sheet : d.sheet ≡ t
-    left_tables : a ≡ sets z 0 c.held.lent.tables
-    right_tables : b ≡ sets z 0 d.held.lent.tables
-
-  both_read : BothRead
-  both_read = by (read_text whole left) refl (read_text whole right) refl (sym o.answer ∙ p) (sym x.answer ∙ q) o.tables x.tables
-    where
-      by : (T : Outcome Contents) → read_text whole left ≡ T → (U : Outcome Contents) → read_text whole right ≡ U → walked_of T ≡ walked.Sheet s i j k → walked_of U ≡ walked.Sheet t i' j' k'
-          → Listed T z a → Listed U z b → BothRead
-      by (Refused m l) f U g e h y u = refused_not m l s i j k e
-      by (Gives c) f (Refused m l) g e h y u = refused_not m l t i' j' k' h
-      by (Gives c) f (Gives d) g e h y u = record { c = c; d = d; left_is = f; right_is = g; left_sheet = cc; right_sheet = cc; left_tables = y; right_tables = u }
-
-  answers : (y : Judged) → ((c d : Contents) → read_text whole left ≡ Gives c → read_text whole right ≡ Gives d → c.sheet ≡ s → d.sheet ≡ t → a ≡ sets z 0 c.held.lent.tables → b ≡ sets z 0 d.held.lent.tables
-      → y ≡ judging (Gives c) (Gives d)) → y ≡ judging (read_text whole left) (read_text whole right)
-  answers y f =
-      f both_read.c both_read.d both_read.left_is both_read.right_is both_read.left_sheet both_read.right_sheet both_read.left_tables both_read.right_tables
-      ∙ (λ i. judging (sym both_read.left_is i) (sym both_read.right_is i))
-
-  seam_is : (c d : Contents) → read_text whole left ≡ Gives c → read_text whole right ≡ Gives d → c.sheet ≡ s → d.sheet ≡ t → a ≡ sets z 0 c.held.lent.tables → b ≡ sets z 0 d.held.lent.tables
-      → (same_used s t && same_tables a b) ≡ seam c d
+-- both are read
+module _ (left right z a b : List ℕ) (n : length z ≡ 192) (s t : Sheet) where
+  pub judge_both : (T U : Outcome Contents) → read_text whole left ≡ T → read_text whole right ≡ U → Ok s ≡ outlining 1 T → Ok t ≡ outlining 2 U → Listed T z a → Listed U z b → fit_of s t a b ≡ judging T U
   unfolding seam
-  seam_is c d f g h y u l = by (same_sheet c.sheet d.sheet) refl
+  judge_both (Refused m l) U f g e h y u = absurd cc
+  judge_both (Gives c) (Refused m l) f g e h y u = absurd cc
+  judge_both (Gives c) (Gives d) f g e h y u =
+      let p : c.sheet ≡ s = cc in
+      let q : d.sheet ≡ t = cc in
+      (λ i. fit_of (sym p i) (sym q i) a b)
+      ∙ ap
+      (λ (x : Bool). cond x (cond (leb (c.sheet.header.width + d.sheet.header.width) 512) (Ok (record { left = c.sheet; right = d.sheet })) (Err (neither 2))) (Err (neither 16)))
+      seam_is
     where
-      used : same_used s t ≡ same_sheet c.sheet d.sheet
-      used = (λ i. same_used (sym h i) (sym y i)) ∙ used_seam left right c d f g
+      by : (x : Bool) → same_sheet c.sheet d.sheet ≡ x → (same_used c.sheet d.sheet && same_tables a b) ≡ (same_sheet c.sheet d.sheet && same_tables c.held.lent.tables d.held.lent.tables)
+      by false e = rw (used_seam left right c d f g, e)
+      by true e = rw (used_seam left right c d f g, e) ((λ i. same_tables (y i) (u i)) ∙ seam_tables left right c d f g z n e)
 
-      by : (x : Bool) → same_sheet c.sheet d.sheet ≡ x → (same_used s t && same_tables a b) ≡ (same_sheet c.sheet d.sheet && same_tables c.held.lent.tables d.held.lent.tables)
-      by false e = rw (used, e)
-      by true e = rw (used, e) ((λ i. same_tables (u i) (l i)) ∙ seam_tables left right c d f g z n e)
-
-  pub judge_both : (y : Judged) → y ≡ fit_of s t a b → y ≡ judging (read_text whole left) (read_text whole right)
-  judge_both y e =
-      answers y
-      (λ c d f g h o u l. e ∙ ap (λ (x : Bool). cond x (cond (leb (s.header.width + t.header.width) 512) (judged.Fit s t) (judged.Refused 2 0 0)) (judged.Refused 16 0 0)) (seam_is c d f g h o u l)
-      ∙ (λ i. cond (seam c d) (cond (leb ((sym h i).header.width + (sym o i).header.width) 512) (judged.Fit (sym h i) (sym o i)) (judged.Refused 2 0 0)) (judged.Refused 16 0 0)))
-
--- Whether two sheets fit
-
-module _ (s t : Sheet) (a b : List ℕ) (r : Bool) (e : r ≡ same_used s t) where
-  pub fit_sheet : r ≡ false → judged.Refused 16 0 0 ≡ fit_of s t a b
-  fit_sheet m = rw (sym e ∙ m)
-
-  module _ (m : r ≡ true) (q : Bool) (f : q ≡ same_tables a b) where
-    pub fit_tables : q ≡ false → judged.Refused 16 0 0 ≡ fit_of s t a b
-    fit_tables n = rw (sym e ∙ m, sym f ∙ n)
-
-    pub fit_wide : q ≡ true → 512 < s.header.width + t.header.width → judged.Refused 2 0 0 ≡ fit_of s t a b
-    fit_wide n w = rw (sym e ∙ m, sym f ∙ n, lt-leb (s.header.width + t.header.width) 512 w)
-
-    pub fit_both : q ≡ true → s.header.width + t.header.width ≤ 512 → judged.Fit s t ≡ fit_of s t a b
-    fit_both n w = rw (sym e ∙ m, sym f ∙ n, le-leb (s.header.width + t.header.width) 512 w)
+      seam_is : (same_used c.sheet d.sheet && same_tables a b) ≡ seam c d
+      seam_is = by (same_sheet c.sheet d.sheet) refl

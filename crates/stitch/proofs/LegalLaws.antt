@@ -15,8 +15,7 @@ use Rattle.contents.specs.declared.Channel.{Channel}
 use Rattle.contents.specs.declared.Sheet.{Sheet}
 use Rattle.contents.specs.Sheets.{Lent, Marked, Held, no_channel, channel_at, levels_to, channels_of}
 use Rattle.contents.specs.Hold.{measured, LegalHold}
-use Rattle.contents.specs.declared.Hold.{Hold}
-use Rattle.contents.specs.declared.Hold.TheVariants as hold
+use Rattle.std.specs.Prelude.{Option, Some, None}
 use Rattle.contents.specs.Legal.{LegalChannel, LegalSheet, LegalBlocks, LegalMarks}
 use Rattle.digits.proofs.Both.{both_left, both_right}
 use Rattle.grammar.specs.Written.{drop_held}
@@ -177,7 +176,7 @@ same_each w v n s t x e =
   where
     one : (n : ℕ) → n ≡ 1 → same_channels w v (take 1 (three s)) (take 1 (three t)) ≡ true → (j : ℕ) → j < n → Same w v (channel_at s j) (channel_at t j)
     one n q e zero h = same_is w v s.first t.first (both_left (same_channel w v s.first t.first) true e)
-    one n q e (suc j) h = let y : ⊥ = omega arith in absurd y
+    one n q e (suc j) h = absurd (omega arith)
 
     all : (n : ℕ) → n ≡ 3 → same_channels w v (take 3 (three s)) (take 3 (three t)) ≡ true → (j : ℕ) → j < n → Same w v (channel_at s j) (channel_at t j)
     all n q e zero h = same_is w v s.first t.first (both_left (same_channel w v s.first t.first) (same_channels w v (s.second ∷ s.third ∷ []) (t.second ∷ t.third ∷ [])) e)
@@ -190,7 +189,7 @@ same_each w v n s t x e =
         (both_left (same_channel w v s.third t.third) true
         (both_right (same_channel w v s.second t.second) (same_channels w v (s.third ∷ []) (t.third ∷ []))
         (both_right (same_channel w v s.first t.first) (same_channels w v (s.second ∷ s.third ∷ []) (t.second ∷ t.third ∷ [])) e)))
-    all n q e (suc (suc (suc j))) h = let y : ⊥ = omega arith in absurd y
+    all n q e (suc (suc (suc j))) h = absurd (omega arith)
 
 beside_each : (n : ℕ) (s t : Sheet) → Number n → ((j : ℕ) → j < n → Beside (channel_at s j) (channel_at t j)) → AllBeside (take n (three s)) (take n (three t))
 beside_each n s t x f =
@@ -209,10 +208,10 @@ legal_beside h k c d l m e =
       high = l.high;
     }
 
-legal_hold : (h k : Header) (x : Hold) → LegalHold h x → LegalHold (wider h k) x
+legal_hold : (h k : Header) (x : Option (List ℕ)) → LegalHold h x → LegalHold (wider h k) x
 unfolding measured
-legal_hold h k hold.Unsaid l = tt
-legal_hold h k (hold.Counts a b c) l = l
+legal_hold h k None l = tt
+legal_hold h k (Some x) l = l
 
 -- moving marks keeps them apart
 pub moved_one : (s : Sheet) (m n : Mark) → moved_by s m ≡ moved_by s n → m ≡ n

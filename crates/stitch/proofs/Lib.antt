@@ -6,6 +6,5 @@ pub mod MarkTextLaws
 pub mod TextLaws
 pub mod MarkLaws
 pub mod LegalLaws
-pub mod MarkWriteLaws
 pub mod WriteLaws
 pub mod CallLaws

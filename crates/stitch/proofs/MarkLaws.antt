@@ -64,10 +64,10 @@ module _ (s : Sheet) (r k r' k' : ℕ) where
   same_place (suc zero) (suc (suc zero)) h h' i j e = let y : ⊥ = omega (arith, in_blocks s (suc zero) r k i) in absurd y
   same_place (suc (suc zero)) zero h h' i j e = let y : ⊥ = omega (arith, in_blocks s zero r' k' j) in absurd y
   same_place (suc (suc zero)) (suc zero) h h' i j e = let y : ⊥ = omega (arith, in_blocks s (suc zero) r' k' j) in absurd y
-  same_place (suc (suc (suc c))) c' h h' i j e = let y : ⊥ = omega arith in absurd y
-  same_place zero (suc (suc (suc c'))) h h' i j e = let y : ⊥ = omega arith in absurd y
-  same_place (suc zero) (suc (suc (suc c'))) h h' i j e = let y : ⊥ = omega arith in absurd y
-  same_place (suc (suc zero)) (suc (suc (suc c'))) h h' i j e = let y : ⊥ = omega arith in absurd y
+  same_place (suc (suc (suc c))) c' h h' i j e = absurd (omega arith)
+  same_place zero (suc (suc (suc c'))) h h' i j e = absurd (omega arith)
+  same_place (suc zero) (suc (suc (suc c'))) h h' i j e = absurd (omega arith)
+  same_place (suc (suc zero)) (suc (suc (suc c'))) h h' i j e = absurd (omega arith)
 
 pub one_block : (s : Sheet) (m n : Mark) → s.header.channels ≤ 3 → Place s m → Place s n → block_of s m ≡ block_of s n → m ≡ n
 unfolding block_of

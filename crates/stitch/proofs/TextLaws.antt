@@ -9,10 +9,10 @@ use native.Mathlib.Nat.{mul-div_cancel_left}
 use lib.ListN.{length, take, drop, length-append}
 use lib.Seq.{length-take-le, take_at, drop_at}
 use lib.IntN.{ℤ}
-use Rattle.contents.specs.declared.Choice.{Choice}
-use Rattle.contents.specs.declared.Choice.TheVariants as choice
-use Rattle.contents.specs.declared.Hold.{Hold}
-use Rattle.contents.specs.declared.Hold.TheVariants as hold
+use Rattle.std.specs.Prelude.{Option, Some, None}
+use Rattle.lines.specs.declared.Setting.{Setting}
+use Rattle.lines.specs.declared.Setting.TheVariants as setting
+use Rattle.contents.specs.declared.Letter.TheVariants as letter
 use Rattle.contents.specs.declared.Header.{Header}
 use Rattle.contents.specs.declared.Settings.{Settings}
 use Rattle.contents.specs.declared.Channel.{Channel}
@@ -22,14 +22,14 @@ use Rattle.contents.specs.Marks.{blocks_in}
 use Rattle.digits.specs.Written.{decimal, joined, ended}
 use Rattle.digits.proofs.Both.{both_right}
 use Rattle.text.proofs.JoinLaws.{free, all_free, above_decimal, above_free, joined_free}
-use Rattle.grammar.specs.Written.{header_fields, channel_fields, end_fields, setting_lines, choice_lines, hold_lines, block_lines, drop_held, channel_lines, mark_lines, written}
+use Rattle.grammar.specs.Written.{header_fields, channel_fields, end_fields, setting_line, line_if, setting_lines, block_lines, drop_held, channel_lines, mark_lines, written}
 use Rattle.grammar.proofs.RowLaws.{header_free, channel_free}
 use Rattle.grammar.proofs.RoundTrip.{free_both, free_settings, free_channels}
 use Rattle.copying.specs.Parts.{up_to, past, after_two, refitted, rows_of, past_rows}
 use Rattle.copying.proofs.PartLaws.{up_zero, past_zero}
 use Rattle.stitch.specs.Stitched.{wider, besides, stitched_sheet, rows_in, columns_in, weave, woven, woven_held, stitched_marks, stitched_held}
 use Rattle.seam.specs.Used.{used_of}
-use Rattle.stitch.specs.Bytes.{lines_of, hold_lines_of, said_lines, head_text, head_left, pair_text, pair_left, pair_right, last_text, pairs_text, stitch_text}
+use Rattle.stitch.specs.Bytes.{lines_of, said_lines, head_text, head_left, pair_text, pair_left, pair_right, last_text, pairs_text, stitch_text}
 use Rattle.stitch.proofs.LineLaws.{up_line, past_line, free_drop, up_lines, past_lines, ended_both, rows_lines, past-rows, refit_line, two_gone}
 use Rattle.stitch.proofs.WeaveLaws.{weave_length, weave_front}
 use Rattle.stitch.proofs.MarkTextLaws.{AllSmall, last_free, last_lines}
@@ -284,23 +284,26 @@ pairs_lines s L R M fl fr e (c ∷ cs) (d ∷ ds) h k f u v =
 
 -- The header and the settings
 
-said_choice : (tag a b : ℕ) (x : Choice) → length (choice_lines tag a b x) ≡ lines_of x
-said_choice tag a b choice.Unsaid = refl
-said_choice tag a b choice.First = refl
-said_choice tag a b choice.Second = refl
+one_line : (s : Setting) → length (setting_line s) ≡ 1
+one_line (setting.Rounding letter.First) = refl
+one_line (setting.Rounding letter.Second) = refl
+one_line (setting.Start letter.First) = refl
+one_line (setting.Start letter.Second) = refl
+one_line (setting.Hold l) = refl
 
-said_hold : (x : Hold) → length (hold_lines x) ≡ hold_lines_of x
-said_hold hold.Unsaid = refl
-said_hold (hold.Counts k l m) = refl
+module _ {A : Type 0} where
+  said_line : (make : A → Setting) (o : Option A) → length (line_if make o) ≡ lines_of o
+  said_line make None = refl
+  said_line make (Some x) = one_line (make x)
 
 said_count : (x : Settings) → length (setting_lines x) ≡ said_lines x
 said_count x =
-    let R = choice_lines 70 116 110 x.rounding in
-    let A = choice_lines 65 109 111 x.start in
-    let O = hold_lines x.hold in
+    let R = line_if setting.Rounding x.rounding in
+    let A = line_if setting.Start x.start in
+    let O = line_if setting.Hold x.hold in
     length-append R (A ++ O)
-    ∙ (λ i. said_choice 70 116 110 x.rounding i + length-append A O i)
-    ∙ (λ i. lines_of x.rounding + (said_choice 65 109 111 x.start i + said_hold x.hold i))
+    ∙ (λ i. said_line setting.Rounding x.rounding i + length-append A O i)
+    ∙ (λ i. lines_of x.rounding + (said_line setting.Start x.start i + said_line setting.Hold x.hold i))
 
 -- what follows the picture's width in the header's line
 abbrev head_after : Header → List ℕ

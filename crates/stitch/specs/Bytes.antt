@@ -1,10 +1,6 @@
 -- What the code copies, by tabs and line ends alone: xs is what is left of the left text, ys of the right. A theorem says that of two texts that fit
 -- this is the text of the two sheets side by side, `as_copied` of proofs/TextLaws.antt.
-use Rattle.std.specs.Prelude.{ℕ, zero, suc, ◌+◌, List, [], ◌∷◌, ◌++◌}
-use Rattle.contents.specs.declared.Choice.{Choice}
-use Rattle.contents.specs.declared.Choice.TheVariants as choice
-use Rattle.contents.specs.declared.Hold.{Hold}
-use Rattle.contents.specs.declared.Hold.TheVariants as hold
+use Rattle.std.specs.Prelude.{ℕ, zero, suc, ◌+◌, List, [], ◌∷◌, ◌++◌, Option, Some, None}
 use Rattle.contents.specs.declared.Settings.{Settings}
 use Rattle.contents.specs.declared.Channel.{Channel}
 use Rattle.contents.specs.declared.Sheet.{Sheet}
@@ -17,17 +13,12 @@ use Rattle.seam.specs.Used.{used_of}
 use Rattle.stitch.specs.Stitched.{rows_in, columns_in, moved_by}
 
 -- the lines of a setting, and of all settings
-abbrev pub lines_of : Choice → ℕ
-lines_of choice.Unsaid = 0
-lines_of choice.First = 1
-lines_of choice.Second = 1
-
-abbrev pub hold_lines_of : Hold → ℕ
-hold_lines_of hold.Unsaid = 0
-hold_lines_of (hold.Counts k l m) = 1
+abbrev pub lines_of : {A : Type 0} → Option A → ℕ
+lines_of None = 0
+lines_of (Some x) = 1
 
 abbrev pub said_lines : Settings → ℕ
-said_lines x = lines_of x.rounding + (lines_of x.start + hold_lines_of x.hold)
+said_lines x = lines_of x.rounding + (lines_of x.start + lines_of x.hold)
 
 -- the header's line with the widths w and p, and m lines after it
 abbrev pub head_text : ℕ → ℕ → ℕ → List ℕ → List ℕ

@@ -1,13 +1,11 @@
 -- What stitching and measuring promise. Document 02, M-107.
-use Rattle.std.specs.Prelude.{ℕ, ◌+◌, ◌≡◌, List, cond, length, eqb, leb}
+use Rattle.std.specs.Prelude.{ℕ, ◌+◌, ◌≡◌, List, cond, length, eqb, leb, Result, Ok, Err}
 use Rattle.contents.specs.declared.Limits.{Limits}
 use Rattle.sheet.specs.Reading.{Outcome, Contents, read_text}
 use Rattle.sheet.specs.Reading.Outcome.{Gives, Refused}
 use Rattle.grammar.specs.Written.{written}
-use Rattle.stitch.specs.declared.Measured.{Measured}
-use Rattle.stitch.specs.declared.Measured.TheVariants as measured
-use Rattle.stitch.specs.declared.Answer.{Answer}
-use Rattle.stitch.specs.declared.Answer.TheVariants as answer
+use Rattle.stitch.specs.declared.Refused as faults
+use Rattle.stitch.specs.Numbers.{Numbers, numbered}
 use Rattle.seam.specs.Seam.{seam}
 use Rattle.stitch.specs.Stitched.{stitched_sheet, stitched_held}
 
@@ -40,23 +38,23 @@ unfolding read_text seam output_of
 stitching left right = joining (read_text whole left) (read_text whole right)
 
 -- "the exact length that a measuring call gives", and for any other texts the same refusal as stitching
-abbrev pub measuring : Stitch → Measured
-measuring (Text t) = measured.Length (length t)
-measuring (Fault k which line) = measured.Refused k which line
+abbrev pub measuring : Stitch → Result ℕ Numbers
+measuring (Text t) = Ok (length t)
+measuring (Fault k which line) = Err (record { number = k; which = which; line = line })
 
 -- "otherwise 8; a refusal leaves it unchanged", "8 last": stitching into an output that holds these bytes
 abbrev pub sized : List ℕ → Stitch → Stitch
 sized out (Text t) = cond (eqb (length t) (length out)) (Text t) (Fault 8 0 0)
 sized out (Fault k which line) = Fault k which line
 
-abbrev pub answering : Stitch → Answer
-answering (Text t) = answer.Done
-answering (Fault k which line) = answer.Refused k which line
+abbrev pub answering : Stitch → Result Unit Numbers
+answering (Text t) = Ok tt
+answering (Fault k which line) = Err (record { number = k; which = which; line = line })
 
 abbrev pub out_after : Stitch → List ℕ → List ℕ
 out_after (Text t) out = t
 out_after (Fault k which line) out = out
 
-pub record Stitches (left right before after : List ℕ) (r : Answer) : Type 0 where
-  pub answer : r ≡ answering (sized before (stitching left right))
+pub record Stitches (left right before after : List ℕ) (r : Result Unit faults.Refused) : Type 0 where
+  pub answer : numbered r ≡ answering (sized before (stitching left right))
   pub out : after ≡ out_after (sized before (stitching left right)) before

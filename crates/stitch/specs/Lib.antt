@@ -3,3 +3,4 @@ pub mod Stitched
 pub mod Calls
 pub mod Bytes
 pub mod Judging
+pub mod Numbers

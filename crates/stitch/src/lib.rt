@@ -5,38 +5,90 @@ mod marks;
 mod write;
 
 ghost use Rattle.std.specs.Prelude.{◌≡◌, length};
+ghost use Rattle.refusal.specs.Refusal.{number_of};
 ghost use Rattle.sheet.specs.Reading.{read_text};
+ghost use Rattle.stitch.specs.Numbers.{which_of, numbers, numbered};
 ghost use Rattle.stitch.specs.Calls.{whole, stitching, measuring, Stitches};
 ghost use Rattle.stitch.specs.Judging.{Outlines, judging, fit_of};
 
 use contents::{Limits, Sheet};
+use refusal::Refusal;
 use sheet::walk;
-use sheet::walk::Walked;
+use std::error::Error;
+use std::fmt;
 
-// The answer of measuring: the length of the output, or a refusal of the left text (1), of the right (2) or of neither (0).
-#[derive(Clone, Copy)]
-pub enum Measured {
-    Length(usize),
-    Refused { number: u8, which: u8, line: usize },
+// One of the two texts.
+#[derive(Clone, Copy, Debug, PartialEq, Eq)]
+pub enum Side {
+    Left,
+    Right,
 }
 
-// The answer of stitching.
-#[derive(Clone, Copy)]
-pub enum Answer {
-    Done,
-    Refused { number: u8, which: u8, line: usize },
+// A refusal: of a text, with its line there, or of neither.
+#[derive(Clone, Copy, Debug, PartialEq, Eq)]
+pub struct Refused {
+    pub refusal: Refusal,
+    pub which: Option<Side>,
+    pub line: usize,
 }
 
-// Two sheets that fit, or a refusal.
+impl Refused {
+    // A refusal of neither text.
+    fn of_neither(refusal: Refusal) -> Refused
+        ensures { numbers result ≡ record { number = number_of refusal; which = 0; line = 0 } }
+    {
+        Refused {
+            refusal,
+            which: None,
+            line: 0,
+        }
+    }
+
+    // A refusal of a text, as reading gives it.
+    fn of(side: Side, r: sheet::Refused) -> Refused
+        ensures { numbers result ≡ record { number = number_of r.refusal; which = which_of (Some side); line = r.line } }
+    {
+        Refused {
+            refusal: r.refusal,
+            which: Some(side),
+            line: r.line,
+        }
+    }
+
+    // The number of the text that it is about: 1 the left, 2 the right, 0 neither.
+    // Ruled out: 1 for the right text; 2 where neither text is refused.
+    pub fn which_number(self) -> u8
+        ensures { result ≡ which_of self.which }
+    {
+        match self.which {
+            None => 0,
+            Some(Side::Left) => 1,
+            Some(Side::Right) => 2,
+        }
+    }
+}
+
+impl fmt::Display for Refused {
+    fn fmt<W: fmt::Write>(&self, f: &mut fmt::Formatter<W>) -> fmt::Result {
+        let number = self.refusal.number();
+        let which = self.which_number();
+        let line = self.line;
+        write!(f, "refusal {number} of text {which} at line {line}")
+    }
+}
+
+impl Error for Refused {}
+
+// Two sheets that fit.
 #[derive(Clone, Copy)]
-pub enum Judged {
-    Fit { left: Sheet, right: Sheet },
-    Refused { number: u8, which: u8, line: usize },
+struct Fit {
+    left: Sheet,
+    right: Sheet,
 }
 
 // A text's sheet, and its tables at the front of the lent ones, as far as there is room.
-fn outline(text: &[u8], tables: &mut [u16]) -> Walked
-    ensures { Outlines text.now tables.old tables.new result }
+fn outline(text: &[u8], side: Side, tables: &mut [u16]) -> Result<Sheet, Refused>
+    ensures { Outlines side text.now tables.old tables.new result }
 {
     let limits = Limits {
         side: 512,
@@ -45,124 +97,56 @@ fn outline(text: &[u8], tables: &mut [u16]) -> Walked
     let mut lows = [0i16; 1];
     let mut highs = [0i16; 1];
     let mut bits = [0u8; 12288];
-    walk::walk(text, limits, &mut lows, &mut highs, tables, &mut bits)
+    match walk::walk(text, limits, &mut lows, &mut highs, tables, &mut bits) {
+        Ok(walked) => Ok(walked.sheet),
+        Err(r) => Err(Refused::of(side, r)),
+    }
 }
 
 // Whether two sheets with these tables fit.
-fn fit(s: Sheet, t: Sheet, a: &[u16], b: &[u16]) -> Judged
+fn fitted(left: Sheet, right: Sheet, a: &[u16], b: &[u16]) -> Result<Fit, Refused>
     requires { length a.now ≡ length b.now }
-    ensures { result ≡ fit_of s t a.now b.now }
+    ensures { numbered result ≡ fit_of left right a.now b.now }
 {
-    if !seam::same_sheet(s, t) {
-        return Judged::Refused {
-            number: 16,
-            which: 0,
-            line: 0,
-        };
+    if !(seam::same_sheet(left, right) && seam::same_tables(a, b)) {
+        return Err(Refused::of_neither(Refusal::Seam));
     }
-    if !seam::same_tables(a, b) {
-        return Judged::Refused {
-            number: 16,
-            which: 0,
-            line: 0,
-        };
+    if 512 < u64::from(left.header.width) + u64::from(right.header.width) {
+        return Err(Refused::of_neither(Refusal::Size));
     }
-    let h = s.header;
-    let k = t.header;
-    if 512 < (h.width as u64) + (k.width as u64) {
-        return Judged::Refused {
-            number: 2,
-            which: 0,
-            line: 0,
-        };
-    }
-    Judged::Fit { left: s, right: t }
+    Ok(Fit { left, right })
 }
 
 // Both texts judged, the left first, and whether they fit.
-fn judge(left: &[u8], right: &[u8]) -> Judged
-    ensures { result ≡ judging (read_text whole left.now) (read_text whole right.now) }
+fn judge(left: &[u8], right: &[u8]) -> Result<Fit, Refused>
+    ensures { numbered result ≡ judging (read_text whole left.now) (read_text whole right.now) }
 {
     let mut left_tables = [0u16; 192];
     let mut right_tables = [0u16; 192];
-    let one = outline(left, &mut left_tables);
-    let other = outline(right, &mut right_tables);
-    match one {
-        Walked::Refused { number, line } => Judged::Refused {
-            number,
-            which: 1,
-            line,
-        },
-        Walked::Sheet {
-            sheet: s,
-            lows: _,
-            highs: _,
-            tables: _,
-        } => match other {
-            Walked::Refused { number, line } => Judged::Refused {
-                number,
-                which: 2,
-                line,
-            },
-            Walked::Sheet {
-                sheet: t,
-                lows: _,
-                highs: _,
-                tables: _,
-            } => fit(s, t, &left_tables, &right_tables),
-        },
-    }
+    let one = outline(left, Side::Left, &mut left_tables)?;
+    let other = outline(right, Side::Right, &mut right_tables)?;
+    fitted(one, other, &left_tables, &right_tables)
 }
 
 // The length of the text that stitching writes, or the refusal that it gives.
 // Ruled out: 16 for a right text that is itself refused; the sum of both lengths, though the widths have other digits.
-pub fn measure(left: &[u8], right: &[u8]) -> Measured
-    ensures { result ≡ measuring (stitching left.now right.now) }
+pub fn measure(left: &[u8], right: &[u8]) -> Result<usize, Refused>
+    ensures { numbered result ≡ measuring (stitching left.now right.now) }
 {
-    match judge(left, right) {
-        Judged::Refused {
-            number,
-            which,
-            line,
-        } => Measured::Refused {
-            number,
-            which,
-            line,
-        },
-        Judged::Fit { left: s, right: t } => {
-            let mut none = [0u8; 1];
-            Measured::Length(write::write(left, right, s, t, &mut none))
-        }
-    }
+    let fit = judge(left, right)?;
+    Ok(write::write(left, right, fit.left, fit.right, &mut []))
 }
 
 // Writes the text of both sheets into an output of exactly its length; a refusal leaves the output unchanged.
 // Ruled out: the right sheet's blocks first in a row of blocks; an output of another length that is written in part.
-pub fn stitch(left: &[u8], right: &[u8], out: &mut [u8]) -> Answer
+pub fn stitch(left: &[u8], right: &[u8], out: &mut [u8]) -> Result<(), Refused>
     ensures { Stitches left.now right.now out.old out.new result }
 {
-    match judge(left, right) {
-        Judged::Refused {
-            number,
-            which,
-            line,
-        } => Answer::Refused {
-            number,
-            which,
-            line,
-        },
-        Judged::Fit { left: s, right: t } => {
-            let mut none = [0u8; 1];
-            let length = write::write(left, right, s, t, &mut none);
-            if length != out.len() {
-                return Answer::Refused {
-                    number: 8,
-                    which: 0,
-                    line: 0,
-                };
-            }
-            write::write(left, right, s, t, out);
-            Answer::Done
-        }
+    let fit = judge(left, right)?;
+    let length = write::write(left, right, fit.left, fit.right, &mut []);
+    if length != out.len() {
+        return Err(Refused::of_neither(Refusal::Length));
     }
+    write::write(left, right, fit.left, fit.right, out);
+    Ok(())
 }

@@ -1,37 +1,22 @@
 // The lines after the last block: the marks of both texts and the line E.
-ghost use Rattle.std.specs.Prelude.{◌≡◌, ◌+◌, ◌^◌, ◌<◌, ◌≤◌, length, drop};
-ghost use Rattle.copying.specs.Parts.{past, Put, Copied};
+ghost use Rattle.std.specs.Prelude.{◌≡◌, ◌+◌, ◌^◌, ◌<◌, length};
+ghost use Rattle.copying.specs.Parts.{past, Put};
 ghost use Rattle.stitch.specs.Stitched.{moved_by};
 ghost use Rattle.stitch.specs.Bytes.{front_mark, moved_line, moved_lines, last_text};
 
 use contents::{Mark, Sheet};
-use copying::{Cursor, Place};
+use copying::{Texts, Writer};
 use text::{number, pieces};
 
-// Place `from`, or the text's end where that is before it.
-fn within(text: &[u8], from: usize) -> usize
-    ensures { (result ≤ length text.now) × (drop result text.now ≡ drop from text.now) }
+// The mark of a text's first line.
+fn mark_at(text: &[u8]) -> Mark
+    ensures { result ≡ front_mark text.now }
 {
-    if text.len() <= from {
-        return text.len();
-    }
-    from
-}
-
-// The mark of the line that starts at `from`.
-fn mark_at(text: &[u8], from: usize) -> Mark
-    ensures { result ≡ front_mark (drop from text.now) }
-{
-    let start = within(text, from);
-    let line = pieces::line_at(text, start);
-    let end = line.end;
-    let channel = number::number_at(&text[start..end], 1);
-    let row = number::number_at(&text[start..end], 2);
-    let column = number::number_at(&text[start..end], 3);
+    let line = &text[..pieces::line_at(text, 0).end];
     Mark {
-        channel,
-        row,
-        column,
+        channel: number::number_at(line, 1),
+        row: number::number_at(line, 2),
+        column: number::number_at(line, 3),
     }
 }
 
@@ -39,51 +24,40 @@ fn mark_at(text: &[u8], from: usize) -> Mark
 fn moved_column(s: Sheet, m: Mark) -> usize
     ensures { result ≡ (moved_by s m).column }
 {
-    let c = contents::channel_at(s, m.channel);
-    ((c.width / 8) as usize) + (m.column as usize)
+    (contents::channel_at(s, m.channel).width / 8) as usize + m.column as usize
 }
 
 // A line of a mark, with its column moved.
-fn write_mark(right: &[u8], s: Sheet, from: usize, out: &mut [u8], at: usize) -> Cursor
-    requires { at + length (moved_line s (drop from right.now)) < 2 ^ 64 }
-    ensures { Copied right.now (past 10 1 (drop from right.now)) out.old at (moved_line s (drop from right.now)) out.new result }
+fn write_mark<'a>(right: &'a [u8], s: Sheet, to: &mut Writer) -> &'a [u8]
+    requires { to.old.at + length (moved_line s right.now) < 2 ^ 64 }
+    ensures rest { result.now ≡ past 10 1 right.now }
+    ensures put { Put to.old (moved_line s right.now) to.new }
 {
-    let m = mark_at(right, from);
-    let column = moved_column(s, m);
-    let c = copying::copy(right, b'\t', 3, from, out, at);
-    let end = copying::put_digits(6, column, out, c.at);
-    let at = copying::put_byte(b'\n', out, end);
-    let from = copying::skip(right, b'\n', 1, from);
-    Cursor { from, at }
+    let column = moved_column(s, mark_at(right));
+    copying::copy(right, b'\t', 3, to);
+    to.put_decimal(column);
+    to.put_byte(b'\n');
+    copying::skip(right, b'\n', 1)
 }
 
 // n lines of marks, with their columns moved.
-fn write_marks(right: &[u8], s: Sheet, n: usize, from: usize, out: &mut [u8], at: usize) -> usize
-    requires { at + length (moved_lines s n (drop from right.now)) < 2 ^ 64 }
-    ensures { Put out.old at (moved_lines s n (drop from right.now)) out.new result }
+fn write_marks(right: &[u8], s: Sheet, n: usize, to: &mut Writer)
+    requires { to.old.at + length (moved_lines s n right.now) < 2 ^ 64 }
+    ensures { Put to.old (moved_lines s n right.now) to.new }
 {
-    let mut i = from;
-    let mut o = at;
-    let mut m = n;
-    while 0 < m {
-        let c = write_mark(right, s, i, out, o);
-        i = c.from;
-        o = c.at;
-        m -= 1;
+    let mut rest = right;
+    for mark in 0..n {
+        rest = write_mark(rest, s, to);
     }
-    o
 }
 
 // The left text's marks as they are, the right text's with their columns moved, and the left text's line E.
 // Ruled out: the right text's marks first; its columns moved by the left sheet's blocks of another channel.
-pub fn write_last(left: &[u8], right: &[u8], s: Sheet, from: Place, out: &mut [u8]) -> usize
-    requires { from.at + length (last_text s (drop from.left left.now) (drop from.right right.now)) < 2 ^ 64 }
-    ensures { Put out.old from.at (last_text s (drop from.left left.now) (drop from.right right.now)) out.new result }
+pub fn write_last(from: Texts, s: Sheet, to: &mut Writer)
+    requires { to.old.at + length (last_text s from.left.now from.right.now) < 2 ^ 64 }
+    ensures { Put to.old (last_text s from.entry.left.now from.entry.right.now) to.new }
 {
-    let n = copying::count(left, b'N', from.left);
-    let m = copying::count(right, b'N', from.right);
-    let c = copying::copy(left, b'\n', n, from.left, out, from.at);
-    let at = write_marks(right, s, m, from.right, out, c.at);
-    let end = copying::copy(left, b'\n', 1, c.from, out, at);
-    end.at
+    let end = copying::copy(from.left, b'\n', copying::count(from.left, b'N'), to);
+    write_marks(from.right, s, copying::count(from.right, b'N'), to);
+    copying::copy(end, b'\n', 1, to);
 }

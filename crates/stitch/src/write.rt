@@ -1,115 +1,101 @@
 // The text of two sheets that fit, copied from their texts.
-ghost use Rattle.std.specs.Prelude.{◌≡◌, [], ◌∷◌, ◌+◌, ◌^◌, ◌<◌, ◌≤◌, length, drop};
-ghost use Rattle.copying.specs.Parts.{past, Put, Copied, Woven};
-ghost use Rattle.stitch.specs.Bytes.{lines_of, hold_lines_of, said_lines, head_text, head_left, pair_text, pair_left, pair_right, pairs_text, open_text, stitch_text};
+ghost use Rattle.std.specs.Prelude.{◌≡◌, [], ◌∷◌, ◌+◌, ◌^◌, ◌<◌, ◌≤◌, length};
+ghost use Rattle.std.proofs.lemmas.List.Edits.{sets};
+ghost use Rattle.copying.specs.Parts.{past, Put};
+ghost use Rattle.seam.specs.Used.{used_of};
+ghost use Rattle.stitch.specs.Bytes.{said_lines, head_text, head_left, pair_text, pair_left, pair_right, pairs_text, open_text, stitch_text};
 
 use crate::marks;
-use contents::{Channel, Choice, Hold, Settings, Sheet};
-use copying::{Cursor, Place};
-
-// The lines of a setting.
-fn lines_of(c: Choice) -> usize
-    ensures { (result ≡ lines_of c) × (result ≤ 1) }
-{
-    match c {
-        Choice::Unsaid => 0,
-        Choice::First => 1,
-        Choice::Second => 1,
-    }
-}
-
-// The lines of the held counts.
-fn hold_lines(x: Hold) -> usize
-    ensures { (result ≡ hold_lines_of x) × (result ≤ 1) }
-{
-    match x {
-        Hold::Unsaid => 0,
-        Hold::Counts(_, _, _) => 1,
-    }
-}
+use contents::{Channel, Settings, Sheet};
+use copying::{Texts, Writer};
 
 // The lines of all settings: at most 3.
 fn said_lines(x: Settings) -> usize
     ensures { (result ≡ said_lines x) × (result ≤ 3) }
 {
-    let rounding = x.rounding;
-    let start = x.start;
-    let hold = x.hold;
-    let a = lines_of(rounding);
-    let b = lines_of(start);
-    let c = hold_lines(hold);
-    a + (b + c)
+    usize::from(x.rounding.is_some())
+        + (usize::from(x.start.is_some()) + usize::from(x.hold.is_some()))
 }
 
 // The header's line with the widths w and p, and m lines after it.
-fn write_head(left: &[u8], w: usize, p: usize, m: usize, out: &mut [u8]) -> Cursor
-    requires { (m ≤ 3) × (0 + length (head_text w p m left.now) < 2 ^ 64) }
-    ensures { Copied left.now (head_left m left.now) out.old 0 (head_text w p m left.now) out.new result }
+fn write_head<'a>(left: &'a [u8], w: usize, p: usize, m: usize, to: &mut Writer) -> &'a [u8]
+    requires few { m ≤ 3 }
+    requires room { to.old.at + length (head_text w p m left.now) < 2 ^ 64 }
+    ensures rest { result.now ≡ head_left m left.now }
+    ensures put { Put to.old (head_text w p m left.now) to.new }
 {
-    let c = copying::refit(left, w, 0, out, 0);
-    let d = copying::refit(left, p, c.from, out, c.at);
-    copying::copy(left, b'\n', m + 1, d.from, out, d.at)
+    let after_sides = copying::refit(left, w, to);
+    let after_picture = copying::refit(after_sides, p, to);
+    copying::copy(after_picture, b'\n', m + 1, to)
 }
 
 // The header and the settings of the left text with the summed widths; those of the right text are skipped.
-fn write_open(left: &[u8], right: &[u8], s: Sheet, t: Sheet, out: &mut [u8]) -> Place
-    requires { 0 + length (open_text s t left.now) < 2 ^ 64 }
-    ensures { Woven left.now right.now (head_left (said_lines s.settings) left.now) (past 10 (said_lines t.settings + 1) right.now) out.old 0 (open_text s t left.now) out.new result }
+fn write_open<'a>(from: Texts<'a>, s: Sheet, t: Sheet, to: &mut Writer) -> Texts<'a>
+    requires { to.old.at + length (open_text s t from.left.now) < 2 ^ 64 }
+    ensures left { result.left.now ≡ head_left (said_lines s.settings) from.entry.left.now }
+    ensures right { result.right.now ≡ past 10 (said_lines t.settings + 1) from.entry.right.now }
+    ensures put { Put to.old (open_text s t from.entry.left.now) to.new }
 {
     let h = s.header;
     let k = t.header;
-    let w = (h.width as usize) + (k.width as usize);
-    let p = (h.picture_width as usize) + (k.picture_width as usize);
-    let m = said_lines(s.settings);
-    let n = said_lines(t.settings);
-    let head = write_head(left, w, p, m, out);
-    let right_from = copying::skip(right, b'\n', n + 1, 0);
-    Place {
-        left: head.from,
-        right: right_from,
-        at: head.at,
-    }
+    let w = h.width as usize + k.width as usize;
+    let p = h.picture_width as usize + k.picture_width as usize;
+    let left = write_head(from.left, w, p, said_lines(s.settings), to);
+    let right = copying::skip(from.right, b'\n', said_lines(t.settings) + 1);
+    Texts { left, right }
 }
 
 // A channel of both.
-fn write_pair(
-    left: &[u8],
-    right: &[u8],
-    c: Channel,
-    d: Channel,
-    from: Place,
-    out: &mut [u8],
-) -> Place
-    requires { from.at + length (pair_text c d (drop from.left left.now) (drop from.right right.now)) < 2 ^ 64 }
-    ensures { Woven left.now right.now (pair_left c (drop from.left left.now)) (pair_right c d (drop from.right right.now)) out.old from.at (pair_text c d (drop from.left left.now) (drop from.right right.now)) out.new result }
+fn write_pair<'a>(from: Texts<'a>, c: Channel, d: Channel, to: &mut Writer) -> Texts<'a>
+    requires { to.old.at + length (pair_text c d from.left.now from.right.now) < 2 ^ 64 }
+    ensures left { result.left.now ≡ pair_left c from.entry.left.now }
+    ensures right { result.right.now ≡ pair_right c d from.entry.right.now }
+    ensures put { Put to.old (pair_text c d from.entry.left.now from.entry.right.now) to.new }
 {
     let w = c.width as usize;
     let v = d.width as usize;
-    let h = c.height as usize;
-    copying::copy_channel(left, right, w + v, h / 8, w / 8, v / 8, from, out)
+    copying::copy_channel(from, w + v, c.height as usize / 8, w / 8, v / 8, to)
 }
 
 // The second and third channel of both, and what follows them.
-fn write_more(left: &[u8], right: &[u8], s: Sheet, t: Sheet, from: Place, out: &mut [u8]) -> usize
-    requires { from.at + length (pairs_text s (s.second ∷ s.third ∷ []) (t.second ∷ t.third ∷ []) (drop from.left left.now) (drop from.right right.now)) < 2 ^ 64 }
-    ensures { Put out.old from.at (pairs_text s (s.second ∷ s.third ∷ []) (t.second ∷ t.third ∷ []) (drop from.left left.now) (drop from.right right.now)) out.new result }
+fn write_more(from: Texts, s: Sheet, t: Sheet, to: &mut Writer)
+    requires { to.old.at + length (pairs_text s (s.second ∷ s.third ∷ []) (t.second ∷ t.third ∷ []) from.left.now from.right.now) < 2 ^ 64 }
+    ensures { Put to.old (pairs_text s (s.second ∷ s.third ∷ []) (t.second ∷ t.third ∷ []) from.entry.left.now from.entry.right.now) to.new }
 {
-    let second = write_pair(left, right, s.second, t.second, from, out);
-    let third = write_pair(left, right, s.third, t.third, second, out);
-    marks::write_last(left, right, s, third, out)
+    let second = write_pair(from, s.second, t.second, to);
+    let third = write_pair(second, s.third, t.third, to);
+    marks::write_last(third, s, to)
+}
+
+// All channels of both, and what follows them.
+fn write_pairs(from: Texts, s: Sheet, t: Sheet, to: &mut Writer)
+    requires { to.old.at + length (pairs_text s (used_of s.header.channels s) (used_of s.header.channels t) from.left.now from.right.now) < 2 ^ 64 }
+    ensures { Put to.old (pairs_text s (used_of s.header.channels s) (used_of s.header.channels t) from.entry.left.now from.entry.right.now) to.new }
+{
+    let first = write_pair(from, s.first, t.first, to);
+    if s.header.channels == 1 {
+        marks::write_last(first, s, to)
+    } else {
+        write_more(first, s, t, to)
+    }
 }
 
 // The whole text.
-pub fn write(left: &[u8], right: &[u8], s: Sheet, t: Sheet, out: &mut [u8]) -> usize
-    requires { 0 + length (stitch_text s t left.now right.now) < 2 ^ 64 }
-    ensures { Put out.old 0 (stitch_text s t left.now right.now) out.new result }
+fn write_text(from: Texts, s: Sheet, t: Sheet, to: &mut Writer)
+    requires { to.old.at + length (stitch_text s t from.left.now from.right.now) < 2 ^ 64 }
+    ensures { Put to.old (stitch_text s t from.entry.left.now from.entry.right.now) to.new }
 {
-    let h = s.header;
-    let n = h.channels;
-    let from = write_open(left, right, s, t, out);
-    let first = write_pair(left, right, s.first, t.first, from, out);
-    if n == 1 {
-        return marks::write_last(left, right, s, first, out);
-    }
-    write_more(left, right, s, t, first, out)
+    let blocks = write_open(from, s, t, to);
+    write_pairs(blocks, s, t, to)
+}
+
+// The text into an output, as far as there is room, and its length.
+pub fn write(left: &[u8], right: &[u8], s: Sheet, t: Sheet, out: &mut [u8]) -> usize
+    requires { length (stitch_text s t left.now right.now) < 2 ^ 64 }
+    ensures count { result ≡ length (stitch_text s t left.now right.now) }
+    ensures bytes { out.new ≡ sets out.old 0 (stitch_text s t left.now right.now) }
+{
+    let mut to = Writer::new(out);
+    write_text(Texts { left, right }, s, t, &mut to);
+    to.at
 }

@@ -1,22 +1,19 @@
 -- What a field with no fault says, and which fields add nothing to the levels or to the tables.
+use Rattle.std.proofs.Common.{Some, None, Ok, Err, Option, Result}
+use Rattle.refusal.specs.declared.Refusal.TheVariants as refusal
+use Rattle.refusal.specs.declared.Refusal.{Refusal}
 use Prim.Native.Nat.{ℕ, zero, suc, ◌%◌, ◌≤◌}
 use mathlib.Core.Path.{◌≡◌, refl}
 use mathlib.Core.List.{List, [], ◌∷◌}
 use mathlib.Core.Bool.{Bool, true, false, cond, ◌&&◌, ◌||◌}
 use mathlib.Core.Logic.{◌⊎◌, inl, inr}
-use mathlib.Core.Option.{none, some}
 use native.Mathlib.Omega.{arith}
 use lib.Dec.{eqb, leb, ltb}
 use lib.IntN.{ℤ, pos, neg_ℤ}
 use lib.Signed.{le_z}
 use borrow.Author.Tests.{eqb-true, leb-true, ltb-true}
-use Rattle.text.specs.declared.number.Number.{Number}
-use Rattle.text.specs.declared.number.Number.TheVariants as number
+use Rattle.contents.specs.declared.Weight.{Weight}
 use Rattle.contents.specs.declared.Weight.TheVariants as weight
-use Rattle.text.specs.declared.weight.WeightField.{WeightField}
-use Rattle.text.specs.declared.weight.WeightField.TheVariants as weight-field
-use Rattle.text.specs.declared.level.LevelField.{LevelField}
-use Rattle.text.specs.declared.level.LevelField.TheVariants as level-field
 use Rattle.text.specs.declared.field.Rule.{Rule}
 use Rattle.text.specs.declared.field.Rule.TheVariants as rule
 use Rattle.text.specs.declared.field.Field.{Field}
@@ -34,10 +31,10 @@ either : (a b : Bool) → (a || b) ≡ true → (a ≡ true) ⊎ (b ≡ true)
 either true b e = inl refl
 either false b e = inr e
 
-never : {k : ℕ} {A : Type 0} → some k ≡ none → A
+never : {k : ℕ} {A : Type 0} → Some k ≡ None → A
 never e = let z : ◌≡◌ {A = ℕ} 0 1 = cc in let y : ⊥ = omega arith in absurd y
 
-no_fault : (b : Bool) (k : ℕ) → fault_in (cond b field.Good (field.Bad k)) ≡ none → b ≡ true
+no_fault : (b : Bool) (k : Refusal) → fault_in (cond b (Ok field.Good) (Err k)) ≡ None → b ≡ true
 no_fault true k e = refl
 no_fault false k e = never e
 
@@ -53,38 +50,38 @@ side_is most n e =
 
 -- Numbers
 
-number_good : (k : ℕ) (ok : ℕ → Bool) (r : Number) → fault_in (number_field k ok r) ≡ none → ok (number_value r) ≡ true
-number_good k ok (number.Is n) e = no_fault (ok n) k e
-number_good k ok number.Not e = never e
+number_good : (k : Refusal) (ok : ℕ → Bool) (r : Option ℕ) → fault_in (number_field k ok r) ≡ None → ok (number_value r) ≡ true
+number_good k ok (Some n) e = no_fault (ok n) k e
+number_good k ok None e = never e
 
 module _ (f : List ℕ) where
-  pub range_good : (k low high : ℕ) → fault_in (field_of (rule.Range k low high) f) ≡ none → Between low high (number_value (number_of f))
+  pub range_good : (k : Refusal) (low high : ℕ) → fault_in (field_of (rule.Range k low high) f) ≡ None → Between low high (number_value (number_of f))
   unfolding field_of
   range_good k low high e =
       let n = number_value (number_of f) in
       let g : (leb low n && leb n high) ≡ true = number_good k (λ n. leb low n && leb n high) (number_of f) e in
       record { low = leb-true low n (both_left (leb low n) (leb n high) g); top = leb-true n high (both_right (leb low n) (leb n high) g) }
 
-  pub count_good : (most : ℕ) → fault_in (field_of (rule.Count most) f) ≡ none → (number_of f ≡ number.Is (number_value (number_of f))) × (number_value (number_of f) ≤ 1000) × (number_value (number_of f) ≤ most)
+  pub count_good : (most : ℕ) → fault_in (field_of (rule.Count most) f) ≡ None → (number_of f ≡ Some (number_value (number_of f))) × (number_value (number_of f) ≤ 1000) × (number_value (number_of f) ≤ most)
   unfolding field_of
   count_good most e = by (number_of f) e
     where
-      two : (n : ℕ) (a b : Bool) → leb n 1000 ≡ a → leb n most ≡ b → fault_in (cond a (cond b field.Good (field.Bad 15)) (field.Bad 2)) ≡ none → (n ≤ 1000) × (n ≤ most)
+      two : (n : ℕ) (a b : Bool) → leb n 1000 ≡ a → leb n most ≡ b → fault_in (cond a (cond b (Ok field.Good) (Err refusal.Page)) (Err refusal.Size)) ≡ None → (n ≤ 1000) × (n ≤ most)
       two n true true p q o = (leb-true n 1000 p, leb-true n most q)
       two n true false p q o = never o
       two n false b p q o = never o
 
-      by : (r : Number) → fault_in (count_field most r) ≡ none → (r ≡ number.Is (number_value r)) × (number_value r ≤ 1000) × (number_value r ≤ most)
-      by (number.Is n) o = let t = two n (leb n 1000) (leb n most) refl refl o in (refl, t.0, t.1)
-      by number.Not o = never o
+      by : (r : Option ℕ) → fault_in (count_field most r) ≡ None → (r ≡ Some (number_value r)) × (number_value r ≤ 1000) × (number_value r ≤ most)
+      by (Some n) o = let t = two n (leb n 1000) (leb n most) refl refl o in (refl, t.0, t.1)
+      by None o = never o
 
-  pub side_good : (most : ℕ) → fault_in (field_of (rule.Side most) f) ≡ none → LegalSide most (number_value (number_of f))
+  pub side_good : (most : ℕ) → fault_in (field_of (rule.Side most) f) ≡ None → LegalSide most (number_value (number_of f))
   unfolding field_of
-  side_good most e = side_is most (number_value (number_of f)) (number_good 2 (is_side most) (number_of f) e)
+  side_good most e = side_is most (number_value (number_of f)) (number_good refusal.Size (is_side most) (number_of f) e)
 
-  pub channels_good : fault_in (field_of rule.Channels f) ≡ none → (number_value (number_of f) ≡ 1) ⊎ (number_value (number_of f) ≡ 3)
+  pub channels_good : fault_in (field_of rule.Channels f) ≡ None → (number_value (number_of f) ≡ 1) ⊎ (number_value (number_of f) ≡ 3)
   unfolding field_of
-  channels_good e = by (either (eqb n 1) (eqb n 3) (number_good 2 (λ n. eqb n 1 || eqb n 3) (number_of f) e))
+  channels_good e = by (either (eqb n 1) (eqb n 3) (number_good refusal.Size (λ n. eqb n 1 || eqb n 3) (number_of f) e))
     where
       n : ℕ
       n = number_value (number_of f)
@@ -95,90 +92,90 @@ module _ (f : List ℕ) where
 
   -- Weights
 
-  pub weight_good : fault_in (field_of rule.Weight f) ≡ none → LegalWeight (weight_in (weight_of f))
+  pub weight_good : fault_in (field_of rule.Weight f) ≡ None → LegalWeight (weight_in (weight_of f))
   unfolding field_of weight_of
   weight_good e = either_form (bit_form f) e
     where
       bits : (n : ℕ) (b : Bool) → ltb n 0x7f800000 ≡ b
-          → fault_in (weight_field (cond b (weight-field.Is (weight.Bits n)) (weight-field.Bad 6))) ≡ none
-          → LegalWeight (weight_in (cond b (weight-field.Is (weight.Bits n)) (weight-field.Bad 6)))
+          → fault_in (weight_field (cond b (Ok (weight.Bits n)) (Err refusal.Weight))) ≡ None
+          → LegalWeight (weight_in (cond b (Ok (weight.Bits n)) (Err refusal.Weight)))
       bits n true p o = ltb-true n 0x7f800000 p
       bits n false p o = never o
 
       whole : (n : ℕ) (b : Bool) → leb n 255 ≡ b
-          → fault_in (weight_field (cond b (weight-field.Is (weight.Whole n)) (weight-field.Bad 6))) ≡ none
-          → LegalWeight (weight_in (cond b (weight-field.Is (weight.Whole n)) (weight-field.Bad 6)))
+          → fault_in (weight_field (cond b (Ok (weight.Whole n)) (Err refusal.Weight))) ≡ None
+          → LegalWeight (weight_in (cond b (Ok (weight.Whole n)) (Err refusal.Weight)))
       whole n true p o = leb-true n 255 p
       whole n false p o = never o
 
-      whole_form : (r : Number) → fault_in (weight_field (whole_weight r)) ≡ none → LegalWeight (weight_in (whole_weight r))
-      whole_form (number.Is n) o = whole n (leb n 255) refl o
-      whole_form number.Not o = never o
+      whole_form : (r : Option ℕ) → fault_in (weight_field (whole_weight r)) ≡ None → LegalWeight (weight_in (whole_weight r))
+      whole_form (Some n) o = whole n (leb n 255) refl o
+      whole_form None o = never o
 
-      either_form : (b : Number) → fault_in (weight_field (or_whole f b)) ≡ none → LegalWeight (weight_in (or_whole f b))
-      either_form (number.Is n) o = bits n (ltb n 0x7f800000) refl o
-      either_form number.Not o = whole_form (number_of (after_letter 119 f)) o
+      either_form : (b : Option ℕ) → fault_in (weight_field (or_whole f b)) ≡ None → LegalWeight (weight_in (or_whole f b))
+      either_form (Some n) o = bits n (ltb n 0x7f800000) refl o
+      either_form None o = whole_form (number_of (after_letter 119 f)) o
 
 -- Quantisers and levels
 
 -- one quantiser from 1 to 255
-abbrev OneTable : Field → Type 0
-OneTable x = (q : ℕ) × (x ≡ field.Quantiser q) × Between 1 255 q
+abbrev OneTable : Result Field Refusal → Type 0
+OneTable x = (q : ℕ) × (x ≡ Ok (field.Quantiser q)) × Between 1 255 q
 
-table_good : (r : Number) → fault_in (quantiser_field r) ≡ none → OneTable (quantiser_field r)
-table_good (number.Is n) e = two (leb 1 n) (leb n 255) refl refl e
+table_good : (r : Option ℕ) → fault_in (quantiser_field r) ≡ None → OneTable (quantiser_field r)
+table_good (Some n) e = two (leb 1 n) (leb n 255) refl refl e
   where
-    two : (a b : Bool) → leb 1 n ≡ a → leb n 255 ≡ b → fault_in (cond (a && b) (field.Quantiser n) (field.Bad 4)) ≡ none → OneTable (cond (a && b) (field.Quantiser n) (field.Bad 4))
+    two : (a b : Bool) → leb 1 n ≡ a → leb n 255 ≡ b → fault_in (cond (a && b) (Ok (field.Quantiser n)) (Err refusal.Table)) ≡ None → OneTable (cond (a && b) (Ok (field.Quantiser n)) (Err refusal.Table))
     two true true p q o = (n, refl, record { low = leb-true 1 n p; top = leb-true n 255 q })
     two true false p q o = never o
     two false b p q o = never o
-table_good number.Not e = never e
+table_good None e = never e
 
-pub quantiser_good : (f : List ℕ) → fault_in (field_of rule.Quantiser f) ≡ none → (q : ℕ) × (field_of rule.Quantiser f ≡ field.Quantiser q) × Between 1 255 q
+pub quantiser_good : (f : List ℕ) → fault_in (field_of rule.Quantiser f) ≡ None → (q : ℕ) × (field_of rule.Quantiser f ≡ Ok (field.Quantiser q)) × Between 1 255 q
 unfolding field_of
 quantiser_good f e = table_good (number_of f) e
 
-abbrev OneLevel : LevelField → Type 0
-OneLevel r = (z : ℤ) × (r ≡ level-field.Is z) × LegalLevel z
+abbrev OneLevel : Result ℤ Refusal → Type 0
+OneLevel r = (z : ℤ) × (r ≡ Ok z) × LegalLevel z
 
 -- no level
-abbrev Wrong : LevelField → Type 0
-Wrong r = (k : ℕ) × (r ≡ level-field.Bad k)
+abbrev Wrong : Result ℤ Refusal → Type 0
+Wrong r = (k : Refusal) × (r ≡ Err k)
 
-from-zero : (r : Number) → OneLevel (from_zero r) ⊎ Wrong (from_zero r)
-from-zero (number.Is n) = two (leb n 2047) refl
+from-zero : (r : Option ℕ) → OneLevel (from_zero r) ⊎ Wrong (from_zero r)
+from-zero (Some n) = two (leb n 2047) refl
   where
-    two : (a : Bool) → leb n 2047 ≡ a → OneLevel (cond a (level-field.Is (pos n)) (level-field.Bad 5)) ⊎ Wrong (cond a (level-field.Is (pos n)) (level-field.Bad 5))
+    two : (a : Bool) → leb n 2047 ≡ a → OneLevel (cond a (Ok (pos n)) (Err refusal.Level)) ⊎ Wrong (cond a (Ok (pos n)) (Err refusal.Level))
     two true p = inl (pos n, refl, leb-true n 2047 p)
-    two false p = inr (5, refl)
-from-zero number.Not = inr (1, refl)
+    two false p = inr (refusal.Level, refl)
+from-zero None = inr (refusal.Form, refl)
 
 minus : (n : ℕ) → n ≤ 2047 → LegalLevel (neg_ℤ (pos n))
 minus zero h = omega arith
 minus (suc n) h = omega arith
 
-below-zero : (r : Number) → OneLevel (below_zero r) ⊎ Wrong (below_zero r)
-below-zero (number.Is n) = two (eqb n 0) (leb n 2047) refl
+below-zero : (r : Option ℕ) → OneLevel (below_zero r) ⊎ Wrong (below_zero r)
+below-zero (Some n) = two (eqb n 0) (leb n 2047) refl
   where
     two : (a b : Bool) → leb n 2047 ≡ b
-        → OneLevel (cond a (level-field.Bad 1) (cond b (level-field.Is (neg_ℤ (pos n))) (level-field.Bad 5)))
-        ⊎ Wrong (cond a (level-field.Bad 1) (cond b (level-field.Is (neg_ℤ (pos n))) (level-field.Bad 5)))
-    two true b p = inr (1, refl)
+        → OneLevel (cond a (Err refusal.Form) (cond b (Ok (neg_ℤ (pos n))) (Err refusal.Level)))
+        ⊎ Wrong (cond a (Err refusal.Form) (cond b (Ok (neg_ℤ (pos n))) (Err refusal.Level)))
+    two true b p = inr (refusal.Form, refl)
     two false true p = inl (neg_ℤ (pos n), refl, minus n (leb-true n 2047 p))
-    two false false p = inr (5, refl)
-below-zero number.Not = inr (1, refl)
+    two false false p = inr (refusal.Level, refl)
+below-zero None = inr (refusal.Form, refl)
 
 -- what a level's field says: a legal level, or a fault
 level_or : (f : List ℕ) → OneLevel (level_of f) ⊎ Wrong (level_of f)
 unfolding level_of
-level_or [] = inr (1, refl)
+level_or [] = inr (refusal.Form, refl)
 level_or (b ∷ l) = two (eqb b 45)
   where
     two : (a : Bool) → OneLevel (cond a (below_zero (number_of l)) (from_zero (number_of (b ∷ l)))) ⊎ Wrong (cond a (below_zero (number_of l)) (from_zero (number_of (b ∷ l))))
     two true = below-zero (number_of l)
     two false = from-zero (number_of (b ∷ l))
 
-pub level_good : (f : List ℕ) → fault_in (field_of rule.Level f) ≡ none → OneLevel (level_of f)
+pub level_good : (f : List ℕ) → fault_in (field_of rule.Level f) ≡ None → OneLevel (level_of f)
 unfolding field_of
 level_good f e = by (level_or f)
   where
@@ -186,7 +183,7 @@ level_good f e = by (level_or f)
     by (inl g) = g
     by (inr w) = never (rw w.1 at e)
 
-pub low_good : (f : List ℕ) → fault_in (field_of rule.Low f) ≡ none → OneLevel (level_of f)
+pub low_good : (f : List ℕ) → fault_in (field_of rule.Low f) ≡ None → OneLevel (level_of f)
 unfolding field_of
 low_good f e = by (level_or f)
   where
@@ -195,15 +192,15 @@ low_good f e = by (level_or f)
     by (inr w) = never (rw w.1 at e)
 
 -- the highest level of a range is not below its lowest
-pub high_good : (low : ℤ) (f : List ℕ) → fault_in (field_of (rule.High low) f) ≡ none → (z : ℤ) × (level_of f ≡ level-field.Is z) × LegalLevel z × (le_z low z ≡ true)
+pub high_good : (low : ℤ) (f : List ℕ) → fault_in (field_of (rule.High low) f) ≡ None → (z : ℤ) × (level_of f ≡ Ok z) × LegalLevel z × (le_z low z ≡ true)
 unfolding field_of
 high_good low f e = by (level_or f)
   where
-    above : (z : ℤ) (b : Bool) → le_z low z ≡ b → fault_in (cond b (field.High z) (field.Bad 14)) ≡ none → le_z low z ≡ true
+    above : (z : ℤ) (b : Bool) → le_z low z ≡ b → fault_in (cond b (Ok (field.High z)) (Err refusal.Range)) ≡ None → le_z low z ≡ true
     above z true p o = p
     above z false p o = never o
 
-    by : OneLevel (level_of f) ⊎ Wrong (level_of f) → (z : ℤ) × (level_of f ≡ level-field.Is z) × LegalLevel z × (le_z low z ≡ true)
+    by : OneLevel (level_of f) ⊎ Wrong (level_of f) → (z : ℤ) × (level_of f ≡ Ok z) × LegalLevel z × (le_z low z ≡ true)
     by (inl g) = (g.0, g.1, g.2, above g.0 (le_z low g.0) refl (rw g.1 at e))
     by (inr w) = never (rw w.1 at e)
 
@@ -236,64 +233,64 @@ adds_level rule.Low = true
 adds_level (rule.High low) = true
 
 -- a field that holds no level, and one that holds no quantiser
-abbrev NoLevel : Field → Type 0
+abbrev NoLevel : Result Field Refusal → Type 0
 NoLevel x = (lows_in x ≡ []) × (highs_in x ≡ [])
 
-abbrev Bare : Field → Type 0
+abbrev Bare : Result Field Refusal → Type 0
 Bare x = (tables_in x ≡ []) × NoLevel x
 
-bare_cond : (b : Bool) (k : ℕ) → Bare (cond b field.Good (field.Bad k))
+bare_cond : (b : Bool) (k : Refusal) → Bare (cond b (Ok field.Good) (Err k))
 bare_cond true k = (refl, (refl, refl))
 bare_cond false k = (refl, (refl, refl))
 
-bare_number : (k : ℕ) (ok : ℕ → Bool) (r : Number) → Bare (number_field k ok r)
-bare_number k ok (number.Is n) = bare_cond (ok n) k
-bare_number k ok number.Not = (refl, (refl, refl))
+bare_number : (k : Refusal) (ok : ℕ → Bool) (r : Option ℕ) → Bare (number_field k ok r)
+bare_number k ok (Some n) = bare_cond (ok n) k
+bare_number k ok None = (refl, (refl, refl))
 
-bare_count : (most : ℕ) (r : Number) → Bare (count_field most r)
-bare_count most (number.Is n) = two (leb n 1000) (leb n most)
+bare_count : (most : ℕ) (r : Option ℕ) → Bare (count_field most r)
+bare_count most (Some n) = two (leb n 1000) (leb n most)
   where
-    two : (a b : Bool) → Bare (cond a (cond b field.Good (field.Bad 15)) (field.Bad 2))
-    two true b = bare_cond b 15
+    two : (a b : Bool) → Bare (cond a (cond b (Ok field.Good) (Err refusal.Page)) (Err refusal.Size))
+    two true b = bare_cond b refusal.Page
     two false b = (refl, (refl, refl))
-bare_count most number.Not = (refl, (refl, refl))
+bare_count most None = (refl, (refl, refl))
 
-bare_weight : (r : WeightField) → Bare (weight_field r)
-bare_weight (weight-field.Is w) = (refl, (refl, refl))
-bare_weight (weight-field.Bad k) = (refl, (refl, refl))
+bare_weight : (r : Result Weight Refusal) → Bare (weight_field r)
+bare_weight (Ok w) = (refl, (refl, refl))
+bare_weight (Err k) = (refl, (refl, refl))
 
-no_level : (r : Number) → NoLevel (quantiser_field r)
-no_level (number.Is n) = two (leb 1 n && leb n 255)
+no_level : (r : Option ℕ) → NoLevel (quantiser_field r)
+no_level (Some n) = two (leb 1 n && leb n 255)
   where
-    two : (b : Bool) → NoLevel (cond b (field.Quantiser n) (field.Bad 4))
+    two : (b : Bool) → NoLevel (cond b (Ok (field.Quantiser n)) (Err refusal.Table))
     two true = (refl, refl)
     two false = (refl, refl)
-no_level number.Not = (refl, refl)
+no_level None = (refl, refl)
 
-no_table : (r : LevelField) → tables_in (level_field r) ≡ []
-no_table (level-field.Is z) = refl
-no_table (level-field.Bad k) = refl
+no_table : (r : Result ℤ Refusal) → tables_in (level_field r) ≡ []
+no_table (Ok z) = refl
+no_table (Err k) = refl
 
-no_table_low : (r : LevelField) → tables_in (low_field r) ≡ []
-no_table_low (level-field.Is z) = refl
-no_table_low (level-field.Bad k) = refl
+no_table_low : (r : Result ℤ Refusal) → tables_in (low_field r) ≡ []
+no_table_low (Ok z) = refl
+no_table_low (Err k) = refl
 
-no_table_high : (low : ℤ) (r : LevelField) → tables_in (high_field low r) ≡ []
-no_table_high low (level-field.Is z) = two (le_z low z)
+no_table_high : (low : ℤ) (r : Result ℤ Refusal) → tables_in (high_field low r) ≡ []
+no_table_high low (Ok z) = two (le_z low z)
   where
-    two : (b : Bool) → tables_in (cond b (field.High z) (field.Bad 14)) ≡ []
+    two : (b : Bool) → tables_in (cond b (Ok (field.High z)) (Err refusal.Range)) ≡ []
     two true = refl
     two false = refl
-no_table_high low (level-field.Bad k) = refl
+no_table_high low (Err k) = refl
 
 pub tables_none : (r : Rule) (f : List ℕ) → adds_table r ≡ false → tables_in (field_of r f) ≡ []
 unfolding field_of
-tables_none (rule.Tag t) f e = (bare_cond (letter t f) 1).0
+tables_none (rule.Tag t) f e = (bare_cond (letter t f) refusal.Form).0
 tables_none (rule.Range k low high) f e = (bare_number k (λ n. leb low n && leb n high) (number_of f)).0
 tables_none (rule.Count most) f e = (bare_count most (number_of f)).0
-tables_none (rule.Side most) f e = (bare_number 2 (is_side most) (number_of f)).0
-tables_none rule.Channels f e = (bare_number 2 (λ n. eqb n 1 || eqb n 3) (number_of f)).0
-tables_none (rule.Letters a b) f e = (bare_cond (letter a f || letter b f) 1).0
+tables_none (rule.Side most) f e = (bare_number refusal.Size (is_side most) (number_of f)).0
+tables_none rule.Channels f e = (bare_number refusal.Size (λ n. eqb n 1 || eqb n 3) (number_of f)).0
+tables_none (rule.Letters a b) f e = (bare_cond (letter a f || letter b f) refusal.Form).0
 tables_none rule.Weight f e = (bare_weight (weight_of f)).0
 tables_none rule.Quantiser f e = let z : ◌≡◌ {A = ℕ} 0 1 = cc in let y : ⊥ = omega arith in absurd y
 tables_none rule.Level f e = no_table (level_of f)
@@ -302,12 +299,12 @@ tables_none (rule.High low) f e = no_table_high low (level_of f)
 
 pub levels_none : (r : Rule) (f : List ℕ) → adds_level r ≡ false → (lows_in (field_of r f) ≡ []) × (highs_in (field_of r f) ≡ [])
 unfolding field_of
-levels_none (rule.Tag t) f e = (bare_cond (letter t f) 1).1
+levels_none (rule.Tag t) f e = (bare_cond (letter t f) refusal.Form).1
 levels_none (rule.Range k low high) f e = (bare_number k (λ n. leb low n && leb n high) (number_of f)).1
 levels_none (rule.Count most) f e = (bare_count most (number_of f)).1
-levels_none (rule.Side most) f e = (bare_number 2 (is_side most) (number_of f)).1
-levels_none rule.Channels f e = (bare_number 2 (λ n. eqb n 1 || eqb n 3) (number_of f)).1
-levels_none (rule.Letters a b) f e = (bare_cond (letter a f || letter b f) 1).1
+levels_none (rule.Side most) f e = (bare_number refusal.Size (is_side most) (number_of f)).1
+levels_none rule.Channels f e = (bare_number refusal.Size (λ n. eqb n 1 || eqb n 3) (number_of f)).1
+levels_none (rule.Letters a b) f e = (bare_cond (letter a f || letter b f) refusal.Form).1
 levels_none rule.Weight f e = (bare_weight (weight_of f)).1
 levels_none rule.Quantiser f e = no_level (number_of f)
 levels_none rule.Level f e = let z : ◌≡◌ {A = ℕ} 0 1 = cc in let y : ⊥ = omega arith in absurd y

@@ -1,33 +1,29 @@
 -- Numbers, one byte further, and by the tests that the code makes.
+use Rattle.std.proofs.Common.{Some, None}
 use Prim.Native.Nat.{ℕ, ◌+◌, ◌-◌, ◌*◌, ◌^◌, ◌<◌, ◌≤◌}
-use mathlib.Core.Path.{◌≡◌, refl, sym, ◌∙◌}
+use mathlib.Core.Path.{◌≡◌, refl, ◌∙◌}
 use mathlib.Core.List.{List, [], ◌∷◌}
-use mathlib.Core.Bool.{Bool, true, false, cond, ◌&&◌}
+use mathlib.Core.Bool.{false}
 use native.Mathlib.Numerals.{add-one}
 use native.Mathlib.Nat.{pow-succ', pow-le-pow_right}
 use native.Mathlib.Omega.{arith}
-use lib.ListN.{length, get_or, drop, take, drop_of_length-le}
-use lib.Dec.{eqb, leb}
-use borrow.Author.Tests.{eq-eqb, ne_eqb, le-leb, lt-leb}
-use Rattle.text.specs.declared.number.Number.{Number}
-use Rattle.text.specs.declared.number.Number.TheVariants as number
-use Rattle.text.specs.declared.pieces.Span.{Span}
-use Rattle.text.specs.Pieces.{split}
-use Rattle.text.specs.Cursor.{IsField}
-use Rattle.text.specs.Numbers.{digits, padded, number_of, number_at}
+use lib.ListN.{length, get_or, drop, drop_of_length-le}
+use lib.Dec.{eqb}
+use borrow.Author.Tests.{ne_eqb, le-leb, lt-leb}
+use Rattle.text.specs.Numbers.{digits, padded, number_of}
 use Rattle.text.proofs.PieceLaws.{drop_step}
 
 module _ (s : List ℕ) (v i : ℕ) where
   pub digits_more : i < length s → 48 ≤ get_or s i 0 → get_or s i 0 ≤ 57 → digits v (drop i s) ≡ digits (v * 10 + (get_or s i 0 - 48)) (drop (i + 1) s)
   digits_more h l u = rw (drop_step s i h, le-leb _ _ l, le-leb _ _ u)
 
-  pub digits_low : i < length s → get_or s i 0 < 48 → digits v (drop i s) ≡ number.Not
+  pub digits_low : i < length s → get_or s i 0 < 48 → digits v (drop i s) ≡ None
   digits_low h l = rw (drop_step s i h, lt-leb _ _ l)
 
-  pub digits_high : i < length s → 48 ≤ get_or s i 0 → 57 < get_or s i 0 → digits v (drop i s) ≡ number.Not
+  pub digits_high : i < length s → 48 ≤ get_or s i 0 → 57 < get_or s i 0 → digits v (drop i s) ≡ None
   digits_high h l u = rw (drop_step s i h, le-leb _ _ l, lt-leb _ _ u)
 
-  pub digits_end : length s ≤ i → digits v (drop i s) ≡ number.Is v
+  pub digits_end : length s ≤ i → digits v (drop i s) ≡ Some v
   digits_end h = rw (drop_of_length-le s h)
 
 pub digits_bound : (v i d : ℕ) → v < 10 ^ i → d ≤ 9 → v * 10 + d < 10 ^ (i + 1)
@@ -35,14 +31,6 @@ digits_bound v i d h k = rw (add-one i, pow-succ' 10 i) (omega arith)
 
 pub digits_small : (v i : ℕ) → v < 10 ^ i → i ≤ 6 → v < 1000000
 digits_small v i h k = omega (arith, pow-le-pow_right {n = 10} (omega arith) k)
-
-pub number_short : (s : List ℕ) → length s < 1 → number_of s ≡ number.Not
-unfolding number_of
-number_short s h = rw (lt-leb 1 (length s) h)
-
-pub number_long : (s : List ℕ) → 6 < length s → number_of s ≡ number.Not
-unfolding number_of
-number_long s h = rw (le-leb 1 (length s) (omega arith), lt-leb (length s) 6 h)
 
 padded_is : (s : List ℕ) → 1 < length s → padded s ≡ eqb (get_or s 0 0) 48
 padded_is [] h = let z : ⊥ = omega arith in absurd z
@@ -54,14 +42,6 @@ not_padded [] h = refl
 not_padded (b ∷ []) h = refl
 not_padded (b ∷ (d ∷ l)) h = let z : ⊥ = omega arith in absurd z
 
-pub number_padded : (s : List ℕ) → 1 < length s → get_or s 0 0 ≡ 48 → number_of s ≡ number.Not
-unfolding number_of
-number_padded s h e = rw (padded_is s h, eq-eqb (get_or s 0 0) 48 e) (same (leb 1 (length s) && leb (length s) 6))
-  where
-    same : (t : Bool) → cond t number.Not number.Not ≡ number.Not
-    same true = refl
-    same false = refl
-
 pub number_digits : (s : List ℕ) → 1 ≤ length s → length s ≤ 6 → padded s ≡ false → digits 0 s ≡ number_of s
 unfolding number_of
 number_digits s l u p = rw (le-leb 1 (length s) l, le-leb (length s) 6 u, p)
@@ -71,14 +51,3 @@ number_two s h u p = number_digits s (omega arith) u (padded_is s h ∙ ne_eqb _
 
 pub number_one : (s : List ℕ) → 1 ≤ length s → length s ≤ 1 → digits 0 s ≡ number_of s
 number_one s l u = number_digits s l (omega arith) (not_padded s u)
-
-module _ (s : List ℕ) (i : ℕ) (p : Span) (f : IsField s i p) (r : Number) (e : r ≡ number_of (take (p.end - p.start) (drop p.start s))) where
-  pub number-in : (n : ℕ) → r ≡ number.Is n → n ≡ number_at (split 9 s) i
-  unfolding number_at
-  number-in n q = rw (← f.part, sym e ∙ q)
-
-  pub number_none : r ≡ number.Not → 0 ≡ number_at (split 9 s) i
-  unfolding number_at
-  number_none q = rw (← f.part, sym e ∙ q)
-
-pub ruleset numbers = (number-in, number_none)

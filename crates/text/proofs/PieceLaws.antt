@@ -1,32 +1,47 @@
 -- What a scan meets: the pieces of what is left, one byte further.
-use Prim.Native.Nat.{ℕ, suc, ◌+◌, ◌-◌, ◌<◌, ◌≤◌}
+use Prim.Native.Nat.{ℕ, ◌+◌, ◌-◌, ◌<◌, ◌≤◌}
 use mathlib.Core.Path.{◌≡◌, refl, sym, ap, ◌∙◌}
 use mathlib.Core.List.{List, [], ◌∷◌}
 use mathlib.Core.Bool.{Bool, true, false, cond}
 use native.Mathlib.Numerals.{add-one}
 use native.Mathlib.Omega.{arith}
-use lib.ListN.{length, get_or, drop, take, drop_of_length-le, length-drop, get_or-eq_default}
+use lib.ListN.{length, get_or, drop, take, length-drop, get_or-eq_default}
 use native.Mathlib.Nat.{lt_of_not-le, suc-add}
 use lib.Seq.{drop-cons, get_or-drop, drop-drop}
-use lib.Dec.{eqb}
-use borrow.Author.Tests.{eq-eqb, ne_eqb}
+use lib.Dec.{eqb, ltb}
+use borrow.Author.Tests.{ltb-true, ltb-false}
+use Rattle.std.specs.List.{position_or_len}
+use Rattle.std.proofs.Common.{not, Some, None, position}
+use Rattle.std.specs.Int.{from_bool}
 use Rattle.text.specs.Pieces.{split, before, onto}
-use Rattle.text.specs.Cursor.{AtField, IsField}
+use Rattle.text.specs.Cursor.{AtField}
 
 -- the list from i on, one element further
 pub drop_step : (s : List ℕ) (i : ℕ) → i < length s → drop i s ≡ get_or s i 0 ∷ drop (i + 1) s
 drop_step s i h = rw (add-one, drop-cons s i 0)
 
--- The first piece of what is left
+-- The first piece ends at the first b
+pub before_place : (b : ℕ) (l : List ℕ) → position_or_len (λ x. eqb x b) l ≡ length (before b l)
+before_place b [] = refl
+before_place b (x ∷ l) = two (eqb x b) (before_place b l)
+  where
+    two : (t : Bool) → position_or_len (λ x. eqb x b) l ≡ length (before b l) → cond (not t) (1 + position_or_len (λ x. eqb x b) l) 0 ≡ length (cond t [] (x ∷ before b l))
+    two true e = refl
+    two false e = omega arith
 
-pub before_hit : (s : List ℕ) (b i : ℕ) → get_or s i 0 ≡ b → i < length s → before b (drop i s) ≡ []
-before_hit s b i e h = rw (drop_step s i h, eq-eqb _ _ e)
+pub before_some : (b n : ℕ) (l : List ℕ) → Some n ≡ position (λ x. eqb x b) l → (n < length l) × (n ≡ length (before b l))
+before_some b n l e = two (ltb (position_or_len (λ x. eqb x b) l) (length l)) refl e
+  where
+    two : (t : Bool) → ltb (position_or_len (λ x. eqb x b) l) (length l) ≡ t → Some n ≡ cond t (Some (position_or_len (λ x. eqb x b) l)) None → (n < length l) × (n ≡ length (before b l))
+    two true p o = let q : n ≡ position_or_len (λ x. eqb x b) l = cc in (omega (arith, ltb-true _ _ p), q ∙ before_place b l)
+    two false p o = cc
 
-pub before_miss : (s : List ℕ) (b i : ℕ) → (get_or s i 0 ≡ b → ⊥) → i < length s → before b (drop i s) ≡ get_or s i 0 ∷ before b (drop (i + 1) s)
-before_miss s b i e h = rw (drop_step s i h, ne_eqb _ _ e)
-
-pub before_end : (s : List ℕ) (b i : ℕ) → length s ≤ i → before b (drop i s) ≡ []
-before_end s b i h = rw (drop_of_length-le s h)
+pub before_none : (b : ℕ) (l : List ℕ) → None ≡ position (λ x. eqb x b) l → length l ≤ length (before b l)
+before_none b l e = two (ltb (position_or_len (λ x. eqb x b) l) (length l)) refl e
+  where
+    two : (t : Bool) → ltb (position_or_len (λ x. eqb x b) l) (length l) ≡ t → None ≡ cond t (Some (position_or_len (λ x. eqb x b) l)) None → length l ≤ length (before b l)
+    two true p o = cc
+    two false p o = omega (arith, ltb-false _ _ p, before_place b l)
 
 -- The pieces
 
@@ -96,16 +111,20 @@ split_length b (x ∷ l) = two (eqb x b) (split_length b l) (split_some b l)
     two true h k = omega arith
     two false h k = omega (arith, length_onto x (split b l) k)
 
--- How many fields the rest of a line has
+-- How many fields a line has: a tab more, a field more
+pub one_most : (t : Bool) → from_bool t ≤ 1
+one_most true = omega arith
+one_most false = omega arith
 
-module _ (s : List ℕ) (i : ℕ) (h : i < length s) where
-  pub fields_tab : get_or s i 0 ≡ 9 → length (split 9 (before 10 (drop i s))) ≡ suc (length (split 9 (before 10 (drop (i + 1) s))))
-  fields_tab e = rw (before_miss s 10 i (λ q. omega arith) h, eq-eqb _ _ e)
+pub fields_step : (l : List ℕ) (k : ℕ) → k < length l → length (split 9 (drop k l)) ≡ from_bool (eqb (get_or l k 0) 9) + length (split 9 (drop (k + 1) l))
+fields_step l k h = rw (drop_step l k h) (two (eqb (get_or l k 0) 9))
+  where
+    rest : List (List ℕ)
+    rest = split 9 (drop (k + 1) l)
 
-  pub fields_other : (get_or s i 0 ≡ 10 → ⊥) → (get_or s i 0 ≡ 9 → ⊥) → length (split 9 (before 10 (drop i s))) ≡ length (split 9 (before 10 (drop (i + 1) s)))
-  fields_other n e =
-      let r = before 10 (drop (i + 1) s) in
-      rw (before_miss s 10 i n h, ne_eqb _ _ e) (length_onto (get_or s i 0) (split 9 r) (split_some 9 r))
+    two : (t : Bool) → length (cond t ([] ∷ rest) (onto (get_or l k 0) rest)) ≡ from_bool t + length rest
+    two true = omega arith
+    two false = omega (arith, length_onto (get_or l k 0) rest (split_some 9 (drop (k + 1) l)))
 
 -- Field i of the row s starts at a
 
@@ -147,18 +166,13 @@ module _ {s : List ℕ} {i a : ℕ} (f : AtField s i a) where
     at_more n = rw p (at_tab (omega (arith, at-end, length-drop a s, f.inside)))
 
     -- the row ends it, so there is no later field
-    pub field_none : (j : ℕ) → i < j → e ≡ length s → IsField s j (record { start = e; end = e })
+    pub field_none : (j : ℕ) → i < j → e ≡ length s → [] ≡ get_or (split 9 s) j []
     field_none j h n =
         let w = split_whole 9 (drop a s) (omega (arith, length-drop a s, f.inside)) in
-        let z : e - e ≡ 0 = omega arith in
-        record {
-          ordered = omega arith;
-          inside = omega arith;
-          part = rw z (sym (get_or-eq_default (split 9 s) [] {n = j} (omega (arith, ap length w, at_count))));
-        }
+        sym (get_or-eq_default (split 9 s) [] {n = j} (omega (arith, ap length w, at_count)))
 
-    pub field_part : IsField s i (record { start = a; end = e })
+    pub field_part : take (e - a) (drop a s) ≡ get_or (split 9 s) i []
     field_part =
         let n = length (before 9 (drop a s)) in
         let k : (a + n) - a ≡ n = omega arith in
-        record { ordered = omega arith; inside = omega (arith, at-end); part = rw (p, k) at_here }
+        rw (p, k) at_here

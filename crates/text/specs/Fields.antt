@@ -1,20 +1,19 @@
--- What a field says under the rule of its place: its fault, by the number of the paper's table, or its value.
+-- What a field says under the rule of its place: its refusal, or its value.
 -- "spelling (1) before range".
-use Rattle.std.specs.Prelude.{ℕ, ◌%◌, List, [], ◌∷◌, Bool, false, cond, ◌&&◌, ◌||◌, eqb, leb, ℤ}
-use Rattle.std.proofs.Math.Option.{Option, none, some}
+use Rattle.refusal.specs.declared.Refusal.TheVariants as refusal
+use Rattle.refusal.specs.declared.Refusal.{Refusal}
+use Rattle.std.specs.Prelude.{ℕ, ◌%◌, List, [], ◌∷◌, Bool, false, cond, ◌&&◌, ◌||◌, eqb, leb, ℤ, Some, None, Ok, Err, Option, Result}
 use Rattle.std.specs.Int.Signed.{le_z}
-use Rattle.text.specs.declared.number.Number.{Number}
-use Rattle.text.specs.declared.number.Number.TheVariants as number
-use Rattle.text.specs.declared.weight.WeightField.{WeightField}
-use Rattle.text.specs.declared.weight.WeightField.TheVariants as weight-field
+use Rattle.contents.specs.declared.Weight.{Weight}
+use Rattle.contents.specs.declared.Weight.{Weight}
 use Rattle.text.specs.declared.field.Rule.{Rule}
 use Rattle.text.specs.declared.field.Rule.TheVariants as rule
 use Rattle.text.specs.declared.field.Field.{Field}
 use Rattle.text.specs.declared.field.Field.TheVariants as field
+use Rattle.refusal.specs.Refusal as table
+use Rattle.refusal.specs.Refusal as table
 use Rattle.text.specs.Numbers.{number_of}
 use Rattle.text.specs.Weights.{weight_of}
-use Rattle.text.specs.declared.level.LevelField.{LevelField}
-use Rattle.text.specs.declared.level.LevelField.TheVariants as level-field
 use Rattle.text.specs.Levels.{level_of}
 
 -- just the letter t
@@ -28,46 +27,46 @@ abbrev pub is_side : ℕ → ℕ → Bool
 is_side most n = (eqb (n % 8) 0 && leb 8 n) && leb n most
 
 -- a number: 1 where it is misspelt, k where it is out of range
-abbrev pub number_field : ℕ → (ℕ → Bool) → Number → Field
-number_field k ok (number.Is n) = cond (ok n) field.Good (field.Bad k)
-number_field k ok number.Not = field.Bad 1
+abbrev pub number_field : Refusal → (ℕ → Bool) → Option ℕ → Result Field Refusal
+number_field k ok (Some n) = cond (ok n) (Ok field.Good) (Err k)
+number_field k ok None = Err refusal.Form
 
 -- "quantiser not 1 to 255" is 4
-abbrev pub quantiser_field : Number → Field
-quantiser_field (number.Is n) = cond (leb 1 n && leb n 255) (field.Quantiser n) (field.Bad 4)
-quantiser_field number.Not = field.Bad 1
+abbrev pub quantiser_field : Option ℕ → Result Field Refusal
+quantiser_field (Some n) = cond (leb 1 n && leb n 255) (Ok (field.Quantiser n)) (Err refusal.Table)
+quantiser_field None = Err refusal.Form
 
 -- "three iteration counts (0 to 1,000)", else 2; "15 .. an iteration count within 1,000 but above the caller's limit" (M-106)
-abbrev pub count_field : ℕ → Number → Field
-count_field most (number.Is n) = cond (leb n 1000) (cond (leb n most) field.Good (field.Bad 15)) (field.Bad 2)
-count_field most number.Not = field.Bad 1
+abbrev pub count_field : ℕ → Option ℕ → Result Field Refusal
+count_field most (Some n) = cond (leb n 1000) (cond (leb n most) (Ok field.Good) (Err refusal.Page)) (Err refusal.Size)
+count_field most None = Err refusal.Form
 
-abbrev pub weight_field : WeightField → Field
-weight_field (weight-field.Is w) = field.Good
-weight_field (weight-field.Bad k) = field.Bad k
+abbrev pub weight_field : Result Weight Refusal → Result Field Refusal
+weight_field (Ok w) = Ok field.Good
+weight_field (Err k) = Err k
 
 -- "lines `B` with 64 levels"; "`G` with 64 pairs, low then high"; "14 "range", low above high, checked after 5 on the same pair" (M-105)
-abbrev pub level_field : LevelField → Field
-level_field (level-field.Is z) = field.Level z
-level_field (level-field.Bad k) = field.Bad k
+abbrev pub level_field : Result ℤ Refusal → Result Field Refusal
+level_field (Ok z) = Ok (field.Level z)
+level_field (Err k) = Err k
 
-abbrev pub low_field : LevelField → Field
-low_field (level-field.Is z) = field.Low z
-low_field (level-field.Bad k) = field.Bad k
+abbrev pub low_field : Result ℤ Refusal → Result Field Refusal
+low_field (Ok z) = Ok (field.Low z)
+low_field (Err k) = Err k
 
-abbrev pub high_field : ℤ → LevelField → Field
-high_field low (level-field.Is z) = cond (le_z low z) (field.High z) (field.Bad 14)
-high_field low (level-field.Bad k) = field.Bad k
+abbrev pub high_field : ℤ → Result ℤ Refusal → Result Field Refusal
+high_field low (Ok z) = cond (le_z low z) (Ok (field.High z)) (Err refusal.Range)
+high_field low (Err k) = Err k
 
 -- "side, channel count, iterations .. against the rules" is 2, and the number of any other range stands in its rule; "a bad
 -- mode letter is 1", and so is any other bad letter
-unfoldable pub field_of : Rule → List ℕ → Field
-field_of (rule.Tag t) f = cond (letter t f) field.Good (field.Bad 1)
+unfoldable pub field_of : Rule → List ℕ → Result Field Refusal
+field_of (rule.Tag t) f = cond (letter t f) (Ok field.Good) (Err refusal.Form)
 field_of (rule.Range k low high) f = number_field k (λ n. leb low n && leb n high) (number_of f)
 field_of (rule.Count most) f = count_field most (number_of f)
-field_of (rule.Side most) f = number_field 2 (is_side most) (number_of f)
-field_of rule.Channels f = number_field 2 (λ n. eqb n 1 || eqb n 3) (number_of f)
-field_of (rule.Letters a b) f = cond (letter a f || letter b f) field.Good (field.Bad 1)
+field_of (rule.Side most) f = number_field refusal.Size (is_side most) (number_of f)
+field_of rule.Channels f = number_field refusal.Size (λ n. eqb n 1 || eqb n 3) (number_of f)
+field_of (rule.Letters a b) f = cond (letter a f || letter b f) (Ok field.Good) (Err refusal.Form)
 field_of rule.Weight f = weight_field (weight_of f)
 field_of rule.Quantiser f = quantiser_field (number_of f)
 field_of rule.Level f = level_field (level_of f)
@@ -75,35 +74,31 @@ field_of rule.Low f = low_field (level_of f)
 field_of (rule.High low) f = high_field low (level_of f)
 
 -- The number of a field's fault, if it has one
-abbrev pub fault_in : Field → Option ℕ
-fault_in (field.Bad k) = some k
-fault_in (field.Quantiser n) = none
-fault_in (field.Level z) = none
-fault_in (field.Low z) = none
-fault_in (field.High z) = none
-fault_in field.Good = none
+abbrev pub fault_in : Result Field Refusal → Option ℕ
+fault_in (Err k) = Some (table.number_of k)
+fault_in (Ok x) = None
 
--- What a field adds to the tables, to the lows and to the highs: "a `B` level stands in both"
-abbrev pub tables_in : Field → List ℕ
-tables_in (field.Bad k) = []
-tables_in (field.Quantiser n) = n ∷ []
-tables_in (field.Level z) = []
-tables_in (field.Low z) = []
-tables_in (field.High z) = []
-tables_in field.Good = []
+-- What a field adds to the tables, to the lows and to the highs: "a `B` level stands in both"; a bad one adds nothing
+abbrev pub tables_in : Result Field Refusal → List ℕ
+tables_in (Err k) = []
+tables_in (Ok (field.Quantiser n)) = n ∷ []
+tables_in (Ok (field.Level z)) = []
+tables_in (Ok (field.Low z)) = []
+tables_in (Ok (field.High z)) = []
+tables_in (Ok field.Good) = []
 
-abbrev pub lows_in : Field → List ℤ
-lows_in (field.Bad k) = []
-lows_in (field.Quantiser n) = []
-lows_in (field.Level z) = z ∷ []
-lows_in (field.Low z) = z ∷ []
-lows_in (field.High z) = []
-lows_in field.Good = []
+abbrev pub lows_in : Result Field Refusal → List ℤ
+lows_in (Err k) = []
+lows_in (Ok (field.Quantiser n)) = []
+lows_in (Ok (field.Level z)) = z ∷ []
+lows_in (Ok (field.Low z)) = z ∷ []
+lows_in (Ok (field.High z)) = []
+lows_in (Ok field.Good) = []
 
-abbrev pub highs_in : Field → List ℤ
-highs_in (field.Bad k) = []
-highs_in (field.Quantiser n) = []
-highs_in (field.Level z) = z ∷ []
-highs_in (field.Low z) = []
-highs_in (field.High z) = z ∷ []
-highs_in field.Good = []
+abbrev pub highs_in : Result Field Refusal → List ℤ
+highs_in (Err k) = []
+highs_in (Ok (field.Quantiser n)) = []
+highs_in (Ok (field.Level z)) = z ∷ []
+highs_in (Ok (field.Low z)) = []
+highs_in (Ok (field.High z)) = z ∷ []
+highs_in (Ok field.Good) = []

@@ -1,21 +1,18 @@
 // Fields and their rules.
-ghost use Rattle.std.specs.Prelude.{◌≡◌, [], get_or};
-ghost use Rattle.std.specs.Int.Signed.{le_z};
+ghost use Rattle.std.specs.Prelude.{◌≡◌, [], cond, get_or, Ok, Err};
 ghost use Rattle.text.specs.Pieces.{split};
 ghost use Rattle.text.specs.Fields.{letter, field_of};
 
-use crate::level::LevelField;
-use crate::number::Number;
-use crate::weight::WeightField;
 use crate::{level, number, pieces, weight};
+use refusal::Refusal;
 
 // What a field must be: this one letter; a number from low to high, else this fault; an iteration count up to the most; a
 // multiple of 8 from 8 to the most; 1 or 3; one of two letters; a weight; a quantiser; a level; the lowest of a range of
 // levels; the highest of the range with this lowest.
-#[derive(Clone, Copy)]
+#[derive(Clone, Copy, Debug, PartialEq, Eq)]
 pub enum Rule {
     Tag(u8),
-    Range { fault: u8, low: u32, high: u32 },
+    Range { fault: Refusal, low: u32, high: u32 },
     Count(u32),
     Side(u32),
     Channels,
@@ -27,11 +24,9 @@ pub enum Rule {
     High(i16),
 }
 
-// What a field says under its rule: the number of its fault, a quantiser, a level, the lowest or the highest of a range, or
-// any other good field.
-#[derive(Clone, Copy)]
+// What a good field says under its rule: a quantiser, a level, the lowest or the highest of a range, or something else.
+#[derive(Clone, Copy, Debug, PartialEq, Eq)]
 pub enum Field {
-    Bad(u8),
     Quantiser(u16),
     Level(i16),
     Low(i16),
@@ -43,184 +38,97 @@ pub enum Field {
 pub fn is_letter(f: &[u8], t: u8) -> bool
     ensures { result ≡ letter t f.now }
 {
-    if f.len() != 1 {
-        return false;
-    }
-    f[0] == t
+    f.len() == 1 && f[0] == t
 }
 
 // Is field i of a row just the letter t?
 pub fn letter_at(row: &[u8], i: usize, t: u8) -> bool
     ensures { result ≡ letter t (get_or (split 9 row.now) i []) }
 {
-    let s = pieces::field_at(row, i);
-    let a = s.start;
-    let e = s.end;
-    is_letter(&row[a..e], t)
+    is_letter(pieces::field_at(row, i), t)
 }
 
-fn read_tag(f: &[u8], t: u8) -> Field
-    ensures { result ≡ field_of (Rule.Tag t) f.now }
+fn good_if(holds: bool, fault: Refusal) -> Result<Field, Refusal>
+    ensures { result ≡ cond holds (Ok Field.Good) (Err fault) }
 {
-    if is_letter(f, t) {
-        return Field::Good;
-    }
-    Field::Bad(1)
+    if holds { Ok(Field::Good) } else { Err(fault) }
 }
 
-fn read_range(f: &[u8], fault: u8, low: u32, high: u32) -> Field
+#[tactic(auto, unfolding(crate::specs::Fields::field_of))]
+fn read_range(f: &[u8], fault: Refusal, low: u32, high: u32) -> Result<Field, Refusal>
     ensures { result ≡ field_of (Rule.Range fault low high) f.now }
 {
-    let Number::Is(n) = number::read_number(f) else {
-        return Field::Bad(1);
-    };
-    if n < low {
-        return Field::Bad(fault);
-    }
-    if high < n {
-        return Field::Bad(fault);
-    }
-    Field::Good
+    let n = number::read_number(f).ok_or(Refusal::Form)?;
+    good_if(low <= n && n <= high, fault)
 }
 
-fn read_count(f: &[u8], most: u32) -> Field
+#[tactic(auto, unfolding(crate::specs::Fields::field_of))]
+fn read_count(f: &[u8], most: u32) -> Result<Field, Refusal>
     ensures { result ≡ field_of (Rule.Count most) f.now }
 {
-    let Number::Is(n) = number::read_number(f) else {
-        return Field::Bad(1);
-    };
+    let n = number::read_number(f).ok_or(Refusal::Form)?;
     if 1000 < n {
-        return Field::Bad(2);
+        return Err(Refusal::Size);
     }
-    if most < n {
-        return Field::Bad(15);
-    }
-    Field::Good
+    good_if(n <= most, Refusal::Page)
 }
 
-fn read_side(f: &[u8], high: u32) -> Field
+#[tactic(auto, unfolding(crate::specs::Fields::field_of))]
+fn read_side(f: &[u8], high: u32) -> Result<Field, Refusal>
     ensures { result ≡ field_of (Rule.Side high) f.now }
 {
-    let Number::Is(n) = number::read_number(f) else {
-        return Field::Bad(1);
-    };
-    if n % 8 != 0 {
-        return Field::Bad(2);
-    }
-    if n < 8 {
-        return Field::Bad(2);
-    }
-    if high < n {
-        return Field::Bad(2);
-    }
-    Field::Good
+    let n = number::read_number(f).ok_or(Refusal::Form)?;
+    good_if(n % 8 == 0 && 8 <= n && n <= high, Refusal::Size)
 }
 
-fn read_channels(f: &[u8]) -> Field
+#[tactic(auto, unfolding(crate::specs::Fields::field_of))]
+fn read_channels(f: &[u8]) -> Result<Field, Refusal>
     ensures { result ≡ field_of Rule.Channels f.now }
 {
-    let Number::Is(n) = number::read_number(f) else {
-        return Field::Bad(1);
-    };
-    if n == 1 {
-        return Field::Good;
-    }
-    if n == 3 {
-        return Field::Good;
-    }
-    Field::Bad(2)
+    let n = number::read_number(f).ok_or(Refusal::Form)?;
+    good_if(n == 1 || n == 3, Refusal::Size)
 }
 
-fn read_letters(f: &[u8], a: u8, b: u8) -> Field
-    ensures { result ≡ field_of (Rule.Letters a b) f.now }
-{
-    if is_letter(f, a) {
-        return Field::Good;
-    }
-    if is_letter(f, b) {
-        return Field::Good;
-    }
-    Field::Bad(1)
-}
-
-fn check_weight(f: &[u8]) -> Field
-    ensures { result ≡ field_of Rule.Weight f.now }
-{
-    match weight::read_weight(f) {
-        WeightField::Is(_) => Field::Good,
-        WeightField::Bad(k) => Field::Bad(k),
-    }
-}
-
-fn read_quantiser(f: &[u8]) -> Field
+#[tactic(auto, unfolding(crate::specs::Fields::field_of))]
+fn read_quantiser(f: &[u8]) -> Result<Field, Refusal>
     ensures { result ≡ field_of Rule.Quantiser f.now }
 {
-    let Number::Is(n) = number::read_number(f) else {
-        return Field::Bad(1);
-    };
-    if n < 1 {
-        return Field::Bad(4);
+    let n = number::read_number(f).ok_or(Refusal::Form)?;
+    if n < 1 || 255 < n {
+        return Err(Refusal::Table);
     }
-    if 255 < n {
-        return Field::Bad(4);
-    }
-    Field::Quantiser(n as u16)
-}
-
-fn check_level(f: &[u8]) -> Field
-    ensures { result ≡ field_of Rule.Level f.now }
-{
-    match level::read_level(f) {
-        LevelField::Is(z) => Field::Level(z),
-        LevelField::Bad(k) => Field::Bad(k),
-    }
-}
-
-fn check_low(f: &[u8]) -> Field
-    ensures { result ≡ field_of Rule.Low f.now }
-{
-    match level::read_level(f) {
-        LevelField::Is(z) => Field::Low(z),
-        LevelField::Bad(k) => Field::Bad(k),
-    }
-}
-
-fn is_ordered(low: i16, high: i16) -> bool
-    ensures { result ≡ le_z low high }
-{
-    low <= high
+    Ok(Field::Quantiser(n as u16))
 }
 
 // The highest level of a range, not below its lowest.
-fn check_high(f: &[u8], low: i16) -> Field
+#[tactic(auto, unfolding(crate::specs::Fields::field_of))]
+fn read_high(f: &[u8], low: i16) -> Result<Field, Refusal>
     ensures { result ≡ field_of (Rule.High low) f.now }
 {
-    match level::read_level(f) {
-        LevelField::Is(z) => {
-            if is_ordered(low, z) {
-                return Field::High(z);
-            }
-            Field::Bad(14)
-        }
-        LevelField::Bad(k) => Field::Bad(k),
+    let high = level::read_level(f)?;
+    if low <= high {
+        Ok(Field::High(high))
+    } else {
+        Err(Refusal::Range)
     }
 }
 
 // What a field says under its rule, spelling before range.
-pub fn read_field(rule: Rule, f: &[u8]) -> Field
+#[tactic(auto, unfolding(crate::specs::Fields::field_of))]
+pub fn read_field(rule: Rule, f: &[u8]) -> Result<Field, Refusal>
     ensures { result ≡ field_of rule f.now }
 {
     match rule {
-        Rule::Tag(t) => read_tag(f, t),
+        Rule::Tag(t) => good_if(is_letter(f, t), Refusal::Form),
         Rule::Range { fault, low, high } => read_range(f, fault, low, high),
         Rule::Count(most) => read_count(f, most),
         Rule::Side(high) => read_side(f, high),
         Rule::Channels => read_channels(f),
-        Rule::Letters(a, b) => read_letters(f, a, b),
-        Rule::Weight => check_weight(f),
+        Rule::Letters(a, b) => good_if(is_letter(f, a) || is_letter(f, b), Refusal::Form),
+        Rule::Weight => weight::read_weight(f).map(|_| Field::Good),
         Rule::Quantiser => read_quantiser(f),
-        Rule::Level => check_level(f),
-        Rule::Low => check_low(f),
-        Rule::High(low) => check_high(f, low),
+        Rule::Level => level::read_level(f).map(Field::Level),
+        Rule::Low => level::read_level(f).map(Field::Low),
+        Rule::High(low) => read_high(f, low),
     }
 }

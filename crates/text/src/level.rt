@@ -1,41 +1,44 @@
 // Levels.
 ghost use Rattle.std.specs.Prelude.{◌≡◌};
-ghost use Rattle.text.specs.Levels.{level_of};
+ghost use Rattle.text.specs.Levels.{from_zero, below_zero, level_of};
 
 use crate::number;
-use crate::number::Number;
+use refusal::Refusal;
 
-// What a level's field says: the level, or the number of its fault.
-#[derive(Clone, Copy)]
-pub enum LevelField {
-    Is(i16),
-    Bad(u8),
+// A level by its number, where no minus stands before it.
+fn from_zero(number: Option<u32>) -> Result<i16, Refusal>
+    ensures { result ≡ from_zero number }
+{
+    let n = number.ok_or(Refusal::Form)?;
+    if n <= 2047 {
+        Ok(n as i16)
+    } else {
+        Err(Refusal::Level)
+    }
+}
+
+// A level by the number after its minus.
+fn below_zero(number: Option<u32>) -> Result<i16, Refusal>
+    ensures { result ≡ below_zero number }
+{
+    let n = number.ok_or(Refusal::Form)?;
+    if n == 0 {
+        return Err(Refusal::Form);
+    }
+    if 2047 < n {
+        return Err(Refusal::Level);
+    }
+    Ok(-(n as i16))
 }
 
 // A level: a number, or a minus and a number that isn't 0.
-pub fn read_level(f: &[u8]) -> LevelField
+#[tactic(auto, unfolding(crate::specs::Levels::level_of))]
+pub fn read_level(f: &[u8]) -> Result<i16, Refusal>
     ensures { result ≡ level_of f.now }
 {
-    if f.len() < 1 {
-        return LevelField::Bad(1);
+    match f {
+        [b'-', rest @ ..] => below_zero(number::read_number(rest)),
+        [_, ..] => from_zero(number::read_number(f)),
+        [] => Err(Refusal::Form),
     }
-    if f[0] == b'-' {
-        let Number::Is(n) = number::read_number(&f[1..]) else {
-            return LevelField::Bad(1);
-        };
-        if n == 0 {
-            return LevelField::Bad(1);
-        }
-        if 2047 < n {
-            return LevelField::Bad(5);
-        }
-        return LevelField::Is(-(n as i16));
-    }
-    let Number::Is(n) = number::read_number(f) else {
-        return LevelField::Bad(1);
-    };
-    if n <= 2047 {
-        return LevelField::Is(n as i16);
-    }
-    LevelField::Bad(5)
 }

@@ -1,58 +1,38 @@
 // Numbers.
 ghost use Rattle.std.specs.Prelude.{◌≡◌};
 ghost use Rattle.text.specs.Pieces.{split};
-ghost use Rattle.text.specs.Numbers.{number_of, number_at};
+ghost use Rattle.text.specs.Numbers.{padded, number_of, number_at};
 
 use crate::pieces;
 
-// A field read as a number.
-#[derive(Clone, Copy)]
-pub enum Number {
-    Is(u32),
-    Not,
+// Is the first byte a zero before another?
+fn is_padded(f: &[u8]) -> bool
+    ensures { result ≡ padded f.now }
+{
+    1 < f.len() && f[0] == b'0'
 }
 
 // One to six decimal digits, no zero before another digit.
-pub fn read_number(f: &[u8]) -> Number
+pub fn read_number(f: &[u8]) -> Option<u32>
     ensures { result ≡ number_of f.now }
 {
-    let n = f.len();
-    if n < 1 {
-        return Number::Not;
-    }
-    if 6 < n {
-        return Number::Not;
-    }
-    if 1 < n {
-        if f[0] == b'0' {
-            return Number::Not;
-        }
+    if f.is_empty() || 6 < f.len() || is_padded(f) {
+        return None;
     }
     let mut v: u32 = 0;
-    let mut i: usize = 0;
-    while i < n {
-        let b = f[i] as u32;
-        if b < 48 {
-            return Number::Not;
+    for &b in f {
+        if b < b'0' || b'9' < b {
+            return None;
         }
-        if 57 < b {
-            return Number::Not;
-        }
-        v = v * 10 + (b - 48);
-        i += 1;
+        v = v * 10 + u32::from(b - b'0');
     }
-    Number::Is(v)
+    Some(v)
 }
 
 // The number in field i of a row; 0 where there is none.
+#[tactic(auto, unfolding(crate::specs::Numbers::number_at))]
 pub fn number_at(row: &[u8], i: usize) -> u32
     ensures { result ≡ number_at (split 9 row.now) i }
 {
-    let s = pieces::field_at(row, i);
-    let a = s.start;
-    let e = s.end;
-    let Number::Is(n) = read_number(&row[a..e]) else {
-        return 0;
-    };
-    n
+    read_number(pieces::field_at(row, i)).unwrap_or(0)
 }

@@ -1,20 +1,20 @@
 // Lines are cut at byte 10, fields at byte 9.
-ghost use Rattle.std.specs.Prelude.{◌+◌, ◌≤◌, ◌≡◌, ◌⊎◌, length, drop};
+ghost use Rattle.std.specs.Prelude.{◌+◌, ◌≤◌, ◌≡◌, [], length, drop, ◌==◌, position, get_or};
 ghost use Rattle.text.specs.Pieces.{before, split};
-ghost use Rattle.text.specs.Cursor.{IsField, IsLine};
+ghost use Rattle.text.specs.Cursor.{IsLine};
 
 // A line: the place of its end, and how many fields it has.
-#[derive(Clone, Copy)]
+#[derive(Clone, Copy, Debug, PartialEq, Eq)]
 pub struct Line {
     pub end: usize,
     pub fields: usize,
 }
 
-// A part of a row.
-#[derive(Clone, Copy)]
-pub struct Span {
-    pub start: usize,
-    pub end: usize,
+// The place of the first byte b.
+fn first_place(row: &[u8], b: u8) -> Option<usize>
+    ensures { result ≡ position (λ x. x == b) row.now }
+{
+    row.iter().position(|&x| x == b)
 }
 
 // The end of the piece that starts at `from`: the next byte b, or the end of the row.
@@ -22,24 +22,10 @@ fn piece_end(row: &[u8], from: usize, b: u8) -> usize
     requires { from ≤ length row.now }
     ensures { (result ≤ length row.now) × (result ≡ from + length (before b (drop from row.now))) }
 {
-    let mut i = from;
-    while i < row.len() {
-        if row[i] == b {
-            return i;
-        }
-        i += 1;
+    match first_place(&row[from..], b) {
+        Some(n) => from + n,
+        None => row.len(),
     }
-    i
-}
-
-// 1 for a byte 9.
-fn tab(b: u8) -> usize
-    ensures { (result ≤ 1) × (((b ≡ 9) × (result ≡ 1)) ⊎ ((b ≡ 9 → ⊥) × (result ≡ 0))) }
-{
-    if b == b'\t' {
-        return 1;
-    }
-    0
 }
 
 // How many fields the line from `at` to `end` has. No turn of this loop depends on a byte, so that it takes many bytes at a time.
@@ -48,8 +34,8 @@ fn fields_in(text: &[u8], at: usize, end: usize) -> usize
     ensures { result ≡ length (split 9 (before 10 (drop at text.now))) }
 {
     let mut fields: usize = 1;
-    for k in at..end {
-        fields += tab(text[k]);
+    for &b in &text[at..end] {
+        fields += usize::from(b == b'\t');
     }
     fields
 }
@@ -73,19 +59,17 @@ pub fn field_end(row: &[u8], from: usize) -> usize
 }
 
 // Field i of a row; an empty part where there is none.
-pub fn field_at(row: &[u8], i: usize) -> Span
-    ensures { IsField row.now i result }
+pub fn field_at(row: &[u8], i: usize) -> &[u8]
+    ensures { result.now ≡ get_or (split 9 row.now) i [] }
 {
-    let mut a: usize = 0;
-    let mut k: usize = 0;
-    while k < i {
-        let e = field_end(row, a);
-        if e == row.len() {
-            return Span { start: e, end: e };
+    let mut at: usize = 0;
+    for _ in 0..i {
+        let end = field_end(row, at);
+        if end == row.len() {
+            return &[];
         }
-        a = e + 1;
-        k += 1;
+        at = end + 1;
     }
-    let e = field_end(row, a);
-    Span { start: a, end: e }
+    let end = field_end(row, at);
+    &row[at..end]
 }

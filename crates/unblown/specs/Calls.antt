@@ -1,5 +1,5 @@
 -- What follows for those who call the library or run the program: branches for a blown channel that are never taken. Each is a theorem.
-use Rattle.std.specs.Prelude.{◌≡◌, ◌≢◌, Bool, true, false, ◌||◌, List, ℕ, ◌<◌, T, eqb}
+use Rattle.std.specs.Prelude.{◌≡◌, ◌≢◌, Bool, true, false, ◌||◌, List, ℕ, ◌<◌, T, eqb, Result}
 use Rattle.start.specs.Buffers.{Buffers}
 use Rattle.start.specs.Coef.{Levels}
 use Rattle.contents.specs.declared.Limits.{Limits}
@@ -14,7 +14,8 @@ use Rattle.calls.specs.Run.{place}
 use Rattle.calls.specs.Calls as Calls
 use Rattle.calls.specs.Calls.{all}
 use Rattle.record.specs.declared.Run.{Run}
-use Rattle.record.specs.declared.Answer.{Answer}
+use Rattle.refusal.specs.declared.Refusal.{Refusal}
+use Rattle.record.specs.declared.Accepted.{Accepted}
 use Rattle.record.specs.Model.{sheet_of, places_of, answer_of}
 use Rattle.serve.specs.Serve.{ServeIs}
 use Rattle.rounds.specs.Whole.{Loan}
@@ -34,12 +35,12 @@ pub record ServedCalmly (bytes' : List ℕ) (r' : Run) : Type 0 where
 
 -- `serve` never answers 255
 abbrev pub ServeNeverBlown : Type 0
-ServeNeverBlown = (r : Run) → mild (sheet_of r) ≡ true → (js cs bytes : List ℕ) (levels : Levels) (tables : List ℕ) (B : Buffers) (a : Answer) (r' : Run) (bytes' : List ℕ) (B' : Buffers)
+ServeNeverBlown = (r : Run) → mild (sheet_of r) ≡ true → (js cs bytes : List ℕ) (levels : Levels) (tables : List ℕ) (B : Buffers) (a : Result Accepted Refusal) (r' : Run) (bytes' : List ℕ) (B' : Buffers)
     → ServeIs r js cs bytes levels tables B a r' bytes' B' → answer_of a ≡ Calls.done → ServedCalmly bytes' r'
 
 -- `solve` never answers `Blown`
 abbrev pub SolveNeverBlown : Type 0
-SolveNeverBlown = (S : Sheet) → MildSheet S → (levels : Levels) (tables : List ℕ) (L : Loan) (a : Answer) (ks : List ℕ) (L' : Loan)
+SolveNeverBlown = (S : Sheet) → MildSheet S → (levels : Levels) (tables : List ℕ) (L : Loan) (a : Result Accepted Refusal) (ks : List ℕ) (L' : Loan)
     → SolveIs S levels tables L a ks L' → answer_of a ≢ Calls.blown
 
 -- a sheet with legal levels and tables, whoever read them, does not blow

@@ -3,6 +3,7 @@ pub mod Opened
 pub mod Places
 pub mod Moves
 pub mod Lengths
+pub mod Copied
 pub mod Blockwise
 pub mod Upsampled
 pub mod Examples

@@ -1,11 +1,12 @@
 -- Where the rows of the blocks lie, in block order and in the raster.
-use mathlib.Core.Bool.{Bool, true, false, cond}
 use mathlib.Core.Path.{◌≡◌}
 use Prim.Native.Nat.{ℕ, ◌+◌, ◌-◌, ◌*◌, ◌<◌, ◌≤◌, min}
 use native.Mathlib.Nat.{mul_comm, mul-mul-mul_comm, le-mul_of_pos_right, min-le_right}
 use native.Mathlib.Omega.{arith}
 use Rattle.fold.proofs.Grid.{in_grid, row_end}
-use Rattle.utils.specs.Blocks.{row_index, row_start}
+use Rattle.utils.specs.Blocks.{row_index, row_start, stored, taken}
+use Rattle.utils.specs.declared.blocks.Order.{Order}
+use Rattle.utils.specs.declared.blocks.Order.TheVariants.{Blocks, Raster}
 
 -- row y of the block (by, bx) lies within w * h values, both ways
 pub record Placed (w h bw by bx y : ℕ) : Type 0 where
@@ -24,9 +25,13 @@ placed w h bw bh by bx y e f k l m =
     record { start = omega arith; index = omega arith; row = omega arith }
 
 -- eight values from either of two places on
-pub either_in : (b : Bool) (x y n : ℕ) → x + 8 ≤ n → y + 8 ≤ n → cond b x y + 8 ≤ n
-either_in true x y n h l = h
-either_in false x y n h l = l
+pub taken_in : (o : Order) (x y n : ℕ) → x + 8 ≤ n → y + 8 ≤ n → taken o x y + 8 ≤ n
+taken_in Blocks x y n h l = h
+taken_in Raster x y n h l = l
+
+pub stored_in : (o : Order) (x y n : ℕ) → x + 8 ≤ n → y + 8 ≤ n → stored o x y + 8 ≤ n
+stored_in Blocks x y n h l = l
+stored_in Raster x y n h l = h
 
 -- the sample and the pixel of `upsample_pixels`
 pub record Sampled (w h W H cy cx y x : ℕ) : Type 0 where

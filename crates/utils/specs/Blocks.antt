@@ -1,8 +1,10 @@
 -- blocks.rs: block order and raster order, and what is done to one block of block order.
-use Rattle.std.specs.Prelude.{Bool, cond, List, ℕ, ◌+◌, ◌*◌, ◌/◌, ◌%◌, set, Float}
+use Rattle.std.specs.Prelude.{List, ℕ, ◌+◌, ◌*◌, ◌/◌, ◌%◌, set, Float}
 use Rattle.fold.specs.Fold.{upto}
 use Rattle.fold.specs.Part.{part, splice}
 use Rattle.float.specs.Names.{val}
+use Rattle.utils.specs.declared.blocks.Order.{Order}
+use Rattle.utils.specs.declared.blocks.Order.TheVariants.{Blocks, Raster}
 
 -- the 64 values of block i, those from 64 times i on
 abbrev pub block_of : List Float → ℕ → List Float
@@ -50,9 +52,19 @@ unfoldable pub to_blocks : ℕ → ℕ → ℕ → List Float → List Float →
 unfolding upto
 to_blocks w bw bh input output = move_lines (row_start w) (row_index bw) input bw bh output
 
--- both: `to_blocks` where back is true
-abbrev pub move_blocks : Bool → ℕ → ℕ → ℕ → List Float → List Float → List Float
-move_blocks back w bw bh input output = cond back (to_blocks w bw bh input output) (from_blocks w bw bh input output)
+-- both, by the order that values are brought to
+abbrev pub move_blocks : Order → ℕ → ℕ → ℕ → List Float → List Float → List Float
+move_blocks Blocks w bw bh input output = to_blocks w bw bh input output
+move_blocks Raster w bw bh input output = from_blocks w bw bh input output
+
+-- where a row of a block is read and where it is stored, of its two places: the first in the raster, the second in block order
+abbrev pub taken : Order → ℕ → ℕ → ℕ
+taken Blocks start index = start
+taken Raster start index = index
+
+abbrev pub stored : Order → ℕ → ℕ → ℕ
+stored Blocks start index = index
+stored Raster start index = start
 
 -- T.81's placement as a map of places and its inverse. Place i of block order is row i % 64 / 8 and column i % 8 of block i / 64;
 -- place p of the raster is row p / w and column p % w.

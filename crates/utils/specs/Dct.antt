@@ -1,12 +1,14 @@
 -- dct.rs: Ooura's transforms of a block of 8 by 8 values. A `let` of the same name again is the Rust's assignment, and `mul_add` is
 -- `mul_add!`. An `unfolding` line lets a theorem that unfolds the definition below it compute.
-use Rattle.std.specs.Prelude.{Bool, cond, List, ℕ, ◌+◌, ◌*◌, set, Float}
+use Rattle.std.specs.Prelude.{List, ℕ, ◌+◌, ◌*◌, set, Float}
 use Rattle.std.specs.Float.{binary32}
 use Rattle.std.specs.Float.Ieee.{add, sub, mul, neg, of_bits}
 use Rattle.fold.specs.Fold.{upto}
 use Rattle.float.specs.Ops.{mul_add}
 use Rattle.float.specs.Names.{◌⊕◌, ◌⊖◌, ◌⊗◌, val}
 use Rattle.utils.specs.declared.dct.Eight.{Eight}
+use Rattle.utils.specs.declared.dct.Transform.{Transform}
+use Rattle.utils.specs.declared.dct.Transform.TheVariants.{Forward, Inverse}
 
 abbrev pub C8_1R : Float
 C8_1R = of_bits binary32 0x3efb14be
@@ -98,9 +100,10 @@ dct8 a =
     let a5 = mul_add C8_3R x3i (C8_3I ⊗ x3r) in
     record { a0 = a0; a1 = a1; a2 = a2; a3 = a3; a4 = a4; a5 = a5; a6 = a6; a7 = a7 }
 
--- either of the two: the inverse where the flag says so
-abbrev pub transform8 : Bool → Eight → Eight
-transform8 inverse = cond inverse idct8 dct8
+-- either of the two
+abbrev pub transform8 : Transform → Eight → Eight
+transform8 Forward = dct8
+transform8 Inverse = idct8
 
 -- The eight values of s at the places `at 0` to `at 7`, and s with those of v there. The places differ, so the order of the stores
 -- does not show.
@@ -146,5 +149,6 @@ unfoldable pub dct8x8 : List Float → List Float
 unfolding upto on_line dct8
 dct8x8 s = columns_rows dct8 s
 
-abbrev pub transform8x8 : Bool → List Float → List Float
-transform8x8 inverse = cond inverse idct8x8 dct8x8
+abbrev pub transform8x8 : Transform → List Float → List Float
+transform8x8 Forward = dct8x8
+transform8x8 Inverse = idct8x8

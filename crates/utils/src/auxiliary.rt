@@ -1,20 +1,11 @@
 // auxiliary.rs: the upsampling of a channel's samples to the full plane.
-ghost use Rattle.std.specs.Prelude.{◌≡◌, ◌*◌, ◌<◌, ◌≤◌, min, length};
+ghost use Rattle.std.specs.Prelude.{◌≡◌, ◌*◌, ◌<◌, ◌≤◌, length};
 ghost use Rattle.utils.specs.Auxiliary.{upsample_pixels};
-
-// The smaller of two.
-fn min(a: usize, b: usize) -> usize
-    ensures { result ≡ min a b }
-{
-    if a <= b {
-        return a;
-    }
-    b
-}
 
 // Each of w by h samples repeated `horizontal` times along its row and `vertical` times along its column, the last ones to the end of
 // the maxw by maxh pixels: the first maxw * maxh values of `out`.
 // Ruled out: 0 past the cover; and the sample at (x % w, y % h), which repeats the whole picture.
+#[tactic(auto, using(crate::proofs::Places::sampled))]
 pub fn upsample_pixels(
     image: &[f32],
     w: usize,
@@ -30,8 +21,8 @@ pub fn upsample_pixels(
 {
     for y in 0..maxh {
         for x in 0..maxw {
-            let cy = min(y / vertical, h - 1);
-            let cx = min(x / horizontal, w - 1);
+            let cy = (y / vertical).min(h - 1);
+            let cx = (x / horizontal).min(w - 1);
             out[y * maxw + x] = image[cy * w + cx];
         }
     }

@@ -1,28 +1,37 @@
 // blocks.rs: block order, where the 64 values of a block follow one another, and raster order.
-ghost use Rattle.std.specs.Prelude.{cond, ◌≡◌, ◌+◌, ◌*◌, ◌≤◌, length};
-ghost use Rattle.utils.specs.Blocks.{copy8, from_blocks, move_blocks, to_blocks};
+ghost use Rattle.std.specs.Prelude.{◌≡◌, ◌+◌, ◌*◌, ◌≤◌, length};
+ghost use Rattle.utils.specs.Blocks.{copy8, from_blocks, move_blocks, stored, taken, to_blocks};
 
-// output[to..to + 8].copy_from_slice(&input[from..from + 8])
+// The order that values are brought to.
+#[derive(Clone, Copy)]
+pub enum Order {
+    Blocks,
+    Raster,
+}
+
+impl Order {
+    // Where a row of a block is read, and where it is stored: it starts at `row_start` in the raster, and at `index` in block order.
+    fn places(self, row_start: usize, index: usize) -> (usize, usize)
+        ensures { (result.0 ≡ taken self row_start index) × (result.1 ≡ stored self row_start index) }
+    {
+        match self {
+            Order::Blocks => (row_start, index),
+            Order::Raster => (index, row_start),
+        }
+    }
+}
+
+// A row of a block.
+// Kept: tried with these lines in `move_blocks` itself, and the proof of its five bounds and its loop didn't close.
 fn copy8(input: &[f32], output: &mut [f32], from: usize, to: usize)
     requires { (from + 8 ≤ length input.now) × (to + 8 ≤ length output.old) }
     ensures { output.new ≡ copy8 input.now from to output.old }
 {
-    for k in 0..8 {
-        output[to + k] = input[from + k];
-    }
+    output[to..to + 8].copy_from_slice(&input[from..from + 8]);
 }
 
-// The one or the other of two places.
-fn place_of(back: bool, there: usize, here: usize) -> usize
-    ensures { result ≡ cond back there here }
-{
-    if back {
-        return there;
-    }
-    here
-}
-
-// The loops of `from_blocks`, and with `back` those of `to_blocks`: a row of a block is stored where the other reads it.
+// The loops of `from_blocks`, and of `to_blocks`: a row of a block is stored where the other reads it.
+#[tactic(auto, using(crate::proofs::Places::placed))]
 fn move_blocks(
     input: &[f32],
     output: &mut [f32],
@@ -30,18 +39,17 @@ fn move_blocks(
     h: usize,
     bw: usize,
     bh: usize,
-    back: bool,
+    order: Order,
 )
     requires { (w ≡ bw * 8) × (h ≡ bh * 8) × (w * h ≤ length input.now) × (w * h ≤ length output.old) }
-    ensures { output.new ≡ move_blocks back w bw bh input.now output.old }
+    ensures { output.new ≡ move_blocks order w bw bh input.now output.old }
 {
     let mut index = 0;
     for by in 0..bh {
         for bx in 0..bw {
             for y in 0..8 {
                 let row_start = (by * 8 + y) * w + bx * 8;
-                let from = place_of(back, row_start, index);
-                let to = place_of(back, index, row_start);
+                let (from, to) = order.places(row_start, index);
                 copy8(input, output, from, to);
                 index += 8;
             }
@@ -49,20 +57,22 @@ fn move_blocks(
     }
 }
 
+// Kept: `from_blocks` and `to_blocks` are the Rust's two names, and one with the order as a parameter would be no plainer.
 // Block order to raster order, for bh lines of bw blocks: the first w * h values of `output`.
 // Ruled out: the rows of a block one after the other above width 8; and rows and columns of a block exchanged.
 pub fn from_blocks(input: &[f32], output: &mut [f32], w: usize, h: usize, bw: usize, bh: usize)
     requires { (w ≡ bw * 8) × (h ≡ bh * 8) × (w * h ≤ length input.now) × (w * h ≤ length output.old) }
     ensures { output.new ≡ from_blocks w bw bh input.now output.old }
 {
-    move_blocks(input, output, w, h, bw, bh, false);
+    move_blocks(input, output, w, h, bw, bh, Order::Raster);
 }
 
+// Kept: as `from_blocks`.
 // Raster order to block order: the first w * h values of `output`.
 // Ruled out: `from_blocks` in its place, which differs above width 8; and blocks taken column by column.
 pub fn to_blocks(input: &[f32], output: &mut [f32], w: usize, h: usize, bw: usize, bh: usize)
     requires { (w ≡ bw * 8) × (h ≡ bh * 8) × (w * h ≤ length input.now) × (w * h ≤ length output.old) }
     ensures { output.new ≡ to_blocks w bw bh input.now output.old }
 {
-    move_blocks(input, output, w, h, bw, bh, true);
+    move_blocks(input, output, w, h, bw, bh, Order::Blocks);
 }

@@ -21,6 +21,7 @@ const C8_4R: f32 = 0.353_553_390_593_273_762_20;
 const W8_4R: f32 = 0.707_106_781_186_547_524_40;
 
 // The eight values of a column or row.
+// Kept: an array would be no plainer: its values would be `val a 3` in specs/, each with a length to be known beside it, where these have names.
 #[derive(Clone, Copy)]
 pub struct Eight {
     pub a0: f32,
@@ -141,56 +142,63 @@ fn write_line(a: &mut [f32], b: usize, d: usize, v: Eight)
     a[7 * d + b] = v.a7;
 }
 
-// One of the two transforms of eight values.
-fn transform8(v: Eight, inverse: bool) -> Eight
-    ensures { result ≡ transform8 inverse v }
-{
-    if inverse {
-        return idct8(v);
+// The two transforms.
+#[derive(Clone, Copy)]
+pub enum Transform {
+    Forward,
+    Inverse,
+}
+
+impl Transform {
+    // The transform of eight values.
+    fn transform8(self, v: Eight) -> Eight
+        ensures { result ≡ transform8 self v }
+    {
+        match self {
+            Transform::Forward => dct8(v),
+            Transform::Inverse => idct8(v),
+        }
     }
-    dct8(v)
 }
 
 // One column or row, the line that starts at b and goes by d.
-fn transform_line(a: &mut [f32], b: usize, d: usize, inverse: bool)
+fn transform_line(a: &mut [f32], b: usize, d: usize, transform: Transform)
     requires { (7 * d + b < length a.old) × (length a.old ≡ 64) }
-    ensures { a.new ≡ on_line (transform8 inverse) b d a.old }
+    ensures { a.new ≡ on_line (transform8 transform) b d a.old }
 {
     let v = read_line(&a[..], b, d);
-    let r = transform8(v, inverse);
+    let r = transform.transform8(v);
     write_line(a, b, d, r);
 }
 
 // The eight columns, and then the eight rows.
-fn transform8x8(a: &mut [f32], inverse: bool)
+fn transform8x8(a: &mut [f32], transform: Transform)
     requires { length a.old ≡ 64 }
-    ensures { a.new ≡ transform8x8 inverse a.old }
+    ensures { a.new ≡ transform8x8 transform a.old }
 {
     for j in 0..8 {
-        transform_line(a, j, 8, inverse);
+        transform_line(a, j, 8, transform);
     }
     for j in 0..8 {
-        transform_line(a, j * 8, 1, inverse);
+        transform_line(a, j * 8, 1, transform);
     }
 }
 
 // Block i: a part that starts at 64 times i is passed on.
-fn transform_block(xs: &mut [f32], i: usize, inverse: bool)
+fn transform_block(xs: &mut [f32], i: usize, transform: Transform)
     requires { i * 64 + 64 ≤ length xs.old }
-    ensures { xs.new ≡ on_block (transform8x8 inverse) i xs.old }
+    ensures { xs.new ≡ on_block (transform8x8 transform) i xs.old }
 {
-    let at = i * 64;
-    let end = at + 64;
-    transform8x8(&mut xs[at..end], inverse);
+    transform8x8(&mut xs[i * 64..i * 64 + 64], transform);
 }
 
 // Each of the first n blocks.
-fn transform_blocks(xs: &mut [f32], n: usize, inverse: bool)
+fn transform_blocks(xs: &mut [f32], n: usize, transform: Transform)
     requires { n * 64 ≤ length xs.old }
-    ensures { xs.new ≡ upto (on_block (transform8x8 inverse)) n xs.old }
+    ensures { xs.new ≡ upto (on_block (transform8x8 transform)) n xs.old }
 {
     for i in 0..n {
-        transform_block(xs, i, inverse);
+        transform_block(xs, i, transform);
     }
 }
 
@@ -200,7 +208,7 @@ pub fn idct8x8(a: &mut [f32])
     requires { length a.old ≡ 64 }
     ensures { a.new ≡ idct8x8 a.old }
 {
-    transform8x8(a, true);
+    transform8x8(a, Transform::Inverse);
 }
 
 // The transform of the 64 values of a block.
@@ -209,7 +217,7 @@ pub fn dct8x8(a: &mut [f32])
     requires { length a.old ≡ 64 }
     ensures { a.new ≡ dct8x8 a.old }
 {
-    transform8x8(a, false);
+    transform8x8(a, Transform::Forward);
 }
 
 // The inverse transform of block i.
@@ -218,7 +226,7 @@ pub fn idct_block(xs: &mut [f32], i: usize)
     requires { i * 64 + 64 ≤ length xs.old }
     ensures { xs.new ≡ on_block idct8x8 i xs.old }
 {
-    transform_block(xs, i, true);
+    transform_block(xs, i, Transform::Inverse);
 }
 
 // The transform of block i.
@@ -227,7 +235,7 @@ pub fn dct_block(xs: &mut [f32], i: usize)
     requires { i * 64 + 64 ≤ length xs.old }
     ensures { xs.new ≡ on_block dct8x8 i xs.old }
 {
-    transform_block(xs, i, false);
+    transform_block(xs, i, Transform::Forward);
 }
 
 // The inverse transform of each of the first n blocks.
@@ -236,7 +244,7 @@ pub fn idct_blocks(xs: &mut [f32], n: usize)
     requires { n * 64 ≤ length xs.old }
     ensures { xs.new ≡ upto (on_block idct8x8) n xs.old }
 {
-    transform_blocks(xs, n, true);
+    transform_blocks(xs, n, Transform::Inverse);
 }
 
 // The transform of each of the first n blocks.
@@ -245,5 +253,5 @@ pub fn dct_blocks(xs: &mut [f32], n: usize)
     requires { n * 64 ≤ length xs.old }
     ensures { xs.new ≡ upto (on_block dct8x8) n xs.old }
 {
-    transform_blocks(xs, n, false);
+    transform_blocks(xs, n, Transform::Forward);
 }

@@ -5,4 +5,3 @@
 pub mod auxiliary;
 pub mod blocks;
 pub mod dct;
-pub mod slices;

@@ -3,11 +3,11 @@ use mathlib.Core.Path.{◌≡◌, refl, sym, ap, ap₂, ◌∙◌, subst}
 use Prim.Native.Nat.{ℕ, ◌+◌, ◌-◌, ◌*◌, ◌^◌, ◌≤◌, ◌<◌}
 use native.Mathlib.Nat.{lt_of_lt_of_le, mul_assoc, mul-one, mul-pos}
 use native.Mathlib.Omega.{arith}
-use mathlib.Core.Bool.{Bool, true, false, not, ◌&&◌, cond, beq, true≢false}
+use mathlib.Core.Bool.{Bool, true, false, ◌&&◌, cond, beq}
 use lib.Dec.{T, ltb, eqb, lit<}
 use lib.Pow.{pow-add, pow_pos, pow_mono, shl_lt}
-use lib.Ieee.{Float, nan, inf, fin, Format, binary32, binary64, unlike, up, down, round, sum, add, mul, fits, to_bits, of_bits, is_nan, eq}
-use lib.Ieee.Fits.{down_pos, and_i, fits_widens}
+use lib.Ieee.{Float, nan, inf, fin, Format, binary32, binary64, unlike, up, down, round, sum, add, mul, fits, to_bits, of_bits, is_nan}
+use lib.Ieee.Fits.{down_pos}
 use lib.Ieee.Exact.{HasValue, round_exact}
 use lib.Ieee.Scale.{finite}
 use Rattle.float.specs.Ops.{product, fused, half, midpoint}
@@ -74,16 +74,6 @@ rounded (fin s m e) (fin t n d) h k = go (beq s t) (ltb a b) refl refl
           pos = C;
           is = λ (f : Format). ap₂ (λ (z w : Bool). cond z (round f s (a + b) c) (cond w (round f t (b - a) c) (round f (s && ltb b a) (a - b) c))) p q;
         }
-
--- ---- the cast of an f32 that is no NaN
-pub number : (x : Float) → eq x x ≡ true → T (not (is_nan x))
-unfolding eq is_nan
-number nan h = absurd (true≢false (sym h))
-number (inf s) h = tt
-number (fin s m e) h = tt
-
-pub widens : (x : Float) → T (fits binary32 x) → eq x x ≡ true → T (fits binary64 x && not (is_nan x))
-widens x h e = and_i (fits binary64 x) (not (is_nan x)) (fits_widens x h) (number x e)
 
 -- ---- what a finite sum tells
 pub finite_add : (f : Format) (x y : Float) → T (finite (add f x y)) → T (finite x) × T (finite y)

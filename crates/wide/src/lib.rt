@@ -3,27 +3,34 @@
 // Everything else goes to `float`, which works from whole numbers.
 #![tactic(auto)]
 
-ghost use Rattle.std.specs.Prelude.{◌≡◌, Bool, true, false, ℕ, ◌*◌, ◌^◌, ◌≤◌, ◌<◌};
+ghost use Rattle.std.specs.Prelude.{◌≡◌, Bool, true, ℕ, ◌^◌, ◌<◌};
 ghost use Rattle.std.specs.Float.{binary32, binary64};
 ghost use Rattle.std.specs.Float.Ieee.{round};
-ghost use Rattle.float.specs.Ops.{fused, midpoint, halves, root};
+ghost use Rattle.float.specs.Ops.{fused, midpoint, root, root_of};
+ghost use Rattle.float.specs.Whole.{IsPositive};
 ghost use Rattle.wide.specs.Wide.{Clear, narrowed};
+
+// The digit of an f64's sign, and the patterns of 2^-125 and of 2^127, between which the clear sums lie.
+const SIGN: u64 = 0x8000000000000000;
+
+const LEAST: u64 = 0x3820000000000000;
+
+const LIMIT: u64 = 0x47e0000000000000;
+
+// The 29 digits of an f64 that an f32 has no room for: 2^29, and a half of that.
+const DROPPED: u64 = 0x20000000;
+
+const HALF_DROPPED: u64 = 0x10000000;
 
 // s is in the normal range of f32, and no tie between two of them.
 fn is_clear(s: f64) -> bool
     ensures { result ≡ true → Clear s }
 {
-    if s != s {
+    if s.is_nan() {
         return false;
     }
-    let m = f64::to_bits(s) % 9223372036854775808;
-    if m < 4044232465378705408 {
-        return false;
-    }
-    if 5179139571476070400 <= m {
-        return false;
-    }
-    m % 536870912 != 268435456
+    let m = s.to_bits() % SIGN;
+    LEAST <= m && m < LIMIT && m % DROPPED != HALF_DROPPED
 }
 
 // The last 29 digits of s rounded away, by its bit pattern: an f32, held as an f64.
@@ -31,8 +38,7 @@ fn tidy(s: f64) -> f64
     requires { Clear s }
     ensures { result ≡ narrowed s }
 {
-    let n = f64::to_bits(s);
-    f64::from_bits((n + 268435456) / 536870912 * 536870912)
+    f64::from_bits((s.to_bits() + HALF_DROPPED) / DROPPED * DROPPED)
 }
 
 // The f32 nearest to s, and to each number whose nearest f64 s is: the ties lie between both alike, being f64 themselves.
@@ -40,18 +46,16 @@ fn narrow(s: f64) -> f32
     requires { Clear s }
     ensures { (t : Bool) (n d : ℕ) → 0 < d → s ≡ round binary64 t n d → result ≡ round binary32 t n d }
 {
-    let t = tidy(s);
-    t as f32
+    tidy(s) as f32
 }
 
 // a * b + c where the sum isn't clear: a factor that is 0 makes a product that is exact in f32, and everything else goes to `float`.
+// Never inlined, so that `mul_add` is small enough to stand in the loop of move, which takes 1.5 times as long otherwise.
+#[inline(never)]
 fn mul_add_unclear(a: f32, b: f32, c: f32) -> f32
     ensures { result ≡ fused a b c }
 {
-    if a == 0.0 {
-        return a * b + c;
-    }
-    if b == 0.0 {
+    if a == 0.0 || b == 0.0 {
         return a * b + c;
     }
     float::mul_add(a, b, c)
@@ -61,10 +65,8 @@ fn mul_add_unclear(a: f32, b: f32, c: f32) -> f32
 fn midpoint_unclear(a: f32, b: f32) -> f32
     ensures { result ≡ midpoint a b }
 {
-    if a == 0.0 {
-        if b == 0.0 {
-            return a + b;
-        }
+    if a == 0.0 && b == 0.0 {
+        return a + b;
     }
     float::midpoint(a, b)
 }
@@ -78,15 +80,9 @@ pub fn mul_add(a: f32, b: f32, c: f32) -> f32
     if a == 1.0 {
         return b + c;
     }
-    if a == a {
-        if b == b {
-            if c == c {
-                let s = (a as f64) * (b as f64) + (c as f64);
-                if is_clear(s) {
-                    return narrow(s);
-                }
-            }
-        }
+    let s = f64::from(a) * f64::from(b) + f64::from(c);
+    if is_clear(s) {
+        return narrow(s);
     }
     mul_add_unclear(a, b, c)
 }
@@ -96,16 +92,15 @@ pub fn mul_add(a: f32, b: f32, c: f32) -> f32
 pub fn midpoint(a: f32, b: f32) -> f32
     ensures { result ≡ midpoint a b }
 {
-    if a == a {
-        if b == b {
-            let s = (a as f64) * 0.5 + (b as f64) * 0.5;
-            if is_clear(s) {
-                return narrow(s);
-            }
-        }
+    let s = f64::from(a) * 0.5 + f64::from(b) * 0.5;
+    if is_clear(s) {
+        return narrow(s);
     }
     midpoint_unclear(a, b)
 }
+
+// From this, half of a pattern is taken: what is left is the pattern of about 1 / √x.
+const ROOT_PATTERN: u64 = 6910469410427058089;
 
 // A guess at the root of n: Newton's method for 1 / √n in f64, from a bit pattern. Nothing is said of how good it is.
 fn guess(n: u64) -> u64
@@ -113,38 +108,31 @@ fn guess(n: u64) -> u64
     ensures { result < 33554432 }
 {
     let d = n as f64;
-    if d != d {
+    if d.is_nan() {
         return 0;
     }
-    let g0 = f64::from_bits(6910469410427058089 - f64::to_bits(d) % 9223372036854775808 / 2);
+    let g0 = f64::from_bits(ROOT_PATTERN - d.to_bits() % SIGN / 2);
     let h = 0.5 * d;
     let g1 = g0 * (1.5 - h * g0 * g0);
     let g2 = g1 * (1.5 - h * g1 * g1);
     let s = d * g2;
     let t = s + (d - s * s) * (0.5 * g2) + 4503599627370496.0;
-    if t != t {
+    if t.is_nan() {
         return 0;
     }
-    f64::to_bits(t) % 33554432
+    t.to_bits() % 33554432
 }
 
 // The root of m * 2^k of the format's smallest values, rounded: q is right where the radicand lies between the squares of q - 1/2 and q + 1/2.
 fn root_of(m: u64, k: u32) -> f32
-    requires { (0 < m) × (m < 2 ^ 24) × (k ≤ 253) }
-    ensures { result ≡ round binary32 false (halves (2 * (m * 2 ^ k) * 4 ^ 32)) (2 ^ 108) }
+    requires { IsPositive m k }
+    ensures { result ≡ root_of m k }
 {
     if 8388608 <= m {
         let n = m << (23 + k % 2);
         let q = guess(n);
-        if 8388608 <= q {
-            if q <= 16777216 {
-                let s = q * q;
-                if s < n + q {
-                    if n <= s + q {
-                        return float::round::pack(false, q, 63 + k / 2);
-                    }
-                }
-            }
+        if 8388608 <= q && q <= 16777216 && q * q < n + q && n <= q * q + q {
+            return float::round::pack(false, q, 63 + k / 2);
         }
     }
     float::root::root_of(m, k)
@@ -155,18 +143,5 @@ fn root_of(m: u64, k: u32) -> f32
 pub fn sqrt(x: f32) -> f32
     ensures { result ≡ root x }
 {
-    if !float::parts::is_finite(x) {
-        if 0.0 < x {
-            return x;
-        }
-        return x - x;
-    }
-    let p = float::parts::unpack(x);
-    if p.m == 0 {
-        return x;
-    }
-    if p.neg {
-        return 0.0 / 0.0;
-    }
-    root_of(p.m, p.x)
+    float::sqrt_by(x, root_of)
 }

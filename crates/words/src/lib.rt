@@ -2,142 +2,128 @@
 // programs that replay the oracle's answers and count how many are the same. A word that is no number reads as some number.
 #![tactic(auto)]
 
-ghost use Rattle.std.specs.Prelude.{◌≡◌, ◌≤◌, ◌<◌, length, IfOk};
+ghost use Rattle.std.specs.Prelude.{◌≡◌, ◌≤◌, ◌*◌, ◌%◌, ◌^◌, length, IfOk};
+ghost use Rattle.words.specs.Words.{word_end, first_word, after_word, from_word, digit, number, with};
 
 use filling::read_full;
-use std::io;
-use std::io::{Print, Read};
+use std::io::Read;
+use std::{fmt, io};
 
-// Where what starts at `at` is ended by byte 10 or by `other`, or the text's end.
-fn piece_end(s: &[u8], at: usize, other: u8) -> usize
-    requires { at ≤ length s.now }
-    ensures { (at ≤ result) × (result ≤ length s.now) }
+// Where the line's first word ends. Ruled out: the place behind the space; that of a later space.
+fn word_end(line: &[u8]) -> Option<usize>
+    ensures { result ≡ word_end line.now }
 {
-    let mut i = at;
-    while i < s.len() {
-        let b = s[i];
-        if b == 10 {
-            return i;
-        }
-        if b == other {
-            return i;
-        }
-        i += 1;
+    line.iter().position(|&b| b == b' ')
+}
+
+// A line's first word, and what stands behind the space that ends it.
+// Ruled out: the space left at the front of what follows; nothing for a line of one word.
+pub fn split_word(line: &[u8]) -> (&[u8], &[u8])
+    ensures first { result.0.now ≡ first_word line.now }
+    ensures after { result.1.now ≡ after_word line.now }
+{
+    match word_end(line) {
+        Some(end) => (&line[..end], &line[end + 1..]),
+        None => (line, &[]),
     }
-    i
 }
 
-// Where the word that starts at `at` ends, or the text's end.
-pub fn word_end(s: &[u8], at: usize) -> usize
-    requires { at ≤ length s.now }
-    ensures { (at ≤ result) × (result ≤ length s.now) }
+// What stands behind the line's first k words. Ruled out: the line itself for a k other than 0; what stands behind word k.
+pub fn from_word(line: &[u8], k: usize) -> &[u8]
+    ensures { result.now ≡ from_word k line.now }
 {
-    piece_end(s, at, 32)
-}
-
-// Where the line that starts at `at` ends, or the text's end.
-pub fn line_end(s: &[u8], at: usize) -> usize
-    requires { at ≤ length s.now }
-    ensures { (at ≤ result) × (result ≤ length s.now) }
-{
-    piece_end(s, at, 10)
-}
-
-// Where the next line starts, or the text's end.
-pub fn next_line(s: &[u8], at: usize) -> usize
-    requires { at < length s.now }
-    ensures { (at < result) × (result ≤ length s.now) }
-{
-    let e = line_end(s, at);
-    if e < s.len() {
-        return e + 1;
-    }
-    e
-}
-
-// Byte k of what starts at `at`, or 0 past the text's end.
-pub fn byte_at(s: &[u8], at: usize, k: usize) -> u8
-    requires { at ≤ length s.now }
-{
-    if k < s.len() - at {
-        return s[at + k];
-    }
-    0
-}
-
-// Where the next word starts, or the text's end.
-pub fn next_word(s: &[u8], at: usize) -> usize
-    requires { at ≤ length s.now }
-    ensures { (at ≤ result) × (result ≤ length s.now) }
-{
-    let e = word_end(s, at);
-    if e < s.len() {
-        return e + 1;
-    }
-    e
-}
-
-// Where word k of the line at `at` starts, words counted from 0.
-pub fn word_at(s: &[u8], at: usize, k: usize) -> usize
-    requires { at ≤ length s.now }
-    ensures { result ≤ length s.now }
-{
-    let mut i = at;
+    let mut rest = line;
     for _ in 0..k {
-        i = next_word(s, i);
+        rest = split_word(rest).1;
     }
-    i
+    rest
 }
 
-// A lowercase hexadecimal digit's value; 16 for any other byte.
-pub fn digit(b: u8) -> u64
-    ensures { result ≤ 16 }
+// Word k of the line, words counted from 0; no bytes behind the last. Ruled out: the word before or after it.
+pub fn word(line: &[u8], k: usize) -> &[u8]
+    ensures { result.now ≡ first_word (from_word k line.now) }
 {
-    if b < 48 {
-        return 16;
-    }
-    if b < 58 {
-        return (b - 48) as u64;
-    }
-    if b < 97 {
-        return 16;
-    }
-    if b < 103 {
-        return (b - 87) as u64;
-    }
-    16
+    split_word(from_word(line, k)).0
 }
 
-// The number whose hexadecimal digits start at `at`, up to eight of them.
-pub fn number(s: &[u8], at: usize) -> u32
-    requires { at ≤ length s.now }
+// A hexadecimal digit's value; 0 for any other byte. Ruled out: the byte itself; 6 for `f`.
+fn digit(b: u8) -> u32
+    ensures { result ≡ digit b }
 {
-    let mut v: u64 = 0;
-    let e = word_end(s, at);
-    for i in at..e {
-        v = v % 268435456 * 16 + digit(s[i]) % 16;
-    }
-    (v % 4294967296) as u32
+    char::from(b).to_digit(16).unwrap_or(0)
 }
 
-// The bytes that the word at `at` spells, two digits each, as far as there is room. Answers how many.
-pub fn bytes(s: &[u8], at: usize, out: &mut [u8]) -> usize
-    requires { at ≤ length s.now }
-    ensures { (length out.new ≡ length out.old) × (result ≤ length out.old) }
+// The number whose hexadecimal digits the word is. Ruled out: the digits' sum; the digits read from the last to the first.
+pub fn number(word: &[u8]) -> u32
+    ensures { result ≡ number word.now }
 {
-    let e = word_end(s, at);
-    let mut i = at;
-    let mut n = 0;
-    while n < out.len() {
-        if e - i < 2 {
-            return n;
+    word.iter()
+        .fold(0u32, |v, &b| v.wrapping_mul(16).wrapping_add(digit(b)))
+}
+
+// The number that word k of the line is. Ruled out: that of the word before or after it.
+pub fn number_at(line: &[u8], k: usize) -> u32
+    ensures { result ≡ number (first_word (from_word k line.now)) }
+{
+    number(word(line, k))
+}
+
+// A number modulo 2^16. Ruled out: its upper half; 0 for 2^16 - 1.
+pub fn low_half(n: u32) -> u16
+    ensures { result ≡ n % 2 ^ 16 }
+{
+    (n % 65536) as u16
+}
+
+// The bytes that the word spells, two digits each, as far as there is room. Answers how many.
+// Ruled out: more bytes than there is room for; more than half the word's digits.
+pub fn bytes(word: &[u8], out: &mut [u8]) -> usize
+    ensures len { length out.new ≡ length out.old }
+    ensures room { result ≤ length out.old }
+    ensures digits { result * 2 ≤ length word.now }
+{
+    for (byte, digits) in out.iter_mut().zip(word.chunks_exact(2)) {
+        *byte = (number(digits) % 256) as u8;
+    }
+    out.len().min(word.len() / 2)
+}
+
+// The values of xs become those of the line's first words. Answers what stands behind them.
+// Ruled out: a word read for no value; the words read anew from the first.
+pub fn read<'a, T: Copy, F: Fn(u32) -> T>(line: &'a [u8], xs: &mut [T], value: F) -> &'a [u8]
+    requires { F.IsAlwaysCallable value }
+    ensures len { length xs.new ≡ length xs.old }
+    ensures after { result.now ≡ from_word (length xs.old) line.now }
+{
+    let mut rest = line;
+    for x in xs.iter_mut() {
+        let (word, after) = split_word(rest);
+        *x = value(number(word));
+        rest = after;
+    }
+    rest
+}
+
+// Whether `same` says so of each value of xs and the number that the line's word at its place is.
+pub fn same_values<T: Copy, F: Fn(T, u32) -> bool>(line: &[u8], xs: &[T], same: F) -> bool
+    requires { F.IsAlwaysCallable same }
+{
+    let mut rest = line;
+    for x in xs {
+        let (word, behind) = split_word(rest);
+        if !same(*x, number(word)) {
+            return false;
         }
-        let v = digit(s[i]) % 16 * 16 + digit(s[i + 1]) % 16;
-        out[n] = (v % 256) as u8;
-        n += 1;
-        i += 2;
+        rest = behind;
     }
-    n
+    true
+}
+
+// A digest with one more number. Ruled out: a digest of the numbers in another order; one that a number of 0 leaves as it is.
+pub fn with(digest: u32, n: u32) -> u32
+    ensures { result ≡ with digest n }
+{
+    digest.wrapping_mul(31).wrapping_add(n)
 }
 
 // Moves what stands from `from` to `to` to the front of the buffer, reads the input behind it until the buffer is full or the input ends, and answers
@@ -148,50 +134,69 @@ pub fn refill<R: Read>(input: &mut R, buf: &mut [u8], from: usize, to: usize) ->
     ensures len { length buf.new ≡ length buf.old }
     ensures ends { IfOk result (λ n. n ≤ length buf.old) }
 {
+    buf.copy_within(from..to, 0);
     let kept = to - from;
-    for i in 0..kept {
-        buf[i] = buf[from + i];
-    }
     let got = read_full(input, &mut buf[kept..])?;
     Ok(kept + got)
 }
 
 // How many answers are the same as the oracle's, and how many are not.
-#[derive(Clone, Copy)]
+#[derive(Clone, Copy, Default)]
 pub struct Tally {
     pub same: u64,
     pub other: u64,
 }
 
-fn one_more(n: u64) -> u64 {
-    if n < 0xffff_ffff {
-        return n + 1;
+impl Tally {
+    // The tally with one answer more, which is the same as the oracle's or not.
+    pub fn with(self, same: bool) -> Tally {
+        Tally {
+            same: self.same.saturating_add(u64::from(same)),
+            other: self.other.saturating_add(u64::from(!same)),
+        }
     }
-    n
 }
 
-impl Tally {
-    pub fn none() -> Tally {
-        Tally { same: 0, other: 0 }
-    }
-
-    pub fn with(self, same: bool) -> Tally {
-        if same {
-            return Tally {
-                same: one_more(self.same),
-                other: self.other,
-            };
-        }
-        Tally {
-            same: self.same,
-            other: one_more(self.other),
-        }
-    }
-
-    // Writes both numbers as a line. Where a write fails its error is answered, and a part of the line may have been written.
-    pub fn print<P: Print>(self, out: &P) -> io::Result<()> {
+impl fmt::Display for Tally {
+    fn fmt<W: fmt::Write>(&self, f: &mut fmt::Formatter<W>) -> fmt::Result {
         let same = self.same;
         let other = self.other;
-        println!(out; "{same} same, {other} other")
+        write!(f, "{same} same, {other} other")
     }
+}
+
+// The tally with the lines that end in `text`, and how many bytes they take.
+fn count_lines<F: Fn(&[u8]) -> bool>(text: &[u8], tally: Tally, same: &F) -> (Tally, usize)
+    requires { F.IsAlwaysCallable same.now }
+    ensures { result.1 ≤ length text.now }
+{
+    match text.iter().rposition(|&b| b == b'\n') {
+        None => (tally, 0),
+        Some(end) => {
+            let mut tally = tally;
+            for line in text[..end].split(|&b| b == b'\n') {
+                tally = tally.with(same(line));
+            }
+            (tally, end + 1)
+        }
+    }
+}
+
+// Counts for how many lines of the input `same` says that the line's answer is the oracle's. The input is read piece by piece; the loop ends where nothing more
+// is counted. Where a read fails its error is answered.
+pub fn count<R: Read, F: Fn(&[u8]) -> bool>(input: &mut R, same: F) -> io::Result<Tally>
+    requires { F.IsAlwaysCallable same }
+{
+    let mut text = [0u8; 65536];
+    let mut tally = Tally::default();
+    let mut from = 0;
+    let mut to = 0;
+    for _ in 0..u64::MAX {
+        to = refill(input, &mut text, from, to)?;
+        (tally, from) = count_lines(&text[..to], tally, &same);
+        if from == 0 {
+            break;
+        }
+    }
+    Ok(tally)
 }

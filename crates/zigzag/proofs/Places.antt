@@ -87,6 +87,13 @@ raster_in k n h l = omega (arith, raster_block k)
 pub zigzag_in : (k n : ℕ) → n % 64 ≡ 0 → k < n → to_zigzag k < n
 zigzag_in k n h l = omega (arith, zigzag_block k)
 
+-- one block
+pub raster_small : (k : ℕ) → k < 64 → to_raster k < 64
+raster_small k h = raster_in k 64 refl h
+
+pub zigzag_small : (k : ℕ) → k < 64 → to_zigzag k < 64
+zigzag_small k h = zigzag_in k 64 refl h
+
 -- and no other place is sent to a block's first
 pub raster_rest : (k : ℕ) → (k % 64 ≡ 0 → ⊥) → to_raster k % 64 ≡ 0 → ⊥
 raster_rest k h e = h (subst (λ (i : ℕ). i % 64 ≡ 0) (sym (zigzag_first (to_raster k) e) ∙ zigzag_raster k) e)

@@ -12,7 +12,7 @@ loop-k-init c = (search rules, c.requires.0, upto_none _ _)
 pub loop-k-preserved : goal.loop-k-preserved
 loop-k-preserved c =
     let l = c.before.before in
-    (search rules, search rules, rw (to_z-of_z (sfits_of c.stored_at-v.type_inv), c.stored_at-v.ensures) (upto_step _ _ _ l.loop-k.invariant.2))
+    (search rules, search rules, rw (to_z-of_z (sfits_of c.stored_at.type_inv), c.stored_at.ensures) (upto_step _ _ _ l.loop-k.invariant.2))
 
 pub returns : goal.returns
 returns c = stored_listed (pos 0) _ _ _ c.before.before.requires.0 (upto-end _ _ _ _ c.before.loop-k.invariant.2 (omega arith))

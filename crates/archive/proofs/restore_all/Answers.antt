@@ -40,8 +40,8 @@ is_ok c =
     ap level_ok (is_level c ∙ sym (listed_at (pos 0) (restored_at s) (length s) l.loop-p.p (search rules)))
     ∙ all-at level_ok (pos 0) (restored s) l.before.requires.2 l.loop-p.p (rw listed_length (search rules))
 
-pub overflow_cast-out : goal.overflow_cast-out
-overflow_cast-out c = rw (to_z-of_z (sfits_of c.restored_at-level.type_inv)) (level_fits c.restored_at-level.result (is_ok c))
+pub overflow_cast-restored : goal.overflow_cast-restored
+overflow_cast-restored c = rw (to_z-of_z (sfits_of c.restored_at-level.type_inv)) (level_fits c.restored_at-level.result (is_ok c))
 
 pub loop-p-preserved : goal.loop-p-preserved
 loop-p-preserved c =

@@ -10,7 +10,8 @@ use mir.Syntax.{w32}
 use borrow.Author.Rules.{sfits_of, rules}
 use Rattle.answers.specs.Tests.{level_ok}
 use Rattle.answers.proofs.Lists.{listed_at, listed_length}
-use Rattle.answers.proofs.Tests.{all_not, all_more, all_end}
+use Rattle.std.proofs.lemmas.List.Folds.{list_all_at}
+use Rattle.answers.proofs.Tests.{all_more, all_end}
 use Rattle.archive.specs.Archive.{restored_at, restored, chain, val, first_after}
 use Rattle.archive.proofs.Chain.{level_is, next_first}
 use Rattle.archive.proofs.Levels.{after_ok}
@@ -41,7 +42,7 @@ pub returns-then-not-level_ok : goal.returns-then-not-level_ok
 returns-then-not-level_ok c =
     let l = c.before.before.before.before in
     let s = l.before.args.stored.now in
-    sym (all_not level_ok (pos 0) (restored s) l.loop-p.p (rw listed_length (search rules))
+    sym (list_all_at level_ok (restored s) l.loop-p.p (pos 0) (rw listed_length (search rules))
     (ap level_ok (is_level c.before.before) ∙ sym (is_ok c.before) ∙ c.if-not-level_ok.true))
 
 pub loop-p-preserved : goal.loop-p-preserved

@@ -1,12 +1,13 @@
 -- `contents::has_block` meets its contract.
-use Rattle.contents.proofs.MarkLaws.{marks}
+use Rattle.std.proofs.Common.{arith}
+use Rattle.std.proofs.lemmas.Bool.Decides.{nat_tests}
+use Rattle.contents.specs.Marks.{has_block}
 use Rattle.contents.proofs.has_block.Goals as goal
 
-pub returns-then-h-m : goal.returns-then-h-m
-returns-then-h-m c = search marks
+pub returns-then-m-c : goal.returns-then-m-c
+unfolding has_block
+returns-then-m-c c = grind (arith, nat_tests)
 
-pub returns-then-c-m : goal.returns-then-c-m
-returns-then-c-m c = search marks
-
-pub returns : goal.returns
-returns c = search marks
+pub returns-else-m-c : goal.returns-else-m-c
+unfolding has_block
+returns-else-m-c c = grind (arith, nat_tests)

@@ -1,9 +1,11 @@
 -- `contents::held_after` meets its contract.
-use Rattle.contents.proofs.HoldLaws.{holds}
+use Rattle.contents.specs.Hold.{hold_at}
 use Rattle.contents.proofs.held_after.Goals as goal
 
-pub returns-in-Unsaid : goal.returns-in-Unsaid
-returns-in-Unsaid c = search holds
+pub returns-in-None : goal.returns-in-None
+unfolding hold_at
+returns-in-None c = rw c.in-None.is c.measured_by.ensures
 
-pub returns-in-Counts : goal.returns-in-Counts
-returns-in-Counts c = search holds
+pub returns-in-Some : goal.returns-in-Some
+unfolding hold_at
+returns-in-Some c = rw c.in-Some.is c.of_three.ensures

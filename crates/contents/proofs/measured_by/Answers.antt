@@ -1,12 +1,13 @@
 -- `contents::measured_by` meets its contract.
-use Rattle.contents.proofs.HoldLaws.{holds}
+use Rattle.std.proofs.Common.{arith}
+use Rattle.std.proofs.lemmas.Bool.Decides.{nat_tests}
+use Rattle.contents.specs.Hold.{measured}
 use Rattle.contents.proofs.measured_by.Goals as goal
 
 pub returns-then-h : goal.returns-then-h
-returns-then-h c = search holds
+unfolding measured
+returns-then-h c = grind (arith, nat_tests)
 
-pub returns-then-h-eq3 : goal.returns-then-h-eq3
-returns-then-h-eq3 c = search holds
-
-pub returns : goal.returns
-returns c = search holds
+pub returns-else-h-eq3 : goal.returns-else-h-eq3
+unfolding measured
+returns-else-h-eq3 c = grind (arith, nat_tests)

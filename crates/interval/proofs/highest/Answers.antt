@@ -7,4 +7,4 @@ use Rattle.interval.proofs.highest.Goals as goal
 
 pub returns : goal.returns
 unfolding highest of_bits of_fields count_trailing_zeros
-returns c = rw (c.before.whole.ensures, to_z-of_z w16 c.before.before.args.high c.before.before.ranges.high)
+returns c = rw (c.whole.ensures, c.from.ensures, to_z-of_z w16 c.args.high c.ranges.high)

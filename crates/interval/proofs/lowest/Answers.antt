@@ -7,4 +7,4 @@ use Rattle.interval.proofs.lowest.Goals as goal
 
 pub returns : goal.returns
 unfolding lowest of_bits of_fields count_trailing_zeros
-returns c = rw (c.before.whole.ensures, to_z-of_z w16 c.before.before.args.low c.before.before.ranges.low)
+returns c = rw (c.whole.ensures, c.from.ensures, to_z-of_z w16 c.args.low c.ranges.low)

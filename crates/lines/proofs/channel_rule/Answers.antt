@@ -1,6 +1,7 @@
 -- `lines::channel_rule` meets its contract.
-use Rattle.lines.proofs.LineLaws.{rules}
+use Rattle.std.proofs.Common.{arith}
+use Rattle.lines.proofs.LineLaws.{channel_quantiser}
 use Rattle.lines.proofs.channel_rule.Goals as goal
 
-pub returns : goal.returns
-returns c = search rules
+pub returns-in_default : goal.returns-in_default
+returns-in_default c = channel_quantiser c.args.i (omega arith) c.requires

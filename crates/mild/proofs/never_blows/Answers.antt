@@ -9,18 +9,18 @@ use Rattle.mild.specs.Mild.{mild}
 use Rattle.mild.proofs.Checked.{tells_of}
 use Rattle.mild.proofs.never_blows.Goals as goal
 
-pub returns-then-not-legal : goal.returns-then-not-legal
-returns-then-not-legal c =
-    let r = c.args.run in
-    let no : legal (sheet_of r) (places_of r) ≡ false = sym c.legal.ensures ∙ c.if-not-legal.true in
-    tells_of r false (rw no)
-
 pub weights_ok-requires : goal.weights_ok-requires
-weights_ok-requires c = count_3 c.args.run (subst T (sym c.if-not-legal.false ∙ c.legal.ensures) tt)
+weights_ok-requires c = count_3 c.args.run (subst T (sym c.if-legal.true ∙ c.legal.ensures) tt)
 
-pub returns : goal.returns
+pub returns-then-legal : goal.returns-then-legal
 unfolding mild
-returns c =
+returns-then-legal c =
     let r = c.args.run in
-    let yes : legal (sheet_of r) (places_of r) ≡ true = sym c.legal.ensures ∙ c.if-not-legal.false in
-    tells_of r _ (c.both.ensures ∙ rw (c.weights_ok.ensures, c.both-numbers.ensures, c.light_ok.ensures, yes))
+    let yes : legal (sheet_of r) (places_of r) ≡ true = sym c.legal.ensures ∙ c.if-legal.true in
+    tells_of r _ (rw (c.weights_ok.ensures, c.light_ok.ensures, yes))
+
+pub returns-else-legal : goal.returns-else-legal
+returns-else-legal c =
+    let r = c.args.run in
+    let no : legal (sheet_of r) (places_of r) ≡ false = sym c.legal.ensures ∙ c.if-legal.false in
+    tells_of r _ (c.if-legal.false ∙ rw no)

@@ -1,15 +1,11 @@
--- `output::put_numbers` meets its contract. Assumes nothing.
-use borrow.Author.Rules.{rules}
+-- `output::put_numbers` meets its contract.
 use native.Mathlib.Omega.{arith}
-use Rattle.output.proofs.Fronts.{wrote_more}
+use Rattle.copying.proofs.PartLaws.{put_more}
 use Rattle.output.proofs.Sizes.{head_length}
 use Rattle.output.proofs.put_numbers.Goals as goal
 
 pub put_byte-requires : goal.put_byte-requires
-put_byte-requires c = let a = c.before.before.before.before.before.before.args in let n = head_length a.letter a.a a.b in search rules
+put_byte-requires c = omega (arith, head_length c.args.letter c.args.a c.args.b)
 
 pub returns : goal.returns
-returns c =
-    let a = c.before.before.before.before.before.before.before.before.before.args in
-    let n = head_length a.letter a.a a.b in
-    wrote_more c.before.before.before.before.before.before.put_head-end.ensures (omega (arith, n, c.before.before.before.before.before.before.before.before.before.requires, c.before.before.before.before.before.before.put_head-end.ensures.count)) c.before.before.put_byte.ensures
+returns c = put_more c.put_head.ensures c.put_byte.ensures

@@ -1,10 +1,11 @@
+-- `output::put_picture` meets its contract.
 use borrow.Author.Rules.{rules}
 use mathlib.Core.Path.{◌≡◌, ap, ◌∙◌}
 use Prim.Native.Nat.{ℕ, ◌+◌, ◌*◌, ◌≤◌, ◌<◌}
 use native.Mathlib.Omega.{arith}
 use Rattle.fold.proofs.Grid.{row_end}
 use Rattle.output.specs.Output.{each, numbers_line, row_line, picture_text}
-use Rattle.output.proofs.Fronts.{wrote_none, wrote_more, wrote_as}
+use Rattle.copying.proofs.PartLaws.{put_none, put_more, put_as}
 use Rattle.output.proofs.Lines.{lines_more, lines_done}
 use Rattle.output.proofs.Sizes.{row_length, row_more, numbers_length, sides_length}
 use Rattle.output.proofs.put_picture.Goals as goal
@@ -14,21 +15,19 @@ within : (y width height : ℕ) → y < height
     → (y * width + width ≤ height * width) × (y * (7 * width + 2) + (7 * width + 2) ≤ height * (7 * width + 2))
 within y width height l = (row_end y height width l, row_end y height (7 * width + 2) l)
 
-pub put_numbers-end-requires : goal.put_numbers-end-requires
-put_numbers-end-requires c =
-    let n = numbers_length 73 c.args.width c.args.height in
-    let m = sides_length 73 c.args.width c.args.height c.requires.0 c.requires.1 in
-    search rules
+pub put_numbers-requires : goal.put_numbers-requires
+put_numbers-requires c =
+    omega (arith, numbers_length 73 c.args.width c.args.height, sides_length 73 c.args.width c.args.height c.requires.0 c.requires.1)
 
 pub loop-y-init : goal.loop-y-init
 unfolding each
-loop-y-init c = (search rules, search rules, search rules, wrote_none _ _)
+loop-y-init c = record { at = omega arith; put = put_none _ }
 
 pub overflow_mul-y : goal.overflow_mul-y
 overflow_mul-y c = let w = within c.loop-y.y c.args.width c.args.height (omega arith) in search rules
 
-pub put_row-end-requires : goal.put_row-end-requires
-put_row-end-requires c =
+pub put_row-requires : goal.put_row-requires
+put_row-requires c =
     let w = within c.loop-y.y c.args.width c.args.height (omega arith) in
     -- where the rows begin: the first line has at most 10 bytes
     let f = sides_length 73 c.args.width c.args.height c.requires.0 c.requires.1 in
@@ -36,15 +35,13 @@ put_row-end-requires c =
 
 pub loop-y-preserved : goal.loop-y-preserved
 loop-y-preserved c =
-    let w = within c.loop-y.y c.args.width c.args.height (omega arith) in
-    let f = sides_length 73 c.args.width c.args.height c.requires.0 c.requires.1 in
     let m = row_more c.loop-y.y (7 * c.args.width + 2) in
-    let n = c.put_row-end.ensures.count ∙ ap (λ (k : ℕ). c.loop-y.end + k) (row_length c.args.width c.args.rgb.now (c.loop-y.y * c.args.width)) in
-    (search rules, omega (arith, n), search rules, wrote_as (lines_more _ _) (wrote_more c.loop-y.invariant.3 (omega arith) c.put_row-end.ensures))
+    let n = c.put_row.ensures.next ∙ ap (λ (k : ℕ). c.loop-y.to.at + k) (row_length c.args.width c.args.rgb.now (c.loop-y.y * c.args.width)) in
+    record { at = omega (arith, m, n); put = put_as (lines_more _ _) (put_more c.loop-y.invariant.put c.put_row.ensures) }
 
 pub returns : goal.returns
 unfolding picture_text
 returns c =
-    let f = sides_length 73 c.args.width c.args.height c.requires.0 c.requires.1 in
     let e : c.loop-y.y ≡ c.args.height = omega arith in
-    wrote_as (lines_done (numbers_line 73 c.args.width c.args.height) (λ i. row_line c.args.width c.args.rgb.now (i * c.args.width)) _ _ e) (wrote_more c.put_numbers-end.ensures (omega arith) c.loop-y.invariant.3)
+    put_as (lines_done (numbers_line 73 c.args.width c.args.height) (λ i. row_line c.args.width c.args.rgb.now (i * c.args.width)) _ _ e)
+    (put_more c.put_numbers.ensures c.loop-y.invariant.put)

@@ -1,17 +1,8 @@
--- `output::put_pixel` meets its contract. Assumes nothing.
-use native.Mathlib.Omega.{arith}
-use Rattle.output.proofs.Fronts.{wrote_more}
+-- `output::put_pixel` meets its contract.
+use Rattle.copying.proofs.PartLaws.{put_more}
 use Rattle.output.proofs.put_pixel.Goals as goal
 
 pub returns : goal.returns
 returns c =
-    let b = c.before.before in
-    let g = b.before.before.before.before.before in
-    let r = g.before.before.before.before.before in
-    let t = r.before.before.before.before.before in
-    let p = t.before.before.before.before.requires.1 in
-    let one = t.put_byte-red.ensures in
-    let two = r.put_hex-green.ensures in
-    let three = g.put_hex-blue.ensures in
-    wrote_more (wrote_more (wrote_more one (omega (arith, p, one.count)) two) (omega (arith, p, one.count, two.count)) three)
-    (omega (arith, p, one.count, two.count, three.count)) b.put_hex.ensures
+    let p = put_more c.put_byte.ensures (put_more c.put_hex.ensures (put_more c.put_hex-2.ensures c.put_hex-3.ensures)) in
+    rw (c.from.ensures, c.from-2.ensures, c.from-3.ensures) at p

@@ -1,8 +1,8 @@
-use borrow.Author.Rules.{rules}
+-- `output::put_totals` meets its contract.
 use mathlib.Core.Path.{◌≡◌}
 use native.Mathlib.Omega.{arith}
 use Rattle.output.specs.Output.{each, totals_text}
-use Rattle.output.proofs.Fronts.{wrote_none, wrote_more, wrote_as}
+use Rattle.copying.proofs.PartLaws.{put_none, put_more, put_as}
 use Rattle.output.proofs.Lines.{lines_more}
 use Rattle.output.proofs.Sizes.{step_room, row_more}
 use Rattle.fold.proofs.Grid.{row_end}
@@ -10,24 +10,21 @@ use Rattle.output.proofs.put_totals.Goals as goal
 
 pub loop-k-init : goal.loop-k-init
 unfolding each
-loop-k-init c = (search rules, search rules, search rules, wrote_none _ _)
+loop-k-init c = record { at = omega arith; put = put_none _ }
 
-pub put_step-end-requires : goal.put_step-end-requires
-put_step-end-requires c =
-    let l = c.before.before.loop-k in
-    let m = row_end l.k c.before.before.before.before.before.args.steps 43 c.before.loop-k-test.true in
-    (c.before.before.before.before.before.requires.0, omega (arith, c.before.before.before.before.before.requires.1), omega (arith, c.before.before.before.before.before.requires.2), omega (arith, c.before.before.before.before.before.requires.3, l.invariant.1, l.invariant.2))
+pub put_step-requires : goal.put_step-requires
+put_step-requires c =
+    let m = row_end c.loop-k.k c.args.steps 43 c.loop-k-test.true in
+    (c.requires.0, omega arith, omega arith, omega arith)
 
 pub loop-k-preserved : goal.loop-k-preserved
 loop-k-preserved c =
-    let l = c.before.before.before.before.before.loop-k in
-    let a = c.before.before.before.before.before.before.before.before.args in
-    let s = c.before.before.put_step-end.ensures in
-    let m = row_more l.k 43 in
-    let n = row_end l.k a.steps 43 c.before.before.before.before.loop-k-test.true in
-    let o = step_room a.channel l.k a.totals.now c.before.before.before.before.before.before.before.before.requires.0 (omega (arith, c.before.before.before.before.before.before.before.before.requires.1)) in
-    (search rules, omega (arith, s.count, l.invariant.1), search rules, wrote_as (lines_more _ _) (wrote_more l.invariant.3 (omega (arith, c.before.before.before.before.before.before.before.before.requires.3, l.invariant.1)) s))
+    let o = step_room c.args.channel c.loop-k.k c.args.totals.now c.requires.0 (omega arith) in
+    record {
+      at = omega (arith, row_more c.loop-k.k 43, c.put_step.ensures.next, c.loop-k.invariant.at);
+      put = put_as (lines_more _ _) (put_more c.loop-k.invariant.put c.put_step.ensures);
+    }
 
 pub returns : goal.returns
 unfolding totals_text
-returns c = let e : c.before.loop-k.k ≡ c.before.before.before.before.args.steps = omega arith in rw e at c.before.loop-k.invariant.3
+returns c = let e : c.loop-k.k ≡ c.args.steps = omega arith in rw e at c.loop-k.invariant.put

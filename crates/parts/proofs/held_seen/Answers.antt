@@ -4,4 +4,4 @@ use Rattle.calls.specs.Run.{Place}
 use Rattle.parts.proofs.held_seen.Goals as goal
 
 pub returns : goal.returns
-returns c = (c.blown_part-blown.ensures, ap (λ (p : Place). p.clipped) c.channel_of-x.ensures.its_place)
+returns c = (c.blown_part.ensures, ap (λ (p : Place). p.clipped) c.channel_of.ensures.its_place)

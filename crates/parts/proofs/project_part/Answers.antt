@@ -1,49 +1,24 @@
 -- `project_part`: the parts that are lent on are channel c's.
-use Prim.Native.Nat.{◌*◌}
-use Rattle.start.specs.Coef.{pairs}
-use Rattle.demand.specs.Solver.{coef_of}
-use Rattle.calls.proofs.Parts.{length_part}
-use Rattle.parts.proofs.Covered.{covers, lent_long}
-use borrow.Author.Rules.{rules}
+use Rattle.parts.proofs.Covered.{part_long}
 use Rattle.parts.proofs.project_part.Goals as goal
 
 pub span_of-s-requires : goal.span_of-s-requires
 span_of-s-requires c = (c.requires.0.is-legal, c.requires.0.below)
 
-pub own_of-o-requires : goal.own_of-o-requires
-own_of-o-requires c = (c.requires.0.is-legal, c.requires.0.below)
-
-pub levels_of-ls-requires : goal.levels_of-ls-requires
-levels_of-ls-requires c = (c.requires.0.is-legal, c.requires.0.below, c.requires.0.levels-long.0)
-
-pub levels_of-hs-requires : goal.levels_of-hs-requires
-levels_of-hs-requires c = (c.requires.0.is-legal, c.requires.0.below, c.requires.0.levels-long.1)
-
-pub table_of-ts-requires : goal.table_of-ts-requires
-table_of-ts-requires c = (c.requires.0.below, c.requires.0.tables_long)
-
-pub slice_bounds-project_onto_box-end-4 : goal.slice_bounds-project_onto_box-end-4
-slice_bounds-project_onto_box-end-4 c = search (rules, c.requires)
-
 pub project_onto_box-requires : goal.project_onto_box-requires
 project_onto_box-requires c =
     let a = c.args in
-    let f = c.requires.0 in (
-      rw c.own_of-o.ensures (covers a.run f.is-legal a.c f.below),
-      rw (c.own_of-o.ensures, c.levels_of-ls.ensures, c.levels_of-hs.ensures, c.table_of-ts.ensures) (lent_long a.run a.c (pairs a.lows.now a.highs.now) a.tables.now f),
-      rw (c.span_of-s.ensures.1, c.span_of-s.ensures.0) (length_part (a.run.w * a.run.h) a.c a.run.count a.plane.now c.requires.1 f.below),
-      rw (c.span_of-s.ensures.1, c.span_of-s.ensures.0) (length_part (a.run.w * a.run.h) a.c a.run.count a.across.now c.requires.2 f.below),
-      rw (c.span_of-s.ensures.1, c.span_of-s.ensures.0) (length_part (a.run.w * a.run.h) a.c a.run.count a.down.now c.requires.3 f.below),
-      rw (c.span_of-s.ensures.1, c.span_of-s.ensures.0) (length_part (a.run.w * a.run.h) a.c a.run.count a.saved.now c.requires.4 f.below),
+    let s = c.span_of-s.ensures in
+    let k = c.coef_of-coef.ensures in (
+      part_long a.run a.c c.requires.0.below s.0 s.1 k.1 k.2 a.plane.now c.requires.1,
+      part_long a.run a.c c.requires.0.below s.0 s.1 k.1 k.2 a.across.now c.requires.2,
+      part_long a.run a.c c.requires.0.below s.0 s.1 k.1 k.2 a.down.now c.requires.3,
+      part_long a.run a.c c.requires.0.below s.0 s.1 k.1 k.2 a.saved.now c.requires.4,
     )
 
 pub returns : goal.returns
-unfolding coef_of
 returns c =
     let s = c.span_of-s.ensures in
-    let o = c.own_of-o.ensures in
-    let l = c.levels_of-ls.ensures in
-    let h = c.levels_of-hs.ensures in
-    let t = c.table_of-ts.ensures in
+    let k = c.coef_of-coef.ensures in
     let p = c.project_onto_box.ensures in
-    (rw (← s.1, ← s.0, ← o, ← l, ← h, ← t, ← p.0), rw (← s.1, ← s.0, ← o, ← l, ← h, ← t) p.1)
+    (rw (← s.1, ← s.0, ← k.0, ← k.1, ← k.2, ← p.0), rw (← s.1, ← s.0, ← k.0, ← k.1, ← k.2) p.1)

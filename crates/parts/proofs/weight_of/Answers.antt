@@ -2,4 +2,4 @@
 use Rattle.parts.proofs.weight_of.Goals as goal
 
 pub returns : goal.returns
-returns c = rw (← c.channel_of-x.ensures.its_own)
+returns c = rw (← c.channel_of.ensures.its_own)

@@ -1,4 +1,4 @@
--- `picture::finish` meets its contract. Assumes nothing.
+-- `picture::finish` meets its contract.
 use Rattle.std.proofs.Common.{sym, ◌∙◌}
 use Rattle.picture.specs.Finish.{finishing}
 use Rattle.picture.proofs.Sizes.{sizes, lengths}
@@ -12,16 +12,13 @@ pub returns-then-not-fitting : goal.returns-then-not-fitting
 unfolding finishing
 returns-then-not-fitting c = rw (sym c.legal.ensures ∙ c.if-not-legal.false, ← c.fitting.ensures, c.if-not-fitting.true)
 
-pub rows-requires : goal.rows-requires
-rows-requires c =
+pub invariant_of-solved : goal.invariant_of-solved
+invariant_of-solved c =
     let s = sizes _ _ _ _ _ (sym c.legal.ensures ∙ c.if-not-legal.false) in
     let l = lengths _ _ _ _ _ _ _ (sym c.fitting.ensures ∙ c.if-not-fitting.false) in
-    record { width_le_w = (s.width_in, s.wide, s.height_in, s.high); le_channels = (s.some, l.planes, l.rgb) }
+    record { some = s.some; sides = (s.wide, s.high); long = l.planes }
 
 pub returns : goal.returns
 unfolding finishing
 returns c =
     rw (sym c.legal.ensures ∙ c.if-not-legal.false, ← c.fitting.ensures, c.if-not-fitting.false, c.rows.ensures)
-
-pub fitting-requires : goal.fitting-requires
-fitting-requires c = sym c.legal.ensures ∙ c.if-not-legal.false

@@ -3,11 +3,11 @@ use Rattle.program.proofs.Printing.{measured_room, refusal-text}
 use Rattle.program.proofs.answer.Goals as goal
 
 pub read_and_solve-requires : goal.read_and_solve-requires
-read_and_solve-requires c = let o = c.measure in (measured_room _ o.result _ _ o.ensures c.in-Lengths.is, c.requires.1)
+read_and_solve-requires c = let o = c.measure in (measured_room _ o.result _ o.ensures c.in-Ok.is, c.requires.1)
 
-pub returns-in-Refused : goal.returns-in-Refused
-returns-in-Refused c =
+pub returns-in-Err : goal.returns-in-Err
+returns-in-Err c =
     let a = c.args in
     let p = c.requires in
     let o = c.measure in
-    refusal-text a.text.now p.0 o.result _ _ o.ensures c.in-Refused.is a.out.now _ _ p.1 c.write_refusal.ensures
+    refusal-text a.text.now p.0 o.result _ o.ensures c.in-Err.is _ c.number.ensures a.out.now _ _ p.1 c.write_refusal.ensures

@@ -8,16 +8,16 @@ solved-requires c =
     let a = c.args in
     let p = c.requires in
     let o = c.read in
-    (sheet_legal a.text.now (lent a.lows.now a.highs.now a.tables.now) _ o.result p.0 p.1 o.ensures _ c.in-Sheet.is, p.2)
+    (sheet_legal a.text.now (lent a.lows.now a.highs.now a.tables.now) _ o.result p.0 p.1 o.ensures _ c.in-Ok.is, p.2)
 
-pub returns-in-Sheet : goal.returns-in-Sheet
-returns-in-Sheet c =
+pub returns-in-Ok : goal.returns-in-Ok
+returns-in-Ok c =
     let a = c.args in
     let o = c.read in
-    sheet-text a.text.now (lent a.lows.now a.highs.now a.tables.now) _ o.result c.requires.0 c.requires.1 o.ensures _ c.in-Sheet.is a.out.now _ _ c.solved.ensures
+    sheet-text a.text.now (lent a.lows.now a.highs.now a.tables.now) _ o.result c.requires.0 c.requires.1 o.ensures _ c.in-Ok.is a.out.now _ _ c.solved.ensures
 
-pub returns-in-Refused : goal.returns-in-Refused
-returns-in-Refused c =
+pub returns-in-Err : goal.returns-in-Err
+returns-in-Err c =
     let a = c.args in
     let o = c.read in
-    absurd (not_refused a.text.now (lent a.lows.now a.highs.now a.tables.now) _ o.result c.requires.0 c.requires.1 o.ensures _ _ c.in-Refused.is)
+    absurd (not_refused a.text.now (lent a.lows.now a.highs.now a.tables.now) _ o.result c.requires.0 c.requires.1 o.ensures _ c.in-Err.is)

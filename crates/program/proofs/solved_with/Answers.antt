@@ -4,8 +4,16 @@ use mathlib.Core.Path.{refl}
 use Rattle.contents.specs.Sheets.{lent}
 use Rattle.rounds.specs.Whole.{six}
 use Rattle.program.proofs.Accepts.{at-most}
-use Rattle.program.proofs.Printing.{done_long, done_room, done_text, numbers_small, blown_text}
+use Rattle.program.proofs.Printing.{is_accepted, not_accepted, solves, done_long, done_room, done_text, numbers_small, blown_text}
 use Rattle.program.proofs.solved_with.Goals as goal
+
+pub unwrap-requires : goal.unwrap-requires
+unwrap-requires c =
+    let a = c.args in
+    let p = c.requires in
+    let o = c.solve-t in
+    solves a.s (lent a.lows.now a.highs.now a.tables.now) p.0 (six a.plane.now a.prior.now a.gradient.now a.across.now a.down.now a.saved.now) p.1 a.totals.now p.2
+    o.result.answer o.result.clipped _ o.ensures
 
 pub returns-in_default : goal.returns-in_default
 returns-in_default c =
@@ -13,14 +21,15 @@ returns-in_default c =
     let p = c.requires in
     let o = c.solve-t in
     blown_text a.s (lent a.lows.now a.highs.now a.tables.now) p.0 (six a.plane.now a.prior.now a.gradient.now a.across.now a.down.now a.saved.now) p.1 a.totals.now p.2
-    o.result.answer o.result.clipped _ o.ensures c.in_default.not-Done a.out.now _ _ _ _ p.3 c.write_refusal.ensures refl refl
+    o.result.answer o.result.clipped _ o.ensures (not_accepted o.result.answer c.unwrap.result c.unwrap.ensures c.in_default.not-Done)
+    a.out.now _ _ _ _ p.3 c.write_refusal.ensures c.number.ensures refl
 
 pub write_sums-from-requires : goal.write_sums-from-requires
 write_sums-from-requires c =
     let a = c.args in
     let p = c.requires in
     let o = c.solve-t in
-    (p.0.header, done_room a.s (lent a.lows.now a.highs.now a.tables.now) p.0 (six a.plane.now a.prior.now a.gradient.now a.across.now a.down.now a.saved.now) p.1 a.totals.now p.2 o.result.answer o.result.clipped _ o.ensures c.in-Done.is, p.3)
+    (p.0.header, done_room a.s (lent a.lows.now a.highs.now a.tables.now) p.0 (six a.plane.now a.prior.now a.gradient.now a.across.now a.down.now a.saved.now) p.1 a.totals.now p.2 o.result.answer o.result.clipped _ o.ensures (is_accepted o.result.answer c.unwrap.result c.unwrap.ensures c.in-Done.is), p.3)
 
 pub write_numbers-at-requires : goal.write_numbers-at-requires
 write_numbers-at-requires c =
@@ -28,7 +37,7 @@ write_numbers-at-requires c =
     let p = c.requires in
     let o = c.solve-t in (
       at-most a.s.header.channels p.0.header.channels,
-      numbers_small a.s (lent a.lows.now a.highs.now a.tables.now) p.0 (six a.plane.now a.prior.now a.gradient.now a.across.now a.down.now a.saved.now) p.1 a.totals.now p.2 o.result.answer o.result.clipped _ o.ensures c.in-Done.is,
+      numbers_small a.s (lent a.lows.now a.highs.now a.tables.now) p.0 (six a.plane.now a.prior.now a.gradient.now a.across.now a.down.now a.saved.now) p.1 a.totals.now p.2 o.result.answer o.result.clipped _ o.ensures (is_accepted o.result.answer c.unwrap.result c.unwrap.ensures c.in-Done.is),
       omega (arith, p.3, c.write_sums-from.ensures.1, c.out-2-1.given),
     )
 
@@ -39,7 +48,7 @@ paint-requires c =
     let o = c.solve-t in (
       p.0.header,
       done_long a.s (lent a.lows.now a.highs.now a.tables.now) p.0 (six a.plane.now a.prior.now a.gradient.now a.across.now a.down.now a.saved.now) p.1 a.totals.now p.2
-          o.result.answer o.result.clipped _ o.ensures c.in-Done.is,
+          o.result.answer o.result.clipped _ o.ensures (is_accepted o.result.answer c.unwrap.result c.unwrap.ensures c.in-Done.is),
       omega (arith, p.3, c.write_sums-from.ensures.1, c.write_numbers-at.ensures.1, c.out-2-1.given, c.out-3-1.given),
     )
 
@@ -52,4 +61,4 @@ returns c =
     let t = c.write_sums-from in
     let k = c.write_numbers-at in
     done_text a.s (lent a.lows.now a.highs.now a.tables.now) p.0 (six a.plane.now a.prior.now a.gradient.now a.across.now a.down.now a.saved.now) p.1 a.totals.now p.2
-    o.result.answer o.result.clipped _ o.ensures c.in-Done.is f.result f.ensures a.out.now t.result _ t.ensures.0 (omega (arith, p.3, t.ensures.1)) c.out-2-1.given k.result _ k.ensures.0 (omega (arith, p.3, t.ensures.1, k.ensures.1)) _ _ c.paint.ensures
+    o.result.answer o.result.clipped _ o.ensures (is_accepted o.result.answer c.unwrap.result c.unwrap.ensures c.in-Done.is) f.result f.ensures a.out.now t.result _ t.ensures.0 (omega (arith, p.3, t.ensures.1)) c.out-2-1.given k.result _ k.ensures.0 (omega (arith, p.3, t.ensures.1, k.ensures.1)) _ _ c.paint.ensures

@@ -8,7 +8,7 @@ use Rattle.rounds.proofs.all_rounds.Given as goal
 
 abbrev pub invariant-loop-p : goal.invariant-loop-p
 invariant-loop-p l =
-    Rounding (given_of l.initial.next (pairs l.lows l.highs) l.tables) l.p-end l.p l.next (six l.initial.plane l.initial.prior l.initial.gradient l.initial.across l.initial.down l.initial.saved) l.initial.totals (six l.plane l.prior l.gradient l.across l.down l.saved) l.totals
+    Rounding (given_of l.initial.run (pairs l.lows l.highs) l.tables) l.p-end l.p l.run (six l.initial.plane l.initial.prior l.initial.gradient l.initial.across l.initial.down l.initial.saved) l.initial.totals (six l.plane l.prior l.gradient l.across l.down l.saved) l.totals
 
 abbrev pub decreases-loop-p : goal.decreases-loop-p
 decreases-loop-p l = l.p-end - l.p

@@ -8,7 +8,7 @@ use Rattle.rounds.proofs.round.Given as goal
 
 abbrev pub invariant-loop-c : goal.invariant-loop-c
 invariant-loop-c l =
-    Passing (given_of l.initial.next (pairs l.lows l.highs) l.tables) l.p l.c-end l.c l.next (six l.initial.plane l.initial.prior l.initial.gradient l.initial.across l.initial.down l.initial.saved) (six l.plane l.prior l.gradient l.across l.down l.saved)
+    Passing (given_of l.initial.run (pairs l.lows l.highs) l.tables) l.p l.c-end l.c l.run (six l.initial.plane l.initial.prior l.initial.gradient l.initial.across l.initial.down l.initial.saved) (six l.plane l.prior l.gradient l.across l.down l.saved)
 
 abbrev pub decreases-loop-c : goal.decreases-loop-c
 decreases-loop-c l = l.c-end - l.c

@@ -1,24 +1,21 @@
 -- `sheet::read` meets its contract.
-use native.Mathlib.Omega.{arith}
-use Rattle.sheet.proofs.ReadLaws.{answers, read_sheet, read_never}
+use Rattle.std.proofs.Common.{sym, ◌∙◌, ap, ◌≡◌}
+use Rattle.contents.specs.Sheets.{lent}
+use Rattle.sheet.specs.Walk.{said, walked_of}
+use Rattle.sheet.specs.Reading.{read_text}
+use Rattle.sheet.specs.Reading.Outcome.{Gives}
+use Rattle.sheet.proofs.ReadLaws.{read_sheet}
 use Rattle.sheet.proofs.read.Goals as goal
 
-pub returns-in-Sheet-walk : goal.returns-in-Sheet-walk
-returns-in-Sheet-walk c =
-    read_sheet _ _ _ _ _ _ _ c.count-counted.ensures _ _ _ _ c.in-Sheet.is (omega arith) c.if-h-highs.false c.if-m-tables.false _ _ _ _ _ c.walk.ensures _ _ _ _ c.in-Sheet-walk.is _ _ c.show.ensures c.show-in-Sheet-walk.ensures
-
-pub returns-in-Refused-walk : goal.returns-in-Refused-walk
-returns-in-Refused-walk c =
-    read_never _ _ _ _ _ _ _ c.count-counted.ensures _ _ _ _ c.in-Sheet.is (omega arith) c.if-h-highs.false c.if-m-tables.false _ _ _ _ _ c.walk.ensures _ _ c.in-Refused-walk.is
-
-pub returns-then-n-lows : goal.returns-then-n-lows
-returns-then-n-lows c = search answers
-
-pub returns-then-h-highs : goal.returns-then-h-highs
-returns-then-h-highs c = search answers
-
-pub returns-then-m-tables : goal.returns-then-m-tables
-returns-then-m-tables c = search answers
-
-pub returns-in-Refused : goal.returns-in-Refused
-returns-in-Refused c = search answers
+pub returns : goal.returns
+returns c =
+    let w = c.in_ok-counted.counted in
+    let v = c.in_ok-walked.walked in
+    let new = c.walk.new in
+    let text = read_text c.args.limits c.args.text.now in
+    let q : Gives w ≡ walked_of text = sym (ap said c.in_ok-counted.was) ∙ c.count.ensures in
+    let r : Gives v ≡ walked_of text = sym (ap said c.in_ok-walked.was) ∙ c.walk.ensures.answer in
+    let p =
+    read_sheet c.args.who (lent c.args.lows.now c.args.highs.now c.args.tables.now) w c.if-counted-lows.false c.if-counted-highs.false c.if-counted-tables.false
+    text (lent new.lows new.highs new.tables) new.bits v q r c.walk.ensures.stored c.walk.ensures.mapped in
+    record { answer = p.0; lent = rw (c.show.ensures, c.show-2.ensures) p.1 }

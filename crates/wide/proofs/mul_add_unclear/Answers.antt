@@ -2,9 +2,12 @@
 use mathlib.Core.Path.{sym}
 use Rattle.wide.proofs.Zero.{is_zero, first_zero, second_zero}
 use Rattle.wide.proofs.mul_add_unclear.Goals as goal
+use Rattle.wide.proofs.mul_add_unclear.Goals.{then-a-via-then-a, then-a-via-else-a+then-b}
 
 pub returns-then-a : goal.returns-then-a
-returns-then-a c = let a = c.before.args in sym (first_zero a.a a.b a.c (is_zero a.a c.if-a.true))
-
-pub returns-then-b : goal.returns-then-b
-returns-then-b c = let a = c.before.before.args in sym (second_zero a.a a.b a.c (is_zero a.b c.if-b.true))
+returns-then-a c =
+    let a = c.args in
+    elim c.then-a.branch [
+      | then-a-via-then-a w ↦ sym (first_zero a.a a.b a.c (is_zero a.a w.if-a.true))
+      | then-a-via-else-a+then-b w ↦ sym (second_zero a.a a.b a.c (is_zero a.b w.if-b.true))
+    ]

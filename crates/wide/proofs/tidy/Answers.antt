@@ -10,9 +10,6 @@ use Rattle.wide.proofs.tidy.Goals as goal
 use Rattle.wide.proofs.tidy.Lts as lts
 use Rattle.wide.proofs.tidy.Reads as reads
 
-pub float_to_bits-n : goal.float_to_bits-n
-float_to_bits-n c = c.requires.number
-
 -- what owning an `f64` tells: the format holds it, so its pattern has 64 bits
 bits_lt : (c : (lts.Start reads.Pre reads.Post)) → to_bits binary64 c.args.s < 18446744073709551616
 bits_lt c = to_bits-lt binary64 c.args.s (subst T (sym c.well_formed.0.1) tt)

@@ -6,10 +6,6 @@ use Rattle.zigzag.specs.Zigzag.{sequence, figure, to_zigzag}
 use Rattle.zigzag.proofs.Places.{inside}
 use Rattle.zigzag.proofs.zigzag.Goals as goal
 
-pub overflow_cast-result : goal.overflow_cast-result
-unfolding sequence figure
-overflow_cast-result c = let h = inside (c.args.p % 64) (omega arith) in record { fits = omega arith }
-
 pub overflow_add-result : goal.overflow_add-result
 unfolding sequence figure
 overflow_add-result c = let h = inside (c.args.p % 64) (omega arith) in omega arith

@@ -5,5 +5,5 @@ use Rattle.by_numbers.proofs.sheets.rounding_from.Goals as goal
 pub returns-then-n-eq1 : goal.returns-then-n-eq1
 returns-then-n-eq1 c = rw (eq-eqb _ _ c.if-n-eq1.true)
 
-pub returns : goal.returns
-returns c = rw (ne_eqb _ _ c.if-n-eq1.false)
+pub returns-else-n-eq1 : goal.returns-else-n-eq1
+returns-else-n-eq1 c = rw (ne_eqb _ _ c.if-n-eq1.false)

@@ -4,4 +4,4 @@ use Rattle.by_numbers.proofs.sheets.sheet_of.Goals as goal
 
 pub returns : goal.returns
 unfolding sheet_of_numbers
-returns c = rw (c.settings_from-settings.ensures, c.header_from.ensures, c.channel_from.ensures, c.channel_from-2.ensures, c.channel_from-3.ensures)
+returns c = rw (c.settings_from.ensures, c.header_from.ensures, c.channel_from.ensures, c.channel_from-2.ensures, c.channel_from-3.ensures)

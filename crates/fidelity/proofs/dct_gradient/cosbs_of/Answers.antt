@@ -1,8 +1,7 @@
-use borrow.Author.Rules.{sfits_of}
-use mir.Syntax.{w16}
-use mir.ValLaws.{to_z-of_z}
 use borrow.Author.Rules.{rules}
-use mathlib.Core.Path.{◌∙◌, ap}
+use mathlib.Core.Path.{◌≡◌, ◌∙◌, ap}
+use Prim.Native.Nat.{◌+◌, ◌*◌}
+use Rattle.fold.specs.Part.{part}
 use native.Mathlib.Omega.{arith}
 use Rattle.fold.proofs.Loops.{upto-call, upto-end}
 use Rattle.fold.specs.Fold.{upto}
@@ -15,8 +14,11 @@ unfolding upto
 loop-j-init c = search rules
 
 pub loop-j-preserved : goal.loop-j-preserved
-loop-j-preserved c = (search rules, search rules, upto-call _ _ _ c.loop-j.invariant.2 (rw (c.cosb_of.ensures, to_z-of_z w16 _ (sfits_of c.low-1.given), to_z-of_z w16 _ (sfits_of c.high-1.given))))
+loop-j-preserved c = (search rules, upto-call _ _ _ c.loop-j.invariant.1 (search rules))
 
 pub returns : goal.returns
 unfolding cosbs_of
-returns c = c.idct8x8.ensures ∙ ap idct8x8 (rw (← c.copy.ensures) (upto-end _ _ _ _ c.loop-j.invariant.2 (omega arith)))
+returns c =
+    let i = c.args.i in
+    let e : c.copy_from_slice.new.self ≡ part c.args.cos.now (i * 64) (i * 64 + 64) = search rules in
+    c.idct8x8.ensures ∙ ap idct8x8 (rw (← e) (upto-end _ _ _ _ c.loop-j.invariant.1 (omega arith)))

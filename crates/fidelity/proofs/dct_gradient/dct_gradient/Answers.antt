@@ -15,15 +15,15 @@ unfolding upto
 loop-bx-init c = search rules
 
 pub cosbs_of-cosbs-requires : goal.cosbs_of-cosbs-requires
-cosbs_of-cosbs-requires c = let a = c.args in omega (arith, own_fits a.o a.w a.h c.requires.0)
+cosbs_of-cosbs-requires c = let s = c.args.coef.now in omega (arith, own_fits s.own s.w s.h s.covers)
 
 pub loop-bx-preserved : goal.loop-bx-preserved
 unfolding gradient_block
-loop-bx-preserved c = (search rules, search rules, upto-call _ _ _ c.loop-bx.invariant.2 (rw (← c.block_index-i.ensures.0, ← c.cosbs_of-cosbs.ensures) c.spread_block.ensures))
+loop-bx-preserved c = (search rules, upto-call _ _ _ c.loop-bx.invariant.1 (rw (← c.block_index-i.ensures.0, ← c.cosbs_of-cosbs.ensures) c.spread_block.ensures))
 
 pub loop-by-preserved : goal.loop-by-preserved
-loop-by-preserved c = (search rules, search rules, upto-call _ _ _ c.loop-by.invariant.2 (upto-end _ _ _ _ c.loop-bx.invariant.2 (omega arith)))
+loop-by-preserved c = (search rules, upto-call _ _ _ c.loop-by.invariant.1 (upto-end _ _ _ _ c.loop-bx.invariant.1 (omega arith)))
 
 pub returns : goal.returns
 unfolding dct_gradient
-returns c = upto-end _ _ _ _ c.loop-by.invariant.2 (omega arith)
+returns c = upto-end _ _ _ _ c.loop-by.invariant.1 (omega arith)

@@ -14,11 +14,11 @@ unfolding upto
 loop-x-init c = search rules
 
 pub loop-x-preserved : goal.loop-x-preserved
-loop-x-preserved c = (search rules, search rules, upto-call _ _ _ c.loop-x.invariant.2 c.spread.ensures)
+loop-x-preserved c = (search rules, upto-call _ _ _ c.loop-x.invariant.1 c.spread.ensures)
 
 pub loop-y-preserved : goal.loop-y-preserved
-loop-y-preserved c = (search rules, search rules, upto-call _ _ _ c.loop-y.invariant.2 (upto-end _ _ _ _ c.loop-x.invariant.2 (omega arith)))
+loop-y-preserved c = (search rules, upto-call _ _ _ c.loop-y.invariant.1 (upto-end _ _ _ _ c.loop-x.invariant.1 (omega arith)))
 
 pub returns : goal.returns
 unfolding spread_block
-returns c = upto-end _ _ _ _ c.loop-y.invariant.2 (omega arith)
+returns c = upto-end _ _ _ _ c.loop-y.invariant.1 (omega arith)

@@ -1,5 +1,5 @@
 -- `float::add::add_round` meets its contract: a zero leaves the other number, and else each is brought to its leading one, which changes no value. Assumes nothing.
-use Rattle.std.proofs.Common.{◌≡◌, ℕ, ◌-◌, ◌*◌, ◌%◌, ◌^◌, ◌<◌, ◌≤◌, Bool, sym, refl, ap, ◌∙◌, ap₂, inl, mul-pos, zero-mul, arith, pow_pos}
+use Rattle.std.proofs.Common.{◌≡◌, ℕ, ◌-◌, ◌*◌, ◌%◌, ◌^◌, ◌<◌, ◌≤◌, Bool, sym, refl, ap, ◌∙◌, ap₂, mul-pos, zero-mul, arith, pow_pos}
 use lib.Count.{count_leading_zeros}
 use lib.Ieee.{binary32, sum}
 use Rattle.float.proofs.Normal.{zeros, Aligned, aligned}
@@ -25,9 +25,6 @@ sixteen p n h = let l : 0 < p = omega arith in zeros p 16 47 refl l h
 
 both : (s t : Bool) {a a' b b' : ℕ} → a ≡ a' → b ≡ b' → sum binary32 s a t b (2 ^ 426) ≡ sum binary32 s a' t b' (2 ^ 426)
 both s t e f = ap₂ (λ (x y : ℕ). sum binary32 s x t y (2 ^ 426)) e f
-
-pub pack-requires : goal.pack-requires
-pack-requires c = (omega arith, inl refl, omega arith)
 
 pub returns-then-s-t : goal.returns-then-s-t
 returns-then-s-t c =
@@ -74,24 +71,6 @@ overflow_sub-i c = omega (arith, sixteen c.before.before.args.p c.before.if-p-eq
 
 pub overflow_sub-j : goal.overflow_sub-j
 overflow_sub-j c = omega (arith, sixteen c.before.before.args.q c.if-q-eq0-2.false c.before.before.requires.1)
-
-pub overflow_cast-m : goal.overflow_cast-m
-overflow_cast-m c = record { fits = omega (arith, (shift_p c).most) }
-
-pub overflow_shl-m : goal.overflow_shl-m
-overflow_shl-m c = omega (arith, (shift_p c).most)
-
-pub overflow_cast-n : goal.overflow_cast-n
-overflow_cast-n c = record { fits = omega (arith, (shift_q c).most) }
-
-pub overflow_shl-n : goal.overflow_shl-n
-overflow_shl-n c = omega (arith, (shift_q c).most)
-
-pub overflow_sub-a : goal.overflow_sub-a
-overflow_sub-a c = omega (arith, (shift_p c).most)
-
-pub overflow_sub-b : goal.overflow_sub-b
-overflow_sub-b c = omega (arith, (shift_q c).most)
 
 pub add_ordered-requires : goal.add_ordered-requires
 add_ordered-requires c =

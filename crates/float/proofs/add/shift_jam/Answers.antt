@@ -1,9 +1,8 @@
 -- `float::add::shift_jam` meets its contract. Assumes nothing.
-use Rattle.std.proofs.Common.{◌≡◌, ℕ, ◌+◌, ◌*◌, ◌/◌, ◌%◌, ◌^◌, ◌<◌, Bool, cond, sym, ap, ◌∙◌, lt_of_lt_of_le, mod-eq_of_lt, arith, pow_pos, pow_mono, eq-eqb, ne_eqb}
+use Rattle.std.proofs.Common.{◌≡◌, ℕ, ◌+◌, ◌*◌, ◌/◌, ◌%◌, ◌^◌, ◌<◌, Bool, cond, sym, ap, ◌∙◌, lt_of_lt_of_le, mod-eq_of_lt, arith, pow_mono, eq-eqb, ne_eqb}
 use native.Mathlib.Nat.{div-eq_of_lt}
-use lib.Pow.{shr_le}
 use Rattle.float.specs.Jam.{jam}
-use Rattle.float.proofs.Closest.{shifted_one, low_digits}
+use Rattle.float.proofs.Closest.{low_digits}
 use Rattle.float.proofs.add.shift_jam.Goals as goal
 
 jam_whole : (q d : ℕ) → q % 2 ^ d ≡ 0 → jam q d ≡ q / 2 ^ d
@@ -23,19 +22,10 @@ jam_far q d p h l =
 pub returns-then-d-gt63 : goal.returns-then-d-gt63
 returns-then-d-gt63 c = jam_far c.before.args.q c.before.args.d c.before.requires c.before.ranges.q.fits (omega arith)
 
-pub overflow_sub-rest : goal.overflow_sub-rest
-overflow_sub-rest c = omega (arith, shifted_one c.before.args.d (omega arith), pow_pos c.before.args.d)
-
 pub returns-then-rest-eq0 : goal.returns-then-rest-eq0
 returns-then-rest-eq0 c =
     let a = c.before.before.args in
     sym (jam_whole a.q a.d (omega (arith, low_digits a.q a.d (omega arith))))
-
-pub overflow_mul-result : goal.overflow_mul-result
-overflow_mul-result c = record { fits = omega (arith, shr_le c.before.before.args.q c.before.before.args.d) }
-
-pub overflow_add-result : goal.overflow_add-result
-overflow_add-result c = record { fits = omega (arith, shr_le c.before.before.args.q c.before.before.args.d) }
 
 pub returns : goal.returns
 returns c =

@@ -1,11 +1,8 @@
--- `float::bits::to_bits` meets its contract. Assumes nothing.
+use Rattle.std.proofs.Common.{ap, sym}
 use lib.Ieee.{binary32, to_bits}
-use Rattle.float.proofs.Fields.{same_no_nan, nan_pattern}
+use Rattle.float.proofs.Fields.{nan_is}
 use Rattle.float.proofs.bits.to_bits.Goals as goal
 
-pub returns-then-x : goal.returns-then-x
+pub returns-then-is_nan : goal.returns-then-is_nan
 unfolding to_bits
-returns-then-x c = nan_pattern binary32 c.before.args.x c.if-x.true
-
-pub float_to_bits-result : goal.float_to_bits-result
-float_to_bits-result c = same_no_nan c.before.args.x c.if-x.false
+returns-then-is_nan c = ap (to_bits binary32) (nan_is c.args.x (sym c.if-is_nan.ensures.value))

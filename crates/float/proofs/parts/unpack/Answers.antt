@@ -14,10 +14,9 @@ pub float_to_bits-b : goal.float_to_bits-b
 float_to_bits-b c = finite_no_nan c.args.x c.requires
 
 pub returns-then-e-eq0 : goal.returns-then-e-eq0
-returns-then-e-eq0 c = (omega arith, omega arith, value_low c.before.args.x (held c.before) c.if-e-eq0.true)
+returns-then-e-eq0 c = (omega arith, omega arith, value_low c.args.x (held c.before) c.if-e-eq0.true)
 
 pub returns : goal.returns
 returns c =
-    let s = c.before in
-    let x = s.args.x in
-    (omega arith, exponent_le x (held s) s.requires, value_high x (held s) s.requires c.if-e-eq0.false)
+    let h = held c.before in
+    (omega arith, exponent_le c.args.x h c.requires, value_high c.args.x h c.requires c.if-e-eq0.false)

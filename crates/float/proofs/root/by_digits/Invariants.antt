@@ -4,6 +4,3 @@ use Rattle.float.proofs.root.by_digits.Given as goal
 
 abbrev pub invariant-loop-j : goal.invariant-loop-j
 invariant-loop-j l = (l.r * l.r ≤ l.n) × (l.n < (l.r + 2 ^ l.j) * (l.r + 2 ^ l.j)) × (l.r + 2 ^ l.j ≤ 4294967296) × (l.j ≤ 32)
-
-abbrev pub decreases-loop-j : goal.decreases-loop-j
-decreases-loop-j l = l.j

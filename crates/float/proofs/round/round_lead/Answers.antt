@@ -1,11 +1,8 @@
 -- `float::round::round_lead` meets its contract: each answer is one of the cases of `proofs/Lead.antt`. Assumes nothing.
-use Rattle.std.proofs.Common.{ℕ, ◌-◌, ◌≤◌, sym, refl, ap, ◌∙◌, subst, inl, inr, arith}
+use Rattle.std.proofs.Common.{ℕ, ◌-◌, ◌≤◌, sym, refl, ap, ◌∙◌, subst, inl, arith}
 use lib.Ieee.{binary32, units}
-use Rattle.float.proofs.Lead.{low_range, normal_range, under_half, most, least, overflows}
+use Rattle.float.proofs.Lead.{low_range, normal_range, under_half, most, overflows}
 use Rattle.float.proofs.round.round_lead.Goals as goal
-
-pub pack-requires : goal.pack-requires
-pack-requires c = (omega arith, inl refl, omega arith)
 
 pub returns-then-x-lt214 : goal.returns-then-x-lt214
 returns-then-x-lt214 c =
@@ -28,23 +25,11 @@ returns-then-x-lt238 c =
     ∙ ap (λ (z : ℕ). units binary32 a.neg z 0) c.before.nearest_at.ensures
     ∙ sym (low_range a.neg a.m a.x p.0 p.1 (omega arith))
 
-pub pack-requires-then-x-gt491 : goal.pack-requires-then-x-gt491
-pack-requires-then-x-gt491 c = (omega arith, inr (omega arith), omega arith)
-
 pub returns-then-x-gt491 : goal.returns-then-x-gt491
 returns-then-x-gt491 c =
     let a = c.before.before.before.before.args in
     let p = c.before.before.before.before.requires in
     c.pack-then-x-gt491.ensures ∙ sym (overflows a.neg a.m a.x p.0 p.1 (omega arith))
-
-pub pack-requires-2 : goal.pack-requires-2
-pack-requires-2 c =
-    let a = c.before.before.before.before.args in
-    let p = c.before.before.before.before.requires in (
-      subst (λ (z : ℕ). z ≤ 16777216) (sym c.nearest_at-2.ensures) (most a.neg a.m a.x p.0 p.1 39 (omega arith)),
-      inr (subst (λ (z : ℕ). 8388608 ≤ z) (sym c.nearest_at-2.ensures) (least a.neg a.m a.x p.0 p.1)),
-      omega arith,
-    )
 
 pub returns : goal.returns
 returns c =

@@ -14,15 +14,6 @@ at_lead c = normal c.args.m 1 62 refl c.requires.0 c.requires.1
 pub overflow_sub-i : goal.overflow_sub-i
 overflow_sub-i c = zeros c.args.m 1 62 refl c.requires.0 c.requires.1
 
-pub overflow_cast-i : goal.overflow_cast-i
-overflow_cast-i c = record { fits = omega (arith, (at_lead c).most) }
-
-pub overflow_shl-m : goal.overflow_shl-m
-overflow_shl-m c = omega (arith, (at_lead c).most)
-
-pub overflow_sub-x : goal.overflow_sub-x
-overflow_sub-x c = omega (arith, (at_lead c).most)
-
 pub round_lead-requires : goal.round_lead-requires
 round_lead-requires c =
     let n = at_lead c in

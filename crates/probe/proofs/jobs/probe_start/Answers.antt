@@ -2,4 +2,6 @@
 use Rattle.probe.proofs.jobs.probe_start.Goals as goal
 
 pub returns : goal.returns
-returns c = rw c.reorder_from-r.ensures at c.start.ensures
+returns c =
+    let k = c.coef_of-coef.ensures in
+    rw (c.reorder_from-r.ensures, k.0, k.1, k.2) at c.start.ensures

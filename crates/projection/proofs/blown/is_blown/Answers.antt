@@ -1,8 +1,10 @@
-use native.Mathlib.Nat.{sub-zero}
-use Rattle.std.proofs.Common.{◌∙◌}
 use Rattle.projection.specs.Blown.{is_blown}
 use Rattle.projection.proofs.blown.is_blown.Goals as goal
 
-pub returns : goal.returns
+pub returns-then-any_bad : goal.returns-then-any_bad
 unfolding is_blown
-returns c = c.either.ensures ∙ rw (c.any_bad-in_plane.ensures, c.any_bad-in_saved.ensures, sub-zero)
+returns-then-any_bad c = rw (← c.any_bad.ensures, c.if-any_bad.true)
+
+pub returns-else-any_bad : goal.returns-else-any_bad
+unfolding is_blown
+returns-else-any_bad c = rw (← c.any_bad.ensures, c.if-any_bad.false, c.any_bad-else-any_bad.ensures)

@@ -13,11 +13,11 @@ unfolding upto
 loop-cx-init c = search rules
 
 pub loop-cx-preserved : goal.loop-cx-preserved
-loop-cx-preserved c = (search rules, search rules, upto-call _ _ _ c.loop-cx.invariant.2 (rw c.own_px-k.ensures.0 at c.add_to.ensures))
+loop-cx-preserved c = (search rules, upto-call _ _ _ c.loop-cx.invariant.1 (rw c.own_px-k.ensures.0 at c.add_to.ensures))
 
 pub loop-cy-preserved : goal.loop-cy-preserved
-loop-cy-preserved c = (search rules, search rules, upto-call _ _ _ c.loop-cy.invariant.2 (upto-end _ _ _ _ c.loop-cx.invariant.2 (omega arith)))
+loop-cy-preserved c = (search rules, upto-call _ _ _ c.loop-cy.invariant.1 (upto-end _ _ _ _ c.loop-cx.invariant.1 (omega arith)))
 
 pub returns : goal.returns
 unfolding back
-returns c = upto-end _ _ _ _ c.loop-cy.invariant.2 (omega arith)
+returns c = upto-end _ _ _ _ c.loop-cy.invariant.1 (omega arith)

@@ -1,7 +1,7 @@
 use Rattle.std.proofs.Common.{◌∙◌, arith, rules}
 use Rattle.fold.proofs.Loops.{upto-call, upto-end}
 use Rattle.fold.specs.Fold.{upto}
-use Rattle.start.specs.Coef.{coef, pairs}
+use Rattle.start.specs.AsCoef.{as_coef}
 use Rattle.projection.specs.Projection.{clamped}
 use Rattle.projection.proofs.Writes.{clipped_ahead, clipped_blocks}
 use Rattle.projection.proofs.projection.clamped.Goals as goal
@@ -14,18 +14,16 @@ pub loop-i-preserved : goal.loop-i-preserved
 loop-i-preserved c =
     let v = c.loop-i.invariant in
     let k = c.clamp_block-moved.ensures in
-    let a = c.args in (
-      search rules,
+    let C = as_coef c.args.coef.now in (
       search rules,
       omega arith,
-      upto-call _ _ _ v.3 k.0,
-      upto-call _ _ _ v.4 (k.1 ∙ rw v.3 (clipped_ahead (pairs a.lows.now a.highs.now) a.table.now _ c.loop-i.i c.loop-i.moved)),
+      upto-call _ _ _ v.2 k.0,
+      upto-call _ _ _ v.3 (k.1 ∙ rw v.2 (clipped_ahead C.levels C.table _ c.loop-i.i c.loop-i.moved)),
     )
 
 pub returns : goal.returns
 unfolding clamped
 returns c =
     let v = c.loop-i.invariant in
-    let a = c.args in
     rw (← c.block_count-n.ensures.0, ← c.dct_blocks.ensures)
-    (upto-end _ _ _ _ v.3 (omega arith), upto-end _ _ _ _ v.4 (omega arith ∙ c.block_count-n.ensures.0) ∙ clipped_blocks (coef a.o (pairs a.lows.now a.highs.now) a.table.now) c.requires.0 _)
+    (upto-end _ _ _ _ v.2 (omega arith), upto-end _ _ _ _ v.3 (omega arith ∙ c.block_count-n.ensures.0) ∙ clipped_blocks (as_coef c.args.coef.now) c.args.coef.now.covers.eights _)

@@ -1,16 +1,10 @@
-use Rattle.std.proofs.Common.{arith, rules}
-use Rattle.fold.proofs.Loops.{upto-end, upto_step}
-use Rattle.fold.specs.Fold.{upto}
-use Rattle.projection.specs.Projection.{keep}
+use Rattle.std.proofs.Common.{◌≡◌, ap, ◌∙◌, List, take, drop, ◌++◌, rules}
+use lib.Ieee.{Float}
+use Rattle.projection.proofs.Writes.{kept}
 use Rattle.projection.proofs.projection.keep.Goals as goal
 
-pub loop-k-init : goal.loop-k-init
-unfolding upto
-loop-k-init c = search rules
-
-pub loop-k-preserved : goal.loop-k-preserved
-loop-k-preserved c = (search rules, search rules, upto_step _ _ _ c.loop-k.invariant.2)
-
 pub returns : goal.returns
-unfolding keep
-returns c = upto-end _ _ _ _ c.loop-k.invariant.2 (omega arith)
+returns c =
+    let a = c.args in
+    let e : c.copy_from_slice.new.self ≡ take a.n a.x.now = search rules in
+    ap (λ (t : List Float). t ++ drop a.n a.saved.now) e ∙ kept a.n a.x.now a.saved.now c.requires.1 c.requires.0

@@ -22,4 +22,4 @@ loop-sy-preserved c = (search rules, upto-call _ _ _ c.loop-sy.invariant.1 (upto
 
 pub returns : goal.returns
 unfolding mean_of
-returns c = rw c.places.ensures (ap (λ (t : Float). t ⊘ float (c.args.o.horizontal * c.args.o.vertical)) (upto-end _ _ _ _ c.loop-sy.invariant.1 (omega arith)))
+returns c = rw c.places.ensures (ap (λ (t : Float). t ⊘ float (c.args.coef.now.own.horizontal * c.args.coef.now.own.vertical)) (upto-end _ _ _ _ c.loop-sy.invariant.1 (omega arith)))

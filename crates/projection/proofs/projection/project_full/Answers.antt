@@ -4,10 +4,10 @@ use Rattle.projection.specs.Projection.{project_full}
 use Rattle.projection.proofs.projection.project_full.Goals as goal
 
 pub to_blocks-requires : goal.to_blocks-requires
-to_blocks-requires c = let a = c.args in let p = c.requires in omega (arith, own_fits a.o a.w a.h p.0, p.0.eights, p.1, p.2, p.3)
+to_blocks-requires c = let s = c.args.coef.now in omega (arith, own_fits s.own s.w s.h s.covers, s.covers.eights, c.requires)
 
 pub from_blocks-requires : goal.from_blocks-requires
-from_blocks-requires c = let a = c.args in let p = c.requires in omega (arith, own_fits a.o a.w a.h p.0, p.0.eights, p.1, p.2, p.3)
+from_blocks-requires c = let s = c.args.coef.now in omega (arith, own_fits s.own s.w s.h s.covers, s.covers.eights, c.requires)
 
 pub returns : goal.returns
 unfolding project_full

@@ -1,20 +1,19 @@
-use Rattle.std.proofs.Common.{arith}
-use Rattle.start.proofs.Cover.{own_fits}
-use Rattle.projection.specs.Projection.{project_means}
+use Rattle.std.proofs.Common.{[], arith}
+use Rattle.projection.specs.Projection.{Box, back, project_full, project_means}
 use Rattle.projection.proofs.projection.project_means.Goals as goal
 
-pub to_blocks-requires : goal.to_blocks-requires
-to_blocks-requires c = let a = c.args in let p = c.requires in omega (arith, own_fits a.o a.w a.h p.0, p.0.eights, p.1, p.2, p.3, p.4)
-
-pub from_blocks-requires : goal.from_blocks-requires
-from_blocks-requires c = let a = c.args in let p = c.requires in omega (arith, own_fits a.o a.w a.h p.0, p.0.eights, p.1, p.2, p.3, p.4)
+pub project_full-moved-requires : goal.project_full-moved-requires
+project_full-moved-requires c = let p = c.requires in (omega (arith, p.2), p.1, p.3)
 
 pub back-requires : goal.back-requires
-back-requires c = let p = c.requires in (p.0, omega (arith, p.2), omega (arith, p.4))
+back-requires c = let p = c.requires in (omega (arith, p.0), omega (arith, p.2))
 
 pub returns : goal.returns
-unfolding project_means
-returns c = (
-  rw (← c.split.ensures, ← c.to_blocks.ensures, ← c.onto_box-moved.ensures.0, ← c.from_blocks.ensures, ← c.back.ensures),
-  rw (← c.split.ensures, ← c.to_blocks.ensures) c.onto_box-moved.ensures.1,
-)
+unfolding project_full project_means
+returns c =
+    let s = c.args.coef.now in
+    let f = c.project_full-moved.ensures in (
+      rw (← c.split.ensures, c.back.ensures)
+          (λ i. let b : Box = f.0 [] i in record { plane = back s.own s.w b.plane c.split.new.plane; across = b.across; down = b.plane; saved = b.saved }),
+      rw (← c.split.ensures) f.1,
+    )

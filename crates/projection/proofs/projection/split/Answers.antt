@@ -13,11 +13,11 @@ unfolding upto
 loop-cx-init c = search rules
 
 pub loop-cx-preserved : goal.loop-cx-preserved
-loop-cx-preserved c = (search rules, search rules, search rules, upto-call _ _ _ c.loop-cx.invariant.3 c.split_at.ensures)
+loop-cx-preserved c = (search rules, upto-call _ _ _ c.loop-cx.invariant.1 c.split_at.ensures)
 
 pub loop-cy-preserved : goal.loop-cy-preserved
-loop-cy-preserved c = (search rules, search rules, search rules, upto-call _ _ _ c.loop-cy.invariant.3 (upto-end _ _ _ _ c.loop-cx.invariant.3 (omega arith)))
+loop-cy-preserved c = (search rules, upto-call _ _ _ c.loop-cy.invariant.1 (upto-end _ _ _ _ c.loop-cx.invariant.1 (omega arith)))
 
 pub returns : goal.returns
 unfolding split
-returns c = upto-end _ _ _ _ c.loop-cy.invariant.3 (omega arith)
+returns c = upto-end _ _ _ _ c.loop-cy.invariant.1 (omega arith)

@@ -1,31 +1,29 @@
-use mathlib.Core.Path.{◌≡◌, refl, sym, ◌∙◌}
-use Prim.Native.Nat.{ℕ, ◌≤◌, ◌<◌}
+-- `channels_ok`: the test of every channel listed is that of every number below the count.
+use mathlib.Core.Path.{◌≡◌, sym, ◌∙◌}
+use mathlib.Core.Bool.{Bool, ◌&&◌}
+use Prim.Native.Nat.{ℕ, ◌≤◌}
 use native.Mathlib.Omega.{arith}
-use lib.ListN.{length}
-use Rattle.calls.specs.Run.{every}
-use Rattle.record.specs.Model.{sheet_of, places_of, channel_ok}
-use Rattle.record.proofs.Channels.{length_parts, every_more, at_own, at_place, at_position, ends}
-use borrow.Author.Rules.{rules}
+use lib.Dec.{eqb}
+use lib.ListN.{length, get_or, take}
+use Rattle.std.proofs.Common.{rules}
+use Rattle.std.proofs.lemmas.Iterator.{YieldsList-from_slice}
+use Rattle.std.proofs.lemmas.Iterator.Search.{all_from_yields_List}
+use Rattle.calls.specs.Run.{own_ok, place_ok, blends_in}
+use Rattle.record.specs.declared.Channel.{Channel}
+use Rattle.record.specs.Model.{own_of, place_of, sheet_of, no_channel}
+use Rattle.record.proofs.Channels.{length_parts, at_own, at_place, at_position}
+use Rattle.record.proofs.Firsts.{all_first, every_same}
 use Rattle.record.proofs.legal.channels_ok.Goals as goal
-
-pub loop-c-init : goal.loop-c-init
-loop-c-init c = (omega arith, refl)
-
-pub loop-c-preserved : goal.loop-c-preserved
-loop-c-preserved c =
-    let r = c.args.run in
-    let l = c.loop-c in
-    let i : ℕ = l.c in
-    let three : length r.channels ≡ 3 = search (rules, length_parts) in
-    let below : i < r.count = search rules in
-    let long : r.count ≤ length r.channels = omega arith in (
-      search rules,
-      c.both-ok.ensures
-          ∙ rw (l.invariant.1, c.channel_ok.ensures, c.blends-first.ensures, ← at_own r i long below, ← at_place r i long below, ← at_position r i long below, ← at_position r 0 long (omega arith))
-          (sym (every_more i (channel_ok (sheet_of r) (places_of r)))),
-    )
 
 pub returns : goal.returns
 returns c =
     let r = c.args.run in
-    ends (λ n. every n (channel_ok (sheet_of r) (places_of r))) c.loop-c.c r.count c.loop-c.invariant.1 (omega arith)
+    let S = sheet_of r in
+    let three : length r.channels ≡ 3 = search (rules, length_parts) in
+    let long : r.count ≤ length r.channels = omega (arith, c.requires) in
+    let first : ℕ = blends_in (get_or r.channels 0 no_channel).position in
+    let test : Channel → Bool = λ x. own_ok S (own_of x) && place_ok S (own_of x) (place_of x) && eqb (blends_in x.position) first in
+    all_from_yields_List test _ _ _ c.all.ensures.ran (YieldsList-from_slice (take r.count r.channels) cc) (λ x b q k. search rules)
+    ∙ all_first test no_channel r.channels r.count long
+    ∙ every_same r.count
+    (λ i l k. own_ok S (sym (at_own r i long l) k) && place_ok S (sym (at_own r i long l) k) (sym (at_place r i long l) k) && eqb (blends_in (sym (at_position r i long l) k)) (blends_in (sym (at_position r 0 long (omega arith)) k)))

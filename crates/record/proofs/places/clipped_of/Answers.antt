@@ -15,7 +15,7 @@ returns-then-c-run c =
     let three : length r.channels ≡ 3 = search (rules, length_parts) in
     sym (ap (λ (p : Place). p.clipped) (place_in r.count r.channels i c.if-c-run.true (omega (arith, c.requires))))
 
-pub returns : goal.returns
-returns c =
+pub returns-else-c-run : goal.returns-else-c-run
+returns-else-c-run c =
     let r = c.args.run in
     sym (ap (λ (p : Place). p.clipped) (place_past r.count r.channels c.args.c c.if-c-run.false))

@@ -8,14 +8,14 @@ use Rattle.record.proofs.Held.{flags_are}
 use borrow.Author.Rules.{rules}
 use Rattle.record.proofs.places.held_flags.Goals as goal
 
-pub span_of-s-requires : goal.span_of-s-requires
-span_of-s-requires c = (search rules, count_1 c.args.run c.requires)
+pub span_of-step-requires : goal.span_of-step-requires
+span_of-step-requires c = (search rules, count_1 c.args.run c.requires)
 
 pub returns : goal.returns
 returns c =
     let s = c in
     let r = s.args.run in
-    let span = c.span_of-s in
+    let span = c.span_of-step in
     λ n.
-    flags_are r (count_3 r s.requires) span.result.step _ _ _ c.held_in-first.ensures c.held_in-second.ensures c.held_in-third.ensures n
+    flags_are r (count_3 r s.requires) span.result.step _ _ _ c.held_in.ensures c.held_in-2.ensures c.held_in-3.ensures n
     ∙ ap (λ (k : ℕ). held (sheet_of r) n k) span.ensures.2

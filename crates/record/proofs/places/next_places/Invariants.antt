@@ -1,19 +1,17 @@
 -- `next_places`: the channels passed are at their new places.
 use mathlib.Core.Path.{◌≡◌}
-use Prim.Native.Nat.{◌-◌, ◌≤◌}
-use mathlib.Core.Bool.{Bool, cond}
 use mathlib.Core.List.{map}
+use Prim.Native.Nat.{◌-◌, ◌≤◌}
 use lib.ListN.{take}
-use Rattle.calls.specs.Run.{Place, fresh}
-use Rattle.calls.specs.Calls.{onward}
-use Rattle.record.specs.Model.{places_of, placed}
+use Rattle.calls.specs.Run.{Place}
+use Rattle.record.specs.declared.Channel.{Channel}
+use Rattle.record.specs.Model.{place_of, places_of, placed, with_place}
 use Rattle.record.proofs.places.next_places.Given as goal
 
-abbrev pub new : Bool → Place → Place
-new anew p = cond anew fresh (onward p)
-
 abbrev pub invariant-loop-c : goal.invariant-loop-c
-invariant-loop-c l = (l.c ≤ l.c-end) × (l.next ≡ placed l.run (take l.c (map (new l.anew) (places_of l.run))))
+invariant-loop-c g l =
+    (l.c ≤ l.c-end)
+    × ((f : Place → Place) → ((x y : Channel) → goal.F-post g l.next_place x y → y ≡ with_place x (f (place_of x))) → l.next ≡ placed l.run (take l.c (map f (places_of l.run))))
 
 abbrev pub decreases-loop-c : goal.decreases-loop-c
-decreases-loop-c l = l.c-end - l.c
+decreases-loop-c g l = l.c-end - l.c

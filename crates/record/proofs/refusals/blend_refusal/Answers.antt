@@ -1,24 +1,23 @@
 -- `blend_refusal`: by what is lent, and then by turn.
-use mathlib.Core.Path.{sym, ◌∙◌}
-use mathlib.Core.Bool.{false}
-use mathlib.Core.List.{[]}
-use Rattle.start.specs.Coef.{pairs}
+use mathlib.Core.Path.{◌≡◌, sym, ◌∙◌}
+use native.Mathlib.Omega.{arith}
+use Rattle.std.proofs.Common.{rules}
+use Rattle.refusal.specs.Refusal.{number_of, answer_number}
+use Rattle.refusal.proofs.Laws.{number_of-positive}
 use Rattle.calls.specs.Jobs.{blend}
-use Rattle.calls.proofs.Tests.{by_lent, by-turn, lent_of}
-use Rattle.record.specs.Model.{given_of, places_of}
+use Rattle.calls.proofs.Tests.{by_lent, by-turn}
+use Rattle.record.specs.Model.{places_of, given_of}
 use Rattle.record.proofs.refusals.blend_refusal.Goals as goal
 
-pub returns-then-r-ne0 : goal.returns-then-r-ne0
-returns-then-r-ne0 c =
+pub returns-in_err-lend_refusal-clause-number : goal.returns-in_err-lend_refusal-clause-number
+returns-in_err-lend_refusal-clause-number c =
+    let e = c.in_err-lend_refusal.field-0.0 in
+    let same : answer_number c.from_residual.result ≡ number_of e = search rules in
     λ ls ts.
-    by_lent (given_of c.args.run ls ts) (places_of c.args.run) blend c.args.lengths.now (c.lend_refusal-r.ensures ls ts) c.if-r-ne0.true
+    same ∙ by_lent (given_of c.args.run ls ts) (places_of c.args.run) blend c.args.lengths.now (c.in_err-lend_refusal.ensures.number ls ts) (λ z. absurd (omega (arith, z, number_of-positive e)))
 
-pub blend_turn_refusal-requires : goal.blend_turn_refusal-requires
-blend_turn_refusal-requires c =
-    (lent_of (given_of c.args.run (pairs [] []) []) (places_of c.args.run) c.args.lengths.now false (sym (c.lend_refusal-r.ensures (pairs [] []) []) ∙ c.if-r-ne0.false)).is-legal
-
-pub returns : goal.returns
-returns c =
+pub returns-clause-number : goal.returns-clause-number
+returns-clause-number c =
     λ ls ts.
     by-turn (given_of c.args.run ls ts) (places_of c.args.run) blend c.args.lengths.now
-    (sym (c.lend_refusal-r.ensures ls ts) ∙ c.if-r-ne0.false) c.blend_turn_refusal.ensures
+    (sym (c.in_ok-lend_refusal.ensures.number ls ts)) c.blend_turn_refusal.ensures

@@ -1,62 +1,58 @@
-use mathlib.Core.Path.{◌≡◌, refl, sym, ap, ◌∙◌}
-use mathlib.Core.List.{[], ◌∷◌}
-use mathlib.Core.Bool.{Bool, not}
-use Prim.Native.Nat.{ℕ, ◌*◌, ◌%◌, ◌≤◌, ◌<◌}
+-- `blend_turn_refusal`: the three tests of every channel.
+use mathlib.Core.Path.{◌≡◌, sym, ◌∙◌}
+use Prim.Native.Nat.{◌*◌, ◌%◌}
 use native.Mathlib.Omega.{arith}
 use lib.Dec.{eqb}
-use lib.ListN.{length}
-use Rattle.calls.specs.Run.{place, every, among}
-use Rattle.calls.specs.Calls.{first, test}
-use Rattle.record.specs.Model.{places_of}
-use Rattle.record.specs.declared.Run.{Run}
-use Rattle.record.proofs.Channels.{length_parts, every_more, among_more, at_position, at_mark, ends}
+use lib.ListN.{length, take}
+use Rattle.std.proofs.Common.{rules}
+use Rattle.std.proofs.lemmas.Iterator.{YieldsList-from_slice}
+use Rattle.std.proofs.lemmas.Iterator.Search.{all_from_yields_List, any_from_yields_List}
+use Rattle.record.proofs.Channels.{length_parts}
 use Rattle.record.proofs.Sizes.{count_3, n_1000}
-use Rattle.record.proofs.Turns.{first_three}
-use borrow.Author.Rules.{rules}
+use Rattle.record.proofs.Turns.{marks, ends, dues}
 use Rattle.record.proofs.refusals.blend_turn_refusal.Goals as goal
 
-abbrev marked_at : Run → ℕ → Bool
-marked_at r i = (place (places_of r) i).mark
+pub channels-requires : goal.channels-requires
+channels-requires c = count_3 c.args.run c.requires
 
-abbrev ended_at : Run → ℕ → Bool
-ended_at r i = eqb (place (places_of r) i).position (5 * r.n)
+pub channels-requires-2 : goal.channels-requires-2
+channels-requires-2 c = count_3 c.args.run c.requires
 
-abbrev due_at : Run → ℕ → Bool
-due_at r i = eqb ((place (places_of r) i).position % 5) 2
+pub channels-requires-3 : goal.channels-requires-3
+channels-requires-3 c = count_3 c.args.run c.requires
 
 pub overflow_mul-end : goal.overflow_mul-end
 overflow_mul-end c = record { fits = omega (arith, n_1000 c.args.run c.requires) }
 
-pub loop-c-init : goal.loop-c-init
-loop-c-init c = (omega arith, refl, refl, refl)
-
-pub offset_bounds-run-c : goal.offset_bounds-run-c
-offset_bounds-run-c c = omega (arith, count_3 c.args.run c.requires)
-
-pub bounds-run-c : goal.bounds-run-c
-bounds-run-c c = omega (arith, count_3 c.args.run c.requires)
-
-pub loop-c-preserved : goal.loop-c-preserved
-loop-c-preserved c =
+pub returns-then-any : goal.returns-then-any
+returns-then-any c =
     let r = c.args.run in
-    let i : ℕ = c.loop-c.c in
     let three : length r.channels ≡ 3 = search (rules, length_parts) in
-    let below : i < r.count = search rules in
-    let long : r.count ≤ length r.channels = omega (arith, count_3 r c.requires) in (
-      search rules,
-      c.either-marked.ensures ∙ rw (c.loop-c.invariant.1, ← at_mark r i long below) (sym (among_more i (marked_at r))),
-      c.either-ended.ensures ∙ rw (c.loop-c.invariant.2, ← at_position r i long below) (sym (among_more i (ended_at r))),
-      c.both-due.ensures ∙ rw (c.loop-c.invariant.3, ← at_position r i long below) (sym (every_more i (due_at r))),
-    )
+    let any = any_from_yields_List (λ x. x.mark) _ _ _ c.any.ensures.ran (YieldsList-from_slice (take r.count r.channels) cc) (λ x b q k. search rules) in
+    rw (sym (marks r c.requires three) ∙ sym any ∙ c.if-any.true)
+
+pub returns-then-any-2 : goal.returns-then-any-2
+returns-then-any-2 c =
+    let r = c.args.run in
+    let three : length r.channels ≡ 3 = search (rules, length_parts) in
+    let any = any_from_yields_List (λ x. x.mark) _ _ _ c.any.ensures.ran (YieldsList-from_slice (take r.count r.channels) cc) (λ x b q k. search rules) in
+    let end = any_from_yields_List (λ x. eqb x.position (5 * r.n)) _ _ _ c.any-2.ensures.ran (YieldsList-from_slice (take r.count r.channels) cc) (λ x b q k. search rules) in
+    rw (sym (marks r c.requires three) ∙ sym any ∙ c.if-any.false, sym (ends r c.requires three) ∙ sym end ∙ c.if-any-2.true)
+
+pub returns-then-not-all : goal.returns-then-not-all
+returns-then-not-all c =
+    let r = c.args.run in
+    let three : length r.channels ≡ 3 = search (rules, length_parts) in
+    let any = any_from_yields_List (λ x. x.mark) _ _ _ c.any.ensures.ran (YieldsList-from_slice (take r.count r.channels) cc) (λ x b q k. search rules) in
+    let end = any_from_yields_List (λ x. eqb x.position (5 * r.n)) _ _ _ c.any-2.ensures.ran (YieldsList-from_slice (take r.count r.channels) cc) (λ x b q k. search rules) in
+    let due = all_from_yields_List (λ x. eqb (x.position % 5) 2) _ _ _ c.all.ensures.ran (YieldsList-from_slice (take r.count r.channels) cc) (λ x b q k. search rules) in
+    rw (sym (marks r c.requires three) ∙ sym any ∙ c.if-any.false, sym (ends r c.requires three) ∙ sym end ∙ c.if-any-2.false, sym (dues r c.requires three) ∙ sym due ∙ c.if-not-all.true)
 
 pub returns : goal.returns
 returns c =
     let r = c.args.run in
-    let l = c.loop-c in
-    first_three c.test-3.result c.test.result c.test-2.result c.first.ensures c.first-past.ensures
-    ∙ (λ i.
-    first
-    ((c.test-3.ensures ∙ ap (test 10) (ends (λ n. among n (marked_at r)) l.c r.count l.invariant.1 (omega arith))) i
-    ∷ (c.test.ensures ∙ ap (test 11) (ends (λ n. among n (ended_at r)) l.c r.count l.invariant.2 (omega arith))) i
-    ∷ (c.test-2.ensures ∙ ap (λ (b : Bool). test 9 (not b)) (ends (λ n. every n (due_at r)) l.c r.count l.invariant.3 (omega arith))) i
-    ∷ []))
+    let three : length r.channels ≡ 3 = search (rules, length_parts) in
+    let any = any_from_yields_List (λ x. x.mark) _ _ _ c.any.ensures.ran (YieldsList-from_slice (take r.count r.channels) cc) (λ x b q k. search rules) in
+    let end = any_from_yields_List (λ x. eqb x.position (5 * r.n)) _ _ _ c.any-2.ensures.ran (YieldsList-from_slice (take r.count r.channels) cc) (λ x b q k. search rules) in
+    let due = all_from_yields_List (λ x. eqb (x.position % 5) 2) _ _ _ c.all.ensures.ran (YieldsList-from_slice (take r.count r.channels) cc) (λ x b q k. search rules) in
+    rw (sym (marks r c.requires three) ∙ sym any ∙ c.if-any.false, sym (ends r c.requires three) ∙ sym end ∙ c.if-any-2.false, sym (dues r c.requires three) ∙ sym due ∙ c.if-not-all.false)

@@ -1,28 +1,27 @@
 -- `fed_refusal`: by what is lent, and then by turn.
-use mathlib.Core.Path.{sym, ◌∙◌}
-use mathlib.Core.Bool.{true}
+use mathlib.Core.Path.{◌≡◌, sym, ◌∙◌}
+use native.Mathlib.Omega.{arith}
+use Rattle.std.proofs.Common.{rules}
 use Rattle.start.specs.Coef.{pairs}
+use Rattle.refusal.specs.Refusal.{number_of, answer_number}
+use Rattle.refusal.proofs.Laws.{number_of-positive}
 use Rattle.calls.specs.Jobs.{on}
 use Rattle.calls.specs.Calls.{start_refusal}
-use Rattle.calls.proofs.Tests.{by_lent, by-turn, lent_of}
-use Rattle.record.specs.Model.{given_of, places_of}
+use Rattle.calls.proofs.Tests.{by_lent, by-turn}
+use Rattle.record.specs.Model.{places_of, given_of}
 use Rattle.record.proofs.refusals.fed_refusal.Goals as goal
 
-pub returns-then-r-ne0 : goal.returns-then-r-ne0
+pub returns-in_err-start_refusal-clause-number : goal.returns-in_err-start_refusal-clause-number
 unfolding start_refusal
-returns-then-r-ne0 c =
+returns-in_err-start_refusal-clause-number c =
+    let e = c.in_err-start_refusal.field-0.0 in
+    let same : answer_number c.from_residual.result ≡ number_of e = search rules in
     λ j t l.
-    by_lent (given_of c.args.run (pairs c.args.lows.now c.args.highs.now) c.args.tables.now) (places_of c.args.run) (on j c.args.c) c.args.lengths.now
-    (rw l c.start_refusal-r.ensures) c.if-r-ne0.true
+    same ∙ by_lent (given_of c.args.run (pairs c.args.lows.now c.args.highs.now) c.args.tables.now) (places_of c.args.run) (on j c.args.c) c.args.lengths.now (rw l c.in_err-start_refusal.ensures.number) (λ z. absurd (omega (arith, z, number_of-positive e)))
 
-pub turn_refusal-requires : goal.turn_refusal-requires
+pub returns-clause-number : goal.returns-clause-number
 unfolding start_refusal
-turn_refusal-requires c =
-    (lent_of (given_of c.args.run (pairs c.args.lows.now c.args.highs.now) c.args.tables.now) (places_of c.args.run) c.args.lengths.now true (sym c.start_refusal-r.ensures ∙ c.if-r-ne0.false)).is-legal
-
-pub returns : goal.returns
-unfolding start_refusal
-returns c =
+returns-clause-number c =
     λ j t l.
     by-turn (given_of c.args.run (pairs c.args.lows.now c.args.highs.now) c.args.tables.now) (places_of c.args.run) (on j c.args.c) c.args.lengths.now
-    (rw l (sym c.start_refusal-r.ensures ∙ c.if-r-ne0.false)) (c.turn_refusal.ensures j t)
+    (rw l (sym c.in_ok-start_refusal.ensures.number)) (c.turn_refusal.ensures.number j t)

@@ -1,25 +1,23 @@
 -- `job_refusal`: by what is lent, and then by turn.
-use mathlib.Core.Path.{sym, ◌∙◌}
-use mathlib.Core.Bool.{false}
-use mathlib.Core.List.{[]}
-use Rattle.start.specs.Coef.{pairs}
+use mathlib.Core.Path.{◌≡◌, sym, ◌∙◌}
+use native.Mathlib.Omega.{arith}
+use Rattle.std.proofs.Common.{rules}
+use Rattle.refusal.specs.Refusal.{number_of, answer_number}
+use Rattle.refusal.proofs.Laws.{number_of-positive}
 use Rattle.calls.specs.Jobs.{on}
-use Rattle.calls.proofs.Tests.{by_lent, by-turn, lent_of}
-use Rattle.record.specs.Model.{given_of, places_of}
+use Rattle.calls.proofs.Tests.{by_lent, by-turn}
+use Rattle.record.specs.Model.{places_of, given_of}
 use Rattle.record.proofs.refusals.job_refusal.Goals as goal
 
-pub returns-then-r-ne0 : goal.returns-then-r-ne0
-returns-then-r-ne0 c =
+pub returns-in_err-lend_refusal-clause-number : goal.returns-in_err-lend_refusal-clause-number
+returns-in_err-lend_refusal-clause-number c =
+    let e = c.in_err-lend_refusal.field-0.0 in
+    let same : answer_number c.from_residual.result ≡ number_of e = search rules in
     λ j ls ts t l.
-    by_lent (given_of c.args.run ls ts) (places_of c.args.run) (on j c.args.c) c.args.lengths.now
-    (rw l (c.lend_refusal-r.ensures ls ts)) c.if-r-ne0.true
+    same ∙ by_lent (given_of c.args.run ls ts) (places_of c.args.run) (on j c.args.c) c.args.lengths.now (rw l (c.in_err-lend_refusal.ensures.number ls ts)) (λ z. absurd (omega (arith, z, number_of-positive e)))
 
-pub turn_refusal-requires : goal.turn_refusal-requires
-turn_refusal-requires c =
-    (lent_of (given_of c.args.run (pairs [] []) []) (places_of c.args.run) c.args.lengths.now false (sym (c.lend_refusal-r.ensures (pairs [] []) []) ∙ c.if-r-ne0.false)).is-legal
-
-pub returns : goal.returns
-returns c =
+pub returns-clause-number : goal.returns-clause-number
+returns-clause-number c =
     λ j ls ts t l.
     by-turn (given_of c.args.run ls ts) (places_of c.args.run) (on j c.args.c) c.args.lengths.now
-    (rw l (sym (c.lend_refusal-r.ensures ls ts) ∙ c.if-r-ne0.false)) (c.turn_refusal.ensures j t)
+    (rw l (sym (c.in_ok-lend_refusal.ensures.number ls ts))) (c.turn_refusal.ensures.number j t)

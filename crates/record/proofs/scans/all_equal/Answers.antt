@@ -1,15 +1,13 @@
-use mathlib.Core.Path.{refl, ◌∙◌}
-use native.Mathlib.Omega.{arith}
+-- `all_equal`: the test of every length.
+use mathlib.Core.Path.{◌∙◌}
 use lib.Dec.{eqb}
-use Rattle.record.proofs.Tested.{all_more, all_end}
-use borrow.Author.Rules.{rules}
+use Rattle.std.proofs.Common.{rules}
+use Rattle.std.proofs.lemmas.Iterator.{YieldsList-from_slice}
+use Rattle.std.proofs.lemmas.Iterator.Search.{all_from_yields_List}
+use Rattle.record.proofs.Firsts.{all_is}
 use Rattle.record.proofs.scans.all_equal.Goals as goal
 
-pub loop-k-init : goal.loop-k-init
-loop-k-init c = (omega arith, refl)
-
-pub loop-k-preserved : goal.loop-k-preserved
-loop-k-preserved c = (search rules, c.both-ok.ensures ∙ all_more (λ m. eqb m c.args.n) 0 c.args.lengths.now c.loop-k.k (search rules) c.loop-k.invariant.1 refl)
-
 pub returns : goal.returns
-returns c = all_end (λ m. eqb m c.args.n) 0 c.args.lengths.now c.loop-k.k (omega arith) c.loop-k.invariant.1
+returns c =
+    let xs = c.args.lengths.now in
+    all_from_yields_List (λ m. eqb m c.args.n) _ _ _ c.all.ensures.ran (YieldsList-from_slice xs cc) (λ x b q k. search rules) ∙ all_is (λ m. eqb m c.args.n) xs

@@ -1,15 +1,14 @@
-use mathlib.Core.Path.{refl, ◌∙◌}
-use native.Mathlib.Omega.{arith}
+-- `tables_ok`: the test of every quantiser.
+use mathlib.Core.Path.{◌∙◌}
+use borrow.Author.Tests.{tests}
+use Rattle.std.proofs.Common.{rules}
+use Rattle.std.proofs.lemmas.Iterator.{YieldsList-from_slice}
+use Rattle.std.proofs.lemmas.Iterator.Search.{all_from_yields_List}
 use Rattle.calls.specs.Calls.{table_ok}
-use Rattle.record.proofs.Tested.{all_more, all_end}
-use borrow.Author.Rules.{rules}
+use Rattle.record.proofs.Firsts.{all_is}
 use Rattle.record.proofs.scans.tables_ok.Goals as goal
 
-pub loop-k-init : goal.loop-k-init
-loop-k-init c = (omega arith, refl)
-
-pub loop-k-preserved : goal.loop-k-preserved
-loop-k-preserved c = (search rules, c.both-ok.ensures ∙ all_more table_ok 0 c.args.tables.now c.loop-k.k (search rules) c.loop-k.invariant.1 c.table_ok.ensures)
-
 pub returns : goal.returns
-returns c = all_end table_ok 0 c.args.tables.now c.loop-k.k (omega arith) c.loop-k.invariant.1
+returns c =
+    let xs = c.args.tables.now in
+    all_from_yields_List table_ok _ _ _ c.all.ensures.ran (YieldsList-from_slice xs cc) (λ x b q k. search (rules, tests)) ∙ all_is table_ok xs

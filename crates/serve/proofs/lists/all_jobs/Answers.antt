@@ -1,15 +1,14 @@
-use mathlib.Core.Path.{refl, ◌∙◌}
-use native.Mathlib.Omega.{arith}
+-- `all_jobs`: the test of every number.
+use mathlib.Core.Path.{◌∙◌}
 use lib.Dec.{ltb}
-use Rattle.record.proofs.Tested.{all_more, all_end}
-use borrow.Author.Rules.{rules}
+use borrow.Author.Tests.{tests}
+use Rattle.std.proofs.Common.{rules}
+use Rattle.std.proofs.lemmas.Iterator.{YieldsList-from_slice}
+use Rattle.std.proofs.lemmas.Iterator.Search.{all_from_yields_List}
+use Rattle.record.proofs.Firsts.{all_is}
 use Rattle.serve.proofs.lists.all_jobs.Goals as goal
 
-pub loop-k-init : goal.loop-k-init
-loop-k-init c = (omega arith, refl)
-
-pub loop-k-preserved : goal.loop-k-preserved
-loop-k-preserved c = (search rules, c.both-ok.ensures ∙ all_more (λ j. ltb j 5) 0 c.args.jobs.now c.loop-k.k (search rules) c.loop-k.invariant.1 refl)
-
 pub returns : goal.returns
-returns c = all_end (λ j. ltb j 5) 0 c.args.jobs.now c.loop-k.k (omega arith) c.loop-k.invariant.1
+returns c =
+    let xs = c.args.jobs.now in
+    all_from_yields_List (λ j. ltb j 5) _ _ _ c.all.ensures.ran (YieldsList-from_slice xs cc) (λ x b q k. search (rules, tests)) ∙ all_is (λ j. ltb j 5) xs

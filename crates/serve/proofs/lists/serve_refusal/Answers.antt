@@ -1,12 +1,19 @@
 -- `serve_refusal`: each return has the outcome of the tests before it.
-use borrow.Author.Tests.{eq-eqb, ne_eqb}
-use mathlib.Core.Path.{◌≡◌, refl}
+use borrow.Author.Tests.{ne_eqb}
+use mathlib.Core.Path.{◌≡◌, refl, sym, ◌∙◌}
 use mathlib.Core.Logic.{◌≢◌}
 use mathlib.Core.Bool.{not}
 use mathlib.Core.List.{List, [], ◌∷◌}
 use Prim.Native.Nat.{ℕ, zero, suc}
+use native.Mathlib.Omega.{arith}
+use Rattle.std.proofs.Common.{rules}
+use Rattle.start.specs.Coef.{pairs}
+use Rattle.refusal.specs.Refusal.{number_of, answer_number}
+use Rattle.refusal.proofs.Laws.{number_of-positive}
 use Rattle.calls.specs.Calls.{first, test}
+use Rattle.record.specs.Model.{given_of, places_of}
 use Rattle.serve.specs.Serve.{all_jobs, serve_refusal}
+use Rattle.serve.proofs.Served.{only-records, no_record}
 use Rattle.serve.proofs.lists.serve_refusal.Goals as goal
 
 -- a number that counts
@@ -14,28 +21,34 @@ stands : (t : ℕ) (ts : List ℕ) → t ≢ 0 → t ≡ first (t ∷ ts)
 stands zero ts n = absurd (n refl)
 stands (suc t) ts n = refl
 
-pub returns-then-r-eq13 : goal.returns-then-r-eq13
+pub returns-then-not-legal : goal.returns-then-not-legal
 unfolding serve_refusal
-returns-then-r-eq13 c =
-    rw (← c.start_refusal-r.ensures, eq-eqb c.start_refusal-r.result 13 c.if-r-eq13.true)
+returns-then-not-legal c =
+    let a = c.args in
+    rw (no_record (given_of a.run (pairs a.lows.now a.highs.now) a.tables.now) (places_of a.run) a.lengths.now (sym c.legal.ensures ∙ c.if-not-legal.true))
 
 pub returns-then-not-long : goal.returns-then-not-long
 unfolding serve_refusal
 returns-then-not-long c =
-    rw (← c.start_refusal-r.ensures, ne_eqb c.start_refusal-r.result 13 c.if-r-eq13.false, ← c.both-long.ensures, c.if-not-long.true)
+    let a = c.args in
+    let only = only-records (given_of a.run (pairs a.lows.now a.highs.now) a.tables.now) (places_of a.run) a.lengths.now (sym c.legal.ensures ∙ c.if-not-legal.false) in
+    rw (ne_eqb _ 13 only, c.if-not-long.true)
 
-pub returns-then-r-ne0 : goal.returns-then-r-ne0
+pub returns-in_err-start_refusal : goal.returns-in_err-start_refusal
 unfolding serve_refusal
-returns-then-r-ne0 c =
-    rw (← c.start_refusal-r.ensures, ne_eqb c.start_refusal-r.result 13 c.if-r-eq13.false, ← c.both-long.ensures, c.if-not-long.false)
-    (stands c.start_refusal-r.result (test 9 (not (all_jobs c.args.jobs.now)) ∷ []) c.if-r-ne0.true)
+returns-in_err-start_refusal c =
+    let a = c.args in
+    let e = c.in_err-start_refusal.field-0.0 in
+    let same : answer_number c.from_residual.result ≡ number_of e = search rules in
+    let only = only-records (given_of a.run (pairs a.lows.now a.highs.now) a.tables.now) (places_of a.run) a.lengths.now (sym c.legal.ensures ∙ c.if-not-legal.false) in
+    same ∙ rw (ne_eqb _ 13 only, c.if-not-long.false, sym c.in_err-start_refusal.ensures.number) (stands (number_of e) (test 9 (not (all_jobs a.jobs.now)) ∷ []) (λ z. absurd (omega (arith, z, number_of-positive e))))
 
 pub returns-then-not-all_jobs : goal.returns-then-not-all_jobs
 unfolding serve_refusal
 returns-then-not-all_jobs c =
-    rw (← c.start_refusal-r.ensures, ne_eqb c.start_refusal-r.result 13 c.if-r-eq13.false, ← c.both-long.ensures, c.if-not-long.false, c.if-r-ne0.false, ← c.all_jobs.ensures, c.if-not-all_jobs.true)
+    rw (sym c.in_ok-start_refusal.ensures.number, c.if-not-long.false, ← c.all_jobs.ensures, c.if-not-all_jobs.true)
 
 pub returns : goal.returns
 unfolding serve_refusal
 returns c =
-    rw (← c.start_refusal-r.ensures, ne_eqb c.start_refusal-r.result 13 c.if-r-eq13.false, ← c.both-long.ensures, c.if-not-long.false, c.if-r-ne0.false, ← c.all_jobs.ensures, c.if-not-all_jobs.false)
+    rw (sym c.in_ok-start_refusal.ensures.number, c.if-not-long.false, ← c.all_jobs.ensures, c.if-not-all_jobs.false)

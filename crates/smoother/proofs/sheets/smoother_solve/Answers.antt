@@ -12,41 +12,45 @@ use Rattle.smoother.proofs.sheets.smoother_solve.Goals as goal
 pub returns-then-numbers-ne-NUMBERS : goal.returns-then-numbers-ne-NUMBERS
 returns-then-numbers-ne-NUMBERS c =
     let a = c.args in
-    no_record a.numbers.now (pairs a.lows.now a.highs.now) a.tables.now (loan (six a.plane.now a.prior.now a.gradient.now a.across.now a.down.now a.saved.now) a.totals.now) a.clipped.now c.if-numbers-ne-NUMBERS.true
+    rw c.from.ensures
+    (no_record a.numbers.now (pairs a.lows.now a.highs.now) a.tables.now (loan (six a.plane.now a.prior.now a.gradient.now a.across.now a.down.now a.saved.now) a.totals.now) a.clipped.now c.if-numbers-ne-NUMBERS.true)
 
-pub returns-then-not-both : goal.returns-then-not-both
-returns-then-not-both c =
+pub returns-then-not-letters_ok : goal.returns-then-not-letters_ok
+returns-then-not-letters_ok c =
     let a = c.args in
-    no_letters a.numbers.now (pairs a.lows.now a.highs.now) a.tables.now (loan (six a.plane.now a.prior.now a.gradient.now a.across.now a.down.now a.saved.now) a.totals.now) a.clipped.now c.if-numbers-ne-NUMBERS.false
-    (sym c.both.ensures ∙ c.if-not-both.true)
+    rw c.from-then-not-letters_ok.ensures
+    (no_letters a.numbers.now (pairs a.lows.now a.highs.now) a.tables.now (loan (six a.plane.now a.prior.now a.gradient.now a.across.now a.down.now a.saved.now) a.totals.now) a.clipped.now c.if-numbers-ne-NUMBERS.false
+    (sym c.letters_ok.ensures ∙ c.if-not-letters_ok.true))
 
 pub returns-then-not-all_legal : goal.returns-then-not-all_legal
 returns-then-not-all_legal c =
     let a = c.args in
-    not_legal a.numbers.now (pairs a.lows.now a.highs.now) a.tables.now (loan (six a.plane.now a.prior.now a.gradient.now a.across.now a.down.now a.saved.now) a.totals.now) a.clipped.now c.if-numbers-ne-NUMBERS.false (sym c.both.ensures ∙ c.if-not-both.false)
-    (ap all_legal (sym c.sheet_of-s.ensures) ∙ sym c.all_legal.ensures ∙ c.if-not-all_legal.true)
+    rw c.from-then-not-all_legal.ensures
+    (not_legal a.numbers.now (pairs a.lows.now a.highs.now) a.tables.now (loan (six a.plane.now a.prior.now a.gradient.now a.across.now a.down.now a.saved.now) a.totals.now) a.clipped.now c.if-numbers-ne-NUMBERS.false (sym c.letters_ok.ensures ∙ c.if-not-letters_ok.false)
+    (ap all_legal (sym c.sheet_of-s.ensures) ∙ sym c.all_legal.ensures ∙ c.if-not-all_legal.true))
 
-pub returns-then-clipped-h : goal.returns-then-clipped-h
-returns-then-clipped-h c =
+pub returns-then-clipped-s : goal.returns-then-clipped-s
+returns-then-clipped-s c =
     let a = c.args in
-    no_room a.numbers.now (pairs a.lows.now a.highs.now) a.tables.now (loan (six a.plane.now a.prior.now a.gradient.now a.across.now a.down.now a.saved.now) a.totals.now) a.clipped.now c.if-numbers-ne-NUMBERS.false (sym c.both.ensures ∙ c.if-not-both.false) (ap all_legal (sym c.sheet_of-s.ensures) ∙ sym c.all_legal.ensures ∙ c.if-not-all_legal.false)
-    (λ e. c.if-clipped-h.true (e ∙ ap (λ (z : Sheet). z.header.channels) (sym c.sheet_of-s.ensures)))
+    rw c.from-then-clipped-s.ensures
+    (no_room a.numbers.now (pairs a.lows.now a.highs.now) a.tables.now (loan (six a.plane.now a.prior.now a.gradient.now a.across.now a.down.now a.saved.now) a.totals.now) a.clipped.now c.if-numbers-ne-NUMBERS.false (sym c.letters_ok.ensures ∙ c.if-not-letters_ok.false) (ap all_legal (sym c.sheet_of-s.ensures) ∙ sym c.all_legal.ensures ∙ c.if-not-all_legal.false)
+    (λ e. c.if-clipped-s.true (e ∙ ap (λ (z : Sheet). z.header.channels) (sym c.sheet_of-s.ensures))))
 
 pub returns-then-k-ne0 : goal.returns-then-k-ne0
 returns-then-k-ne0 c =
     let a = c.args in
     let v = c.solve-t in
-    other a.numbers.now (pairs a.lows.now a.highs.now) a.tables.now (loan (six a.plane.now a.prior.now a.gradient.now a.across.now a.down.now a.saved.now) a.totals.now) a.clipped.now c.if-numbers-ne-NUMBERS.false (sym c.both.ensures ∙ c.if-not-both.false) (ap all_legal (sym c.sheet_of-s.ensures) ∙ sym c.all_legal.ensures ∙ c.if-not-all_legal.false) (c.if-clipped-h.false ∙ ap (λ (z : Sheet). z.header.channels) c.sheet_of-s.ensures)
-    v.result.answer v.result.clipped _ (rw c.sheet_of-s.ensures at v.ensures) _ c.number_of-k.ensures c.if-k-ne0.true
+    other a.numbers.now (pairs a.lows.now a.highs.now) a.tables.now (loan (six a.plane.now a.prior.now a.gradient.now a.across.now a.down.now a.saved.now) a.totals.now) a.clipped.now c.if-numbers-ne-NUMBERS.false (sym c.letters_ok.ensures ∙ c.if-not-letters_ok.false) (ap all_legal (sym c.sheet_of-s.ensures) ∙ sym c.all_legal.ensures ∙ c.if-not-all_legal.false) (c.if-clipped-s.false ∙ ap (λ (z : Sheet). z.header.channels) c.sheet_of-s.ensures)
+    v.result.answer v.result.clipped _ (rw c.sheet_of-s.ensures at v.ensures) _ c.answer_number-k.ensures c.if-k-ne0.true
 
 pub put_clipped-requires : goal.put_clipped-requires
 put_clipped-requires c =
     let l = c.all_legal in
-    omega (arith, legal_few c.sheet_of-s.result (sym l.ensures ∙ c.if-not-all_legal.false), c.if-clipped-h.false)
+    omega (arith, legal_few c.sheet_of-s.result (sym l.ensures ∙ c.if-not-all_legal.false), c.if-clipped-s.false)
 
 pub returns : goal.returns
 returns c =
     let a = c.args in
     let v = c.solve-t in
-    solved a.numbers.now (pairs a.lows.now a.highs.now) a.tables.now (loan (six a.plane.now a.prior.now a.gradient.now a.across.now a.down.now a.saved.now) a.totals.now) a.clipped.now c.if-numbers-ne-NUMBERS.false (sym c.both.ensures ∙ c.if-not-both.false) (ap all_legal (sym c.sheet_of-s.ensures) ∙ sym c.all_legal.ensures ∙ c.if-not-all_legal.false) (c.if-clipped-h.false ∙ ap (λ (z : Sheet). z.header.channels) c.sheet_of-s.ensures)
-    v.result.answer v.result.clipped _ (rw c.sheet_of-s.ensures at v.ensures) (sym c.if-k-ne0.false ∙ c.number_of-k.ensures) _ c.put_clipped.ensures
+    solved a.numbers.now (pairs a.lows.now a.highs.now) a.tables.now (loan (six a.plane.now a.prior.now a.gradient.now a.across.now a.down.now a.saved.now) a.totals.now) a.clipped.now c.if-numbers-ne-NUMBERS.false (sym c.letters_ok.ensures ∙ c.if-not-letters_ok.false) (ap all_legal (sym c.sheet_of-s.ensures) ∙ sym c.all_legal.ensures ∙ c.if-not-all_legal.false) (c.if-clipped-s.false ∙ ap (λ (z : Sheet). z.header.channels) c.sheet_of-s.ensures)
+    v.result.answer v.result.clipped _ (rw c.sheet_of-s.ensures at v.ensures) (sym c.if-k-ne0.false ∙ c.answer_number-k.ensures) _ c.put_clipped.ensures

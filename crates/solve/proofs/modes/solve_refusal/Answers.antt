@@ -15,4 +15,4 @@ returns-then-totals-blend_count c = not_long _ _ _ _ _ (sym c.all_legal.ensures 
 pub returns : goal.returns
 returns c =
     then_start _ _ _ _ _ (sym c.all_legal.ensures ∙ c.if-not-all_legal.false) (rw c.blend_count.ensures.0 at c.if-totals-blend_count.false) _
-    (rw c.joint_of.ensures at c.start_refusal.ensures)
+    (rw c.joint_of.ensures at c.start_refusal.ensures.number)

@@ -1,4 +1,6 @@
-use mathlib.Core.Path.{refl}
+use mathlib.Core.Path.{refl, ap, ◌∙◌}
+use Rattle.std.specs.Prelude.{Ok}
+use Rattle.rounds.proofs.Steps.{ok_same}
 use native.Mathlib.Omega.{arith}
 use Rattle.start.specs.Coef.{pairs}
 use Rattle.rounds.specs.Whole.{six, loan}
@@ -8,16 +10,22 @@ use Rattle.solve.proofs.separate.separate.Goals as goal
 pub loop-c-init : goal.loop-c-init
 loop-c-init c = begins _ _ _ _ c.requires _ refl
 
-pub alone_value-t-requires : goal.alone_value-t-requires
-alone_value-t-requires c =
+pub alone_value-answer-requires : goal.alone_value-answer-requires
+alone_value-answer-requires c =
     let s = c.loop-c in
-    alone_asks _ _ _ _ c.requires _ _ _ s.invariant c.loop-c-test.true
+    record { alone = c.alone_of-run.ensures; asks = alone_asks _ _ _ _ c.requires _ _ _ s.invariant c.loop-c-test.true }
+
+pub returns-in_default-accepted : goal.returns-in_default-accepted
+returns-in_default-accepted c =
+    let s = c.loop-c in
+    let o = c.alone_value-answer in
+    stops _ _ _ _ c.requires _ _ _ s.invariant c.loop-c-test.true (Ok c.in-Ok.accepted) o.new.run _ c.in-Ok.ensures (λ e. c.in_default-accepted.not-Done (ok_same e))
 
 pub returns-in_default : goal.returns-in_default
 returns-in_default c =
     let s = c.loop-c in
-    let o = c.alone_value-t in
-    stops _ _ _ _ c.requires _ _ _ s.invariant c.loop-c-test.true o.result.answer o.result.run _ o.ensures c.in_default.not-Done
+    let o = c.alone_value-answer in
+    stops _ _ _ _ c.requires _ _ _ s.invariant c.loop-c-test.true o.result o.new.run _ o.ensures (λ e. c.in_default.not-Ok _ e)
 
 pub overflow_cast-clipped : goal.overflow_cast-clipped
 overflow_cast-clipped c =
@@ -42,8 +50,8 @@ overflow_step-c c =
 pub loop-c-preserved : goal.loop-c-preserved
 loop-c-preserved c =
     let s = c.loop-c in
-    let o = c.alone_value-t in
-    goes-on _ _ _ _ c.requires _ _ _ s.invariant c.loop-c-test.true o.result.answer o.result.run _ o.ensures c.in-Done.is c.clipped_of.result c.clipped_of.ensures
+    let o = c.alone_value-answer in
+    goes-on _ _ _ _ c.requires _ _ _ s.invariant c.loop-c-test.true o.result o.new.run _ o.ensures (c.in-Ok.is ∙ ap Ok c.in-Done.is) c.clipped_of.result c.clipped_of.ensures
 
 pub returns : goal.returns
 returns c =

@@ -1,9 +1,5 @@
-use Rattle.std.proofs.Common.{mul-le-mul, arith}
 use Rattle.steps.specs.Solve.{constants}
 use Rattle.steps.proofs.solve.step_constants.Goals as goal
-
-pub overflow_mul-w : goal.overflow_mul-w
-overflow_mul-w c = omega (arith, mul-le-mul c.before.requires.0 c.before.requires.1)
 
 pub returns : goal.returns
 unfolding constants

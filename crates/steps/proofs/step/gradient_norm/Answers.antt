@@ -5,13 +5,13 @@ use Rattle.fold.specs.Fold.{upto}
 use Rattle.steps.specs.Step.{gradient_norm}
 use Rattle.steps.proofs.step.gradient_norm.Goals as goal
 
-pub loop-i-init : goal.loop-i-init
+pub loop-x-init : goal.loop-x-init
 unfolding upto
-loop-i-init c = search rules
+loop-x-init c = search rules
 
-pub loop-i-preserved : goal.loop-i-preserved
-loop-i-preserved c = (search rules, upto-call _ _ _ c.before.before.before.loop-i.invariant.1 c.mul_add_rounded-acc.ensures)
+pub loop-x-preserved : goal.loop-x-preserved
+loop-x-preserved c = upto-call _ _ _ c.loop-x.invariant c.mul_add_rounded-acc.ensures
 
 pub returns : goal.returns
 unfolding gradient_norm
-returns c = c.sqrt.ensures ∙ ap root (upto-end _ _ _ _ c.before.before.loop-i.invariant.1 (omega arith))
+returns c = c.sqrt.ensures ∙ ap root (upto-end _ _ _ _ c.loop-x.invariant (omega arith))

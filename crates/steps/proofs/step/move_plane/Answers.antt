@@ -9,12 +9,12 @@ unfolding upto
 loop-i-init c = search rules
 
 pub loop-i-preserved : goal.loop-i-preserved
-loop-i-preserved c = (search rules, search rules, upto-call _ _ _ c.before.before.before.before.loop-i.invariant.2 (rw c.mul_add.ensures))
+loop-i-preserved c = upto-call _ _ _ c.loop-i.invariant (rw c.mul_add.ensures)
 
 pub returns-after-loop-i : goal.returns-after-loop-i
 unfolding moved moved_by
-returns-after-loop-i c = rw (← c.before.before.before.gradient_norm-norm.ensures, c.before.before.if-norm.true) (upto-end _ _ _ _ c.before.loop-i.invariant.2 (omega arith))
+returns-after-loop-i c = rw (← c.gradient_norm-norm.ensures, c.if-norm.true) (upto-end _ _ _ _ c.loop-i.invariant (omega arith))
 
 pub returns-else-norm : goal.returns-else-norm
 unfolding moved moved_by
-returns-else-norm c = rw (← c.before.gradient_norm-norm.ensures, c.if-norm.false)
+returns-else-norm c = rw (← c.gradient_norm-norm.ensures, c.if-norm.false)

@@ -1,19 +1,26 @@
-use Prim.Native.Nat.{◌≤◌}
+-- `stitch::marks::write_marks` meets its contract.
+use mathlib.Core.Path.{ap, ◌∙◌, sym}
 use native.Mathlib.Omega.{arith}
-use Rattle.stitch.proofs.MarkWriteLaws.{marks_first, marks_done, marks_room, marks_next}
+use native.Mathlib.Numerals.{add-one}
+use lib.ListN.{length}
+use Rattle.copying.specs.Parts.{past}
+use Rattle.copying.proofs.PartLaws.{put_more, put_as}
+use Rattle.stitch.specs.Bytes.{moved_line}
+use Rattle.stitch.proofs.WriteLaws.{lines_more, lines_past, lines_room}
 use Rattle.stitch.proofs.marks.write_marks.Goals as goal
 
-pub loop-m-init : goal.loop-m-init
-loop-m-init c = marks_first _ _ _ _ _ _
+pub write_mark-rest-requires : goal.write_mark-rest-requires
+write_mark-rest-requires c =
+    let a = c.args in
+    omega (arith, lines_room a.s c.loop-mark.mark a.n a.right.now c.loop-mark-test.true, ap (λ l. length (moved_line a.s l)) c.loop-mark.invariant.rest)
 
-pub write_mark-c-requires : goal.write_mark-c-requires
-write_mark-c-requires c = marks_room _ _ _ _ _ _ _ _ _ _ c.loop-m.invariant c.loop-m-test.true _ c.requires
-
-pub loop-m-preserved : goal.loop-m-preserved
-loop-m-preserved c = marks_next _ _ _ _ _ _ _ _ _ _ c.loop-m.invariant c.loop-m-test.true _ _ c.write_mark-c.ensures
-
-pub returns : goal.returns
-returns c =
-    let l = c.loop-m in
-    let h : l.m ≤ 0 = omega arith in
-    marks_done _ _ _ _ _ _ _ _ _ _ l.invariant h
+pub loop-mark-preserved : goal.loop-mark-preserved
+loop-mark-preserved c =
+    let w = c.loop-mark.invariant in
+    let a = c.args in
+    let m = c.loop-mark.mark in
+    let p = put_more w.put c.write_mark-rest.ensures.put in
+    record {
+      rest = rw add-one (c.write_mark-rest.ensures.rest ∙ ap (past 10 1) w.rest ∙ sym (lines_past m a.right.now));
+      put = rw add-one (put_as (sym (lines_more a.s m a.right.now)) (rw w.rest at p));
+    }

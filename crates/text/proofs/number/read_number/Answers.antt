@@ -1,75 +1,39 @@
-use mathlib.Core.Path.{sym, ◌∙◌}
-use native.Mathlib.Omega.{arith}
-use Rattle.text.proofs.NumberLaws.{digits_more, digits_low, digits_high, digits_end, digits_bound, digits_small, number_short, number_long, number_padded, number_one, number_two}
-use Rattle.text.proofs.number.read_number.Goals.{then-n-gt1+else-f-eq48, else-n-gt1}
+use Rattle.std.proofs.Common.{arith, sym, ◌∙◌, ◌≡◌, get_or, ◌-◌}
+use mathlib.Core.Logic.{⊎_elim}
+use Rattle.std.proofs.lemmas.Bool.Decides.{nat_tests}
+use Rattle.text.specs.Numbers.{number_of}
+use Rattle.text.proofs.NumberLaws.{digits_more, digits_low, digits_high, digits_end, digits_bound, digits_small}
 use Rattle.text.proofs.number.read_number.Goals as goal
 
-pub returns-then-n-lt1 : goal.returns-then-n-lt1
-returns-then-n-lt1 c = sym (number_short c.before.args.f.now (omega arith))
+pub returns-then-is_empty : goal.returns-then-is_empty
+unfolding number_of
+returns-then-is_empty c = grind (arith, nat_tests)
 
-pub returns-then-n-gt6 : goal.returns-then-n-gt6
-returns-then-n-gt6 c = sym (number_long c.before.before.args.f.now (omega arith))
-
-pub returns-then-f-eq48 : goal.returns-then-f-eq48
-returns-then-f-eq48 c = sym (number_padded c.before.before.before.before.before.args.f.now (omega arith) c.if-f-eq48.true)
-
-pub loop-i-init : goal.loop-i-init
-loop-i-init c =
-    let f = c.before.before.before.args.f.now in (
-      omega arith,
-      omega arith,
-      omega arith,
-      omega arith,
-      elim c.if-n-gt1.branch [
-        | then-n-gt1+else-f-eq48 w ↦ number_two f w.if-n-gt1.true (omega arith) w.if-f-eq48.false
-        | else-n-gt1 w ↦ number_one f (omega arith) w.if-n-gt1.false
-      ],
-    )
+pub loop-b-init : goal.loop-b-init
+unfolding number_of
+loop-b-init c = (omega arith, grind (arith, nat_tests))
 
 pub returns-then-b-lt48 : goal.returns-then-b-lt48
 returns-then-b-lt48 c =
-    let l = c.before.before.before.loop-i in
-    (sym (digits_low c.before.before.before.before.before.before.before.args.f.now l.v l.i (omega arith) c.if-b-lt48.true) ∙ l.invariant.4)
-
-pub returns-then-b-gt57 : goal.returns-then-b-gt57
-returns-then-b-gt57 c =
-    let l = c.before.before.before.before.loop-i in
-    (sym (digits_high c.before.before.before.before.before.before.before.before.args.f.now l.v l.i (omega arith) (omega arith) c.if-b-gt57.true) ∙ l.invariant.4)
+    let f = c.args.f.now in
+    let l = c.loop-b in
+    ⊎_elim
+    (λ w. sym (digits_low f l.v l.b-index c.loop-b-test.true w) ∙ l.invariant.1)
+    (λ w. sym (digits_high f l.v l.b-index c.loop-b-test.true w.0 w.1) ∙ l.invariant.1)
+    c.then-b-lt48.either
 
 pub overflow_mul-v : goal.overflow_mul-v
-overflow_mul-v c =
-    let l = c.before.before.before.before.loop-i in
-    omega (arith, digits_small l.v l.i l.invariant.3 (omega arith))
+overflow_mul-v c = record { fits = omega (arith, digits_small c.loop-b.v c.loop-b.b-index c.loop-b.invariant.0 (omega arith)) }
 
 pub overflow_add-v : goal.overflow_add-v
-overflow_add-v c =
-    let l = c.before.before.before.before.loop-i in
-    omega (arith, digits_small l.v l.i l.invariant.3 (omega arith))
+overflow_add-v c = record { fits = omega (arith, digits_small c.loop-b.v c.loop-b.b-index c.loop-b.invariant.0 (omega arith), c.from.ensures) }
 
-pub loop-i-preserved : goal.loop-i-preserved
-loop-i-preserved c =
-    let l = c.before.before.before.before.loop-i in
-    let f = c.before.before.before.before.before.before.before.before.args.f.now in (
-      omega arith,
-      omega arith,
-      omega arith,
-      digits_bound l.v l.i _ l.invariant.3 (omega arith),
-      sym (digits_more f l.v l.i (omega arith) (omega arith) (omega arith)) ∙ l.invariant.4,
-    )
+pub loop-b-preserved : goal.loop-b-preserved
+loop-b-preserved c =
+    let f = c.args.f.now in
+    let l = c.loop-b in
+    let d : c.from.result ≡ get_or f l.b-index 0 - 48 = c.from.ensures in
+    rw d (digits_bound l.v l.b-index _ l.invariant.0 (omega arith), sym (digits_more f l.v l.b-index c.loop-b-test.true c.if-b-lt48.false c.if-b-gt57.false) ∙ l.invariant.1)
 
 pub returns : goal.returns
-returns c =
-    let l = c.before.loop-i in
-    sym (digits_end c.before.before.before.before.before.args.f.now l.v l.i (omega arith)) ∙ l.invariant.4
-
-pub bounds-f-0 : goal.bounds-f-0
-bounds-f-0 c = omega arith
-
-pub bounds-f-i : goal.bounds-f-i
-bounds-f-i c = omega arith
-
-pub overflow_add-i : goal.overflow_add-i
-overflow_add-i c = omega arith
-
-pub loop-i-smaller : goal.loop-i-smaller
-loop-i-smaller c = omega arith
+returns c = sym (digits_end c.args.f.now c.loop-b.v c.loop-b.b-index c.loop-b-test.false) ∙ c.loop-b.invariant.1

@@ -1,51 +1,31 @@
-use Prim.Native.Nat.{ℕ, suc, ◌+◌, ◌<◌, ◌≤◌}
-use mathlib.Core.Path.{◌≡◌, ap, refl}
-use mathlib.Core.List.{List, [], ◌∷◌}
-use mathlib.Core.Logic.{⊎_elim}
-use native.Mathlib.Omega.{arith}
-use lib.ListN.{length, drop, get_or}
-use Rattle.text.specs.Pieces.{before, split}
-use Rattle.text.proofs.PieceLaws.{before_hit, before_miss, fields_tab, fields_other}
+use Rattle.std.proofs.Common.{arith, refl, ap, ◌≡◌, ◌-◌, ℕ, List, take, drop, length, get_or, ◌≤◌}
+use lib.ListN.{drop_of_length-le, length-drop}
+use lib.Seq.{length-take-le}
+use lib.Dec.{eqb}
+use Rattle.text.specs.Pieces.{split, before}
+use Rattle.text.proofs.PieceLaws.{fields_step, one_most, before_take}
 use Rattle.text.proofs.pieces.fields_in.Goals as goal
 
-pub loop-k-init : goal.loop-k-init
-loop-k-init c = record { inside = omega arith; few = omega arith; ends = omega arith; count = refl }
+pub loop-b-init : goal.loop-b-init
+loop-b-init c = (omega arith, refl)
 
--- the line ends at `end`, so that no byte before it is 10
-still : (s : List ℕ) (k end : ℕ) → k + length (before 10 (drop k s)) ≡ end → k < end → end ≤ length s → get_or s k 0 ≡ 10 → ⊥
-still s k end h l b e = omega (arith, ap length (before_hit s 10 k e (omega arith)))
+pub overflow_add-fields : goal.overflow_add-fields
+overflow_add-fields c =
+    let xs = take (c.args.end - c.args.at) (drop c.args.at c.args.text.now) in
+    let few = one_most (eqb (get_or xs c.loop-b.b-index 0) 9) in
+    let n : length xs ≤ length c.args.text.now = omega (arith, length-take-le (c.args.end - c.args.at) (drop c.args.at c.args.text.now), length-drop c.args.at c.args.text.now) in
+    omega (arith, few, n, c.from-fields.ensures)
 
-one : (r : List ℕ) → length r ≡ 0 → length (split 9 r) ≡ 1
-one [] h = refl
-one (x ∷ r) h = absurd (never (length r) h)
-  where
-    never : (n : ℕ) → suc n ≡ 0 → ⊥
-    never n h = omega arith
-
-pub loop-k-preserved : goal.loop-k-preserved
-loop-k-preserved c =
-    let a = c.before.before.before.before.before.args in
-    let p = c.before.before.before.before.before.requires in
-    let l = c.before.before.before.loop-k in
-    let s = a.text.now in
-    let no = still s l.k a.end l.invariant.ends c.before.before.loop-k-test.true p.1 in
-    let more = before_miss s 10 l.k no (omega arith) in
-    ⊎_elim
-    (λ w. record {
-      inside = omega arith;
-      few = omega (arith, c.tab-fields.ensures.0, l.invariant.few);
-      ends = omega (arith, ap length more, l.invariant.ends);
-      count = omega (arith, fields_tab s l.k (omega arith) w.0, l.invariant.count);
-    })
-    (λ w. record {
-      inside = omega arith;
-      few = omega (arith, c.tab-fields.ensures.0, l.invariant.few);
-      ends = omega (arith, ap length more, l.invariant.ends);
-      count = omega (arith, fields_other s l.k (omega arith) no w.0, l.invariant.count);
-    })
-    c.tab-fields.ensures.1
+pub loop-b-preserved : goal.loop-b-preserved
+loop-b-preserved c =
+    let xs = take (c.args.end - c.args.at) (drop c.args.at c.args.text.now) in
+    let e = fields_step xs c.loop-b.b-index c.loop-b-test.true in
+    (omega (arith, one_most (eqb (get_or xs c.loop-b.b-index 0) 9), c.from-fields.ensures), omega (arith, e, c.from-fields.ensures))
 
 pub returns : goal.returns
 returns c =
-    let l = c.before.loop-k in
-    omega (arith, one (before 10 (drop l.k c.before.before.before.args.text.now)) (omega (arith, l.invariant.ends)), l.invariant.count)
+    let rest = drop c.args.at c.args.text.now in
+    let xs = take (c.args.end - c.args.at) rest in
+    let n : c.args.end - c.args.at ≡ length (before 10 rest) = omega arith in
+    let e : xs ≡ before 10 rest = rw n (before_take 10 rest) in
+    rw (← e) (omega (arith, ap (λ (l : List ℕ). length (split 9 l)) (drop_of_length-le xs c.loop-b-test.false)))

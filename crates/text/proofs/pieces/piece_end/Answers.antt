@@ -1,34 +1,20 @@
-use mathlib.Core.Path.{ap}
-use native.Mathlib.Omega.{arith}
-use lib.ListN.{length}
-use Rattle.text.proofs.PieceLaws.{before_hit, before_miss, before_end}
+-- `text::pieces::piece_end` meets its contract.
+use Rattle.std.proofs.Common.{arith, sym, ◌∙◌, ◌≡◌, ◌-◌, length, take, drop}
+use lib.ListN.{length-drop}
+use lib.Seq.{take_all}
+use Rattle.text.proofs.PieceLaws.{before_some, before_none, before_le}
 use Rattle.text.proofs.pieces.piece_end.Goals as goal
 
-pub returns-then-row-i : goal.returns-then-row-i
-returns-then-row-i c =
-    let a = c.before.before.before.before.args in
-    let i = c.before.before.before.loop-i.i in
-    (omega arith, omega (arith, ap length (before_hit a.row.now a.b i c.if-row-i.true (omega arith))))
+pub returns-in-Some : goal.returns-in-Some
+returns-in-Some c =
+    let l = drop c.args.from c.args.row.now in
+    let whole : take (length c.args.row.now - c.args.from) l ≡ l = take_all _ _ (omega (arith, length-drop c.args.from c.args.row.now)) in
+    let f = before_some c.args.b c.in-Some.n l (rw whole at (sym c.in-Some.is ∙ c.first_place.ensures)) in
+    (omega (arith, length-drop c.args.from c.args.row.now, f.0), omega (arith, f.1))
 
-pub loop-i-preserved : goal.loop-i-preserved
-loop-i-preserved c =
-    let a = c.before.before.before.before.args in
-    let i = c.before.before.before.loop-i.i in
-    omega (arith, ap length (before_miss a.row.now a.b i c.if-row-i.false (omega arith)))
-
-pub returns : goal.returns
-returns c =
-    let a = c.before.before.args in
-    (omega arith, omega (arith, ap length (before_end a.row.now a.b c.before.loop-i.i (omega arith))))
-
-pub loop-i-init : goal.loop-i-init
-loop-i-init c = omega arith
-
-pub bounds-row-i : goal.bounds-row-i
-bounds-row-i c = omega arith
-
-pub overflow_add-i : goal.overflow_add-i
-overflow_add-i c = omega arith
-
-pub loop-i-smaller : goal.loop-i-smaller
-loop-i-smaller c = omega arith
+pub returns-in-None : goal.returns-in-None
+returns-in-None c =
+    let l = drop c.args.from c.args.row.now in
+    let whole : take (length c.args.row.now - c.args.from) l ≡ l = take_all _ _ (omega (arith, length-drop c.args.from c.args.row.now)) in
+    let f = before_none c.args.b l (rw whole at (sym c.in-None.is ∙ c.first_place.ensures)) in
+    (omega arith, omega (arith, length-drop c.args.from c.args.row.now, f, before_le c.args.b l))

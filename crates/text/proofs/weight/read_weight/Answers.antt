@@ -1,24 +1,14 @@
--- `text::weight::read_weight` meets its contract.
-use Rattle.text.proofs.WeightLaws.{weights}
+use Rattle.std.proofs.Common.{arith, sym, ◌∙◌}
+use lib.ListN.{get_or-eq_default}
+use Rattle.text.specs.Weights.{weight_of}
+use Rattle.text.specs.Numbers.{number_of}
+use Rattle.text.proofs.WeightLaws.{after_other}
 use Rattle.text.proofs.weight.read_weight.Goals as goal
 
-pub returns-then-f-lt1 : goal.returns-then-f-lt1
-returns-then-f-lt1 c = search weights
+pub returns-in_default-f : goal.returns-in_default-f
+unfolding weight_of number_of
+returns-in_default-f c = rw (sym c.bit_form.ensures ∙ c.in_default.is, after_other 119 c.args.f.now (λ e. omega (arith, get_or-eq_default c.args.f.now 0 {n = 0} (omega arith))))
 
-pub returns-then-f-ne119 : goal.returns-then-f-ne119
-returns-then-f-ne119 c = search weights
-
-pub returns-in_default-read_number : goal.returns-in_default-read_number
-returns-in_default-read_number c = search weights
-
-pub returns-then-n-gt255 : goal.returns-then-n-gt255
-returns-then-n-gt255 c = search weights
-
-pub returns-in_default : goal.returns-in_default
-returns-in_default c = search weights
-
-pub returns-then-bits-ge2139095040 : goal.returns-then-bits-ge2139095040
-returns-then-bits-ge2139095040 c = search weights
-
-pub returns : goal.returns
-returns c = search weights
+pub returns-in_default-f-2 : goal.returns-in_default-f-2
+unfolding weight_of number_of
+returns-in_default-f-2 c = rw (sym c.bit_form.ensures ∙ c.in_default.is, after_other 119 c.args.f.now (λ e. omega arith))

@@ -29,6 +29,6 @@ loop-j-2-preserved c =
 
 pub returns : goal.returns
 returns c =
-    let inverse = c.before.before.before.before.before.args.inverse in
+    let t = c.before.before.before.before.before.args.transform in
     let columns = upto-end _ _ 8 _ c.before.before.before.loop-j.invariant.2 (omega arith) in
-    upto-end _ _ 8 _ c.before.loop-j-2.invariant.2 (omega arith) ∙ ap (λ (s : List Float). upto (on_row (transform8 inverse)) 8 s) columns ∙ transform_is inverse _
+    upto-end _ _ 8 _ c.before.loop-j-2.invariant.2 (omega arith) ∙ ap (λ (s : List Float). upto (on_row (transform8 t)) 8 s) columns ∙ transform_is t _

@@ -1,7 +1,6 @@
-use native.Mathlib.Omega.{arith}
 use borrow.Author.Rules.{rules}
 use Rattle.fold.specs.Fold.{upto}
-use Rattle.fold.proofs.Loops.{upto-call, upto-end}
+use Rattle.fold.proofs.Loops.{upto-call}
 use Rattle.utils.proofs.dct.transform_blocks.Goals as goal
 
 pub loop-i-init : goal.loop-i-init
@@ -12,6 +11,3 @@ pub loop-i-preserved : goal.loop-i-preserved
 loop-i-preserved c =
     let d = c.before.before in
     (search rules, search rules, upto-call _ _ _ d.before.before.before.loop-i.invariant.2 d.transform_block.ensures)
-
-pub returns : goal.returns
-returns c = upto-end _ _ _ _ c.before.loop-i.invariant.2 (omega arith)

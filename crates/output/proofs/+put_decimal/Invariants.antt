@@ -1,5 +1,0 @@
--- `output::put_decimal`, which calls itself, meets its contract: the number falls. Assumes nothing.
-use Rattle.output.proofs.+put_decimal.Given as goal
-
-abbrev pub decreases-put_decimal : goal.decreases-put_decimal
-decreases-put_decimal l = l.n

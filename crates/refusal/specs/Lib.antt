@@ -1,0 +1,2 @@
+-- What the contracts of calls that refuse cite.
+pub mod Refusal

@@ -1,0 +1,17 @@
+use borrow.Author.Rules.{rules}
+use native.Mathlib.Omega.{arith}
+use Rattle.fold.proofs.Loops.{upto-call, upto-end}
+use Rattle.fold.specs.Fold.{upto}
+use Rattle.start.specs.Coef.{dequantise}
+use Rattle.start.proofs.coef.Coef.dequantise.Goals as goal
+
+pub loop-j-init : goal.loop-j-init
+unfolding upto
+loop-j-init c = search rules
+
+pub loop-j-preserved : goal.loop-j-preserved
+loop-j-preserved c = (search rules, upto-call _ _ _ c.loop-j.invariant.1 (search rules))
+
+pub returns : goal.returns
+unfolding dequantise
+returns c = upto-end _ _ _ _ c.loop-j.invariant.1 (omega arith)

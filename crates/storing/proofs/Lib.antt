@@ -1,2 +1,0 @@
--- What storing cites.
-pub mod StoreLaws
