@@ -1,2 +1,3 @@
 -- The theorem.
 pub mod Proved
+pub mod Patterns
