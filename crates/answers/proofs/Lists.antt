@@ -32,3 +32,7 @@ module _ {A : Type 0} where
   stored_listed d f n t {x} h e =
       e ∙ ap (λ (i : ℕ). upto (store_at d f) i t) (sym h)
       ∙ stored d f t (listed f n) (listed_length f n ∙ sym h) (λ i l. sym (listed_at d f n i (subst (λ (m : ℕ). i < m) h l)))
+
+  -- a list that has f k at each place k of n
+  pub listed_of : (d : A) (f : ℕ → A) (n : ℕ) (x : List A) → length x ≡ n → ((k : ℕ) → k < n → get_or x k d ≡ f k) → x ≡ listed f n
+  listed_of d f n x e h = sym (listed_is d f n x e (λ k l. sym (h k l)))

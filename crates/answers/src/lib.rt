@@ -13,6 +13,7 @@ pub fn table_ok(q: u16) -> bool
 }
 
 // Every quantiser is 1 to 255. Ruled out: true where the last is 0; false for no quantisers.
+// Kept: this is one call of std's `all`, as `any_bad` of `projection` is one of `any`, and a function of both would be no plainer than these.
 pub fn tables_ok(tables: &[u16]) -> bool
     ensures { result ≡ all table_ok tables.now }
 {

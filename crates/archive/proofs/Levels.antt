@@ -59,3 +59,7 @@ after_ok false a b h k = k
 pub fits : (n m : ℕ) → fitting n m ≡ true → (m ≡ n) × (n % 64 ≡ 0)
 fits n m e =
     (sym (eqb-true n m (and_left (eqb n m) (eqb (n % 64) 0) e)), eqb-true (n % 64) 0 (and_right (eqb n m) (eqb (n % 64) 0) e))
+
+-- what the archive has at the first place of a block
+pub stored_fits : (levels : List ℤ) (k : ℕ) → all level_ok levels ≡ true → k < length levels → SFits w16 (val levels k -ℤ before levels k)
+stored_fits levels k h l = difference_fits (val levels k) (before levels k) (all-at level_ok (pos 0) levels h k l) (before_ok levels k h l)

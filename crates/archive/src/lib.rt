@@ -2,7 +2,7 @@
 // that of the block before; and back. The functions but `rearrange` and `restore` are internal.
 #![tactic(auto)]
 
-ghost use Rattle.std.specs.Prelude.{◌≡◌, true, ◌%◌, ◌<◌, ◌+ℤ◌, length};
+ghost use Rattle.std.specs.Prelude.{◌≡◌, true, ◌+◌, ◌*◌, ◌/◌, ◌%◌, ◌<◌, ◌≤◌, length};
 ghost use Rattle.answers.specs.Tests.{all, level_ok};
 ghost use Rattle.answers.specs.Answers.{filled};
 ghost use Rattle.refusal.specs.Refusal.{answer_number};
@@ -27,7 +27,7 @@ fn before(levels: &[i16], k: usize) -> i16
 }
 
 // What the archive has at place k.
-#[tactic(auto, using(zigzag::proofs::Places::raster_in), unfolding(crate::specs::Archive::stored_at))]
+#[tactic(auto, using(zigzag::proofs::Places::raster_in, crate::proofs::Levels::stored_fits), unfolding(crate::specs::Archive::stored_at))]
 fn stored_at(levels: &[i16], k: usize) -> i16
     requires { (k < length levels.now) × (length levels.now % 64 ≡ 0) × (all level_ok levels.now ≡ true) }
     ensures { result ≡ stored_at levels.now k }
@@ -39,6 +39,7 @@ fn stored_at(levels: &[i16], k: usize) -> i16
     }
 }
 
+// Kept: a function that takes what to store as a closure would be called by `|k| stored_at(levels, k)`, and be no plainer than this loop of one line.
 fn rearrange_all(levels: &[i16], out: &mut [i16])
     requires { (length out.old ≡ length levels.now) × (length levels.now % 64 ≡ 0) × (all level_ok levels.now ≡ true) }
     ensures { out.new ≡ rearranged levels.now }
@@ -49,9 +50,9 @@ fn rearrange_all(levels: &[i16], out: &mut [i16])
 }
 
 // The level at place p, where `first` is the first level of the block before, or of p's own block behind its first place.
-#[tactic(auto, using(zigzag::proofs::Places::zigzag_in), unfolding(crate::specs::Archive::turned))]
+#[tactic(auto, using(zigzag::proofs::Places::zigzag_within), unfolding(crate::specs::Archive::turned))]
 fn restored_at(stored: &[i16], first: i32, p: usize) -> i32
-    requires { (p < length stored.now) × (length stored.now % 64 ≡ 0) × (level_ok first ≡ true) }
+    requires { (p / 64 * 64 + 64 ≤ length stored.now) × (level_ok first ≡ true) }
     ensures { result ≡ turned stored.now first p }
 {
     if p % 64 == 0 {
@@ -97,7 +98,7 @@ fn restore_all(stored: &[i16], out: &mut [i16])
 }
 
 // The levels of one channel, rearranged for the archive.
-// Kept: one function of both calls would take the test and the writing as closures, and name no clause of theirs more plainly.
+// Kept: one function of both calls would take the test and the writing as closures, with four clauses on what the two may be called with and give, and be no plainer.
 // Ruled out: level 3 at place 3, where T.81 has level 16; and 2048 accepted in the last block, or `out` changed by a refusal.
 #[tactic(auto, unfolding(crate::specs::Archive::rearranging))]
 pub fn rearrange(levels: &[i16], out: &mut [i16]) -> Result<(), Refusal>
@@ -114,6 +115,7 @@ pub fn rearrange(levels: &[i16], out: &mut [i16]) -> Result<(), Refusal>
 }
 
 // The levels of one channel, from what the archive has.
+// Kept: as `rearrange`.
 // Ruled out: a difference of 4,094 refused behind a first level of -2,047; and the differences 2,047 and 1 accepted, whose sum is no level.
 #[tactic(auto, unfolding(crate::specs::Archive::restoring))]
 pub fn restore(stored: &[i16], out: &mut [i16]) -> Result<(), Refusal>

@@ -2,4 +2,3 @@
 pub mod SheetLaws
 pub mod WholeLaws
 pub mod RoundTrip
-pub mod StitchLaws

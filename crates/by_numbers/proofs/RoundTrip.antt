@@ -31,6 +31,7 @@ use Rattle.record.specs.Model.{sheet_of, places_of, given_of}
 use Rattle.rounds.specs.Whole.{job_count, run_blows, run_totals, Whole, last, run_of, Loan, Ends}
 use Rattle.solve.specs.Solve.{reorder_of, joint, alone, iterations_at, steps_before, blend_count, tables_for, separately, whole_of, is_legal, all_legal, solve_refusal, number_in}
 use Rattle.contents.specs.Hold.{hold_at}
+use Rattle.contents.specs.Sheets.{smoothing_at, data_at}
 use Rattle.solve.proofs.Held.{three_held}
 use Rattle.by_numbers.specs.Sheets.{choice_number, numbers_of, weight_bits}
 use Rattle.by_numbers.specs.Whole.{choice_from, sheet_of_numbers, sheet_refusal, numbers_refusal, SolveNumbers}
@@ -111,7 +112,7 @@ module _ (S : Sheet) where
 
   same_blends : blend_count S' ≡ blend_count S
   unfolding sheet_of_numbers numbers_of
-  same_blends = λ i. cond (mode_kept i) S.header.iterations0 (same_steps S.header.channels i)
+  same_blends = λ i. cond (mode_kept i) (iterations_at S 0) (same_steps S.header.channels i)
 
   -- each channel is held after as many steps
   same_held : (c : ℕ) → hold_at S' c ≡ hold_at S c
@@ -120,12 +121,12 @@ module _ (S : Sheet) where
 
   same_joint : joint S' ≡ joint S
   unfolding sheet_of_numbers numbers_of joint
-  same_joint = rw (same_held 0, same_held 1, same_held 2, same_mode S.header.joint, same_letter S.settings.start, same_value S.header.smoothing0, same_value S.header.data0, same_value S.header.data1, same_value S.header.data2)
+  same_joint = rw (same_held 0, same_held 1, same_held 2, same_mode S.header.joint, same_letter S.settings.start, same_value (smoothing_at S.header 0), same_value (data_at S.header 0), same_value (data_at S.header 1), same_value (data_at S.header 2))
 
   same_alone : (c : ℕ) → alone S' c ≡ alone S c
   unfolding sheet_of_numbers numbers_of alone
   same_alone c =
-      rw (same_held c, same_mode S.header.joint, same_letter S.settings.start, same_value S.header.data0, same_choice (eqb c 0) (eqb c 1) S.header.smoothing0 S.header.smoothing1 S.header.smoothing2)
+      rw (same_held c, same_mode S.header.joint, same_letter S.settings.start, same_value (data_at S.header 0), same_choice (eqb c 0) (eqb c 1) (smoothing_at S.header 0) (smoothing_at S.header 1) (smoothing_at S.header 2))
 
   module _ (levels : Levels) (tables : List ℕ) where
     pub same_refusal : (ls : List ℕ) (t : ℕ) → solve_refusal S' levels tables ls t ≡ solve_refusal S levels tables ls t

@@ -24,9 +24,9 @@ use Rattle.rounds.proofs.Ends.{renumber}
 use Rattle.solve.specs.Solve.{all_legal, solve_refusal, whole_of, number_in, SolveIs}
 use Rattle.solve.proofs.Laws.{whole_channels}
 use Rattle.picture.specs.declared.Rounding.{Rounding}
-use Rattle.picture.specs.Finish.{Finished, verdict, finishing}
+use Rattle.picture.specs.Finish.{Finished, verdict, finishing, rounding_from}
 use Rattle.by_numbers.specs.Sheets.{record_count}
-use Rattle.by_numbers.specs.Whole.{sheet_of_numbers, letters_ok, sheet_refusal, numbers_refusal, SolveNumbers, verdict_number, rounding_from, finishing_by, FinishNumbers}
+use Rattle.by_numbers.specs.Whole.{sheet_of_numbers, letters_ok, sheet_refusal, numbers_refusal, SolveNumbers, verdict_number, finishing_by, FinishNumbers}
 
 -- an answer that is not done has left the numbers free
 not_done_ends : (n : ℕ) (w : Whole) (L : Loan) (a : Calls.Answer) (k k' : ℕ → ℕ) (L' : Loan) → byte_of a ≢ 0 → Ends n w L a k L' → Ends n w L a k' L'

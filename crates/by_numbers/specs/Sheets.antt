@@ -1,19 +1,18 @@
 -- The exported reading calls: what they answer and what they leave behind the pointers that they are lent.
-use Rattle.std.specs.Prelude.{ℕ, ◌≡◌, Option, Some, None, List, [], ◌∷◌, ◌++◌, cond, eqb, leb}
+use Rattle.std.specs.Prelude.{ℕ, ◌≡◌, Option, List, [], ◌∷◌, ◌++◌, cond, eqb, leb}
 use Rattle.std.specs.Float.{binary32}
 use Rattle.std.specs.Float.Ieee.{to_bits}
 use Rattle.contents.specs.declared.Weight.{Weight}
 use Rattle.contents.specs.declared.Reader.{Reader}
-use Rattle.contents.specs.declared.Reader.TheVariants as reader
 use Rattle.contents.specs.Weights.{value_of}
 use Rattle.contents.specs.declared.Sheet.{Sheet}
 use Rattle.contents.specs.declared.Letter.{Letter}
-use Rattle.contents.specs.declared.Letter.TheVariants as letter
 use Rattle.contents.specs.declared.Settings.{Settings}
 use Rattle.contents.specs.declared.Header.{Header}
 use Rattle.contents.specs.declared.Channel.{Channel}
-use Rattle.contents.specs.Hold.{hold_at}
-use Rattle.contents.specs.Sheets.{Lent}
+use Rattle.contents.specs.Hold.{iterations_at, hold_at}
+use Rattle.contents.specs.Letters.{chosen}
+use Rattle.contents.specs.Sheets.{Lent, smoothing_at, data_at, channel_at}
 use Rattle.sheet.specs.Reading.{Outcome, Contents}
 use Rattle.sheet.specs.Reading.Outcome.{Gives, Refused}
 use Rattle.sheet.specs.declared.Lengths.{Lengths}
@@ -56,15 +55,13 @@ channel_numbers c = c.width ∷ c.height ∷ c.across ∷ c.down ∷ []
 abbrev pub header_numbers : Header → List ℕ
 header_numbers h =
     h.width ∷ h.height ∷ h.picture_width ∷ h.picture_height ∷ h.channels ∷ cond h.joint 1 0
-    ∷ h.iterations0 ∷ h.iterations1 ∷ h.iterations2
-    ∷ weight_bits h.smoothing0 ∷ weight_bits h.smoothing1 ∷ weight_bits h.smoothing2
-    ∷ weight_bits h.data0 ∷ weight_bits h.data1 ∷ weight_bits h.data2
+    ∷ iterations_at h 0 ∷ iterations_at h 1 ∷ iterations_at h 2
+    ∷ weight_bits (smoothing_at h 0) ∷ weight_bits (smoothing_at h 1) ∷ weight_bits (smoothing_at h 2)
+    ∷ weight_bits (data_at h 0) ∷ weight_bits (data_at h 1) ∷ weight_bits (data_at h 2)
     ∷ []
 
 abbrev pub choice_number : Option Letter → ℕ
-choice_number None = 0
-choice_number (Some letter.First) = 0
-choice_number (Some letter.Second) = 1
+choice_number c = chosen c 0 1
 
 abbrev pub setting_numbers : Settings → List ℕ
 setting_numbers x = choice_number x.rounding ∷ choice_number x.start ∷ []
@@ -74,7 +71,7 @@ held_numbers s = hold_at s 0 ∷ hold_at s 1 ∷ hold_at s 2 ∷ []
 
 unfoldable pub numbers_of : Sheet → List ℕ
 numbers_of s =
-    header_numbers s.header ++ (channel_numbers s.first ++ (channel_numbers s.second ++ (channel_numbers s.third ++ (setting_numbers s.settings ++ held_numbers s))))
+    header_numbers s.header ++ (channel_numbers (channel_at s 0) ++ (channel_numbers (channel_at s 1) ++ (channel_numbers (channel_at s 2) ++ (setting_numbers s.settings ++ held_numbers s))))
 
 -- how many these are, of every sheet
 abbrev pub record_count : ℕ
@@ -85,11 +82,7 @@ abbrev pub with_record : ℕ → Outcome Contents → Outcome Contents
 with_record n (Gives c) = cond (eqb n record_count) (Gives c) (Refused 8 0)
 with_record n (Refused k line) = Refused k line
 
--- who reads, by a number: 0 is staff, 1 is a partner
-abbrev pub reader_from : ℕ → Reader
-reader_from n = cond (eqb n 1) reader.Partner reader.Staff
-
--- the call by a reader's number: 2 at line 0 where it is neither 0 nor 1, before the text is looked at
+-- the call by a reader's number, 0 for staff and 1 for a partner: 2 at line 0 where it is neither 0 nor 1, before the text is looked at
 abbrev pub by_reader : ℕ → Outcome Contents → Outcome Contents
 by_reader n o = cond (leb n 1) o (Refused 2 0)
 

@@ -5,7 +5,7 @@ use Rattle.start.specs.Coef.{Levels}
 use Rattle.contents.specs.declared.Weight.TheVariants as weight
 use Rattle.contents.specs.declared.Sheet.{Sheet}
 use Rattle.contents.specs.declared.Letter.{Letter}
-use Rattle.contents.specs.declared.Letter.TheVariants as letter
+use Rattle.contents.specs.Letters.{letter_from}
 use Rattle.contents.specs.declared.Settings.{Settings}
 use Rattle.contents.specs.declared.Header.{Header}
 use Rattle.contents.specs.declared.Channel.{Channel}
@@ -14,9 +14,7 @@ use Rattle.serve.specs.Serve.{byte_of}
 use Rattle.rounds.specs.Whole.{Loan, Ends}
 use Rattle.solve.specs.Solve.{all_legal, solve_refusal, whole_of, number_in}
 use Rattle.by_numbers.specs.Sheets.{record_count}
-use Rattle.picture.specs.declared.Rounding.{Rounding}
-use Rattle.picture.specs.declared.Rounding.TheVariants as rounding
-use Rattle.picture.specs.Finish.{Verdict, done, refused, Finished, finishing}
+use Rattle.picture.specs.Finish.{Verdict, done, refused, Finished, finishing, rounding_from}
 
 -- ---- the record
 
@@ -31,15 +29,9 @@ header_from ns =
       picture_height = get_or ns 3 0;
       channels = get_or ns 4 0;
       joint = eqb (get_or ns 5 0) 1;
-      iterations0 = get_or ns 6 0;
-      iterations1 = get_or ns 7 0;
-      iterations2 = get_or ns 8 0;
-      smoothing0 = weight.Bits (get_or ns 9 0);
-      smoothing1 = weight.Bits (get_or ns 10 0);
-      smoothing2 = weight.Bits (get_or ns 11 0);
-      data0 = weight.Bits (get_or ns 12 0);
-      data1 = weight.Bits (get_or ns 13 0);
-      data2 = weight.Bits (get_or ns 14 0);
+      iterations = get_or ns 6 0 ∷ get_or ns 7 0 ∷ get_or ns 8 0 ∷ [];
+      smoothing = weight.Bits (get_or ns 9 0) ∷ weight.Bits (get_or ns 10 0) ∷ weight.Bits (get_or ns 11 0) ∷ [];
+      data_weights = weight.Bits (get_or ns 12 0) ∷ weight.Bits (get_or ns 13 0) ∷ weight.Bits (get_or ns 14 0) ∷ [];
     }
 
 -- own sides and factors from place i on
@@ -48,7 +40,7 @@ channel_from ns i =
     record { width = get_or ns i 0; height = get_or ns (i + 1) 0; across = get_or ns (i + 2) 0; down = get_or ns (i + 3) 0 }
 
 abbrev pub choice_from : ℕ → Option Letter
-choice_from n = cond (eqb n 1) (Some letter.Second) (Some letter.First)
+choice_from n = Some (letter_from n)
 
 abbrev pub settings_from : List ℕ → Settings
 settings_from ns =
@@ -56,7 +48,7 @@ settings_from ns =
 
 unfoldable pub sheet_of_numbers : List ℕ → Sheet
 sheet_of_numbers ns =
-    record { header = header_from ns; settings = settings_from ns; first = channel_from ns 15; second = channel_from ns 19; third = channel_from ns 23 }
+    record { header = header_from ns; settings = settings_from ns; channels = channel_from ns 15 ∷ channel_from ns 19 ∷ channel_from ns 23 ∷ [] }
 
 -- ---- solve
 
@@ -86,11 +78,7 @@ abbrev pub verdict_number : Verdict → ℕ
 verdict_number done = 0
 verdict_number (refused n) = n
 
--- 0 is `t`, 1 is `n`
-abbrev pub rounding_from : ℕ → Rounding
-rounding_from n = cond (eqb n 1) rounding.Nearest rounding.Truncate
-
--- the call by a rounding's number: 13 where it is neither 0 nor 1, before anything else
+-- the call by a rounding's number, 0 for `t` and 1 for `n`: 13 where it is neither 0 nor 1, before anything else
 unfoldable pub finishing_by : ℕ → ℕ → ℕ → ℕ → ℕ → ℕ → List Float → List ℕ → Finished
 unfolding finishing
 finishing_by n w h width height channels planes rgb =

@@ -6,9 +6,9 @@ pub mod sheets;
 pub mod stitches;
 
 ghost use Rattle.std.specs.Prelude.{◌≡◌};
-ghost use Rattle.by_numbers.specs.Sheets.{choice_number, numbers_of, weight_bits};
+ghost use Rattle.by_numbers.specs.Sheets.{numbers_of, weight_bits};
 
-use contents::{Letter, Sheet, Weight, held_after};
+use contents::{Sheet, Weight, channel_at, chosen, held_after, of_three};
 
 // How many numbers a sheet's record has.
 pub const NUMBERS: usize = 32;
@@ -20,24 +20,14 @@ fn weight_bits(w: Weight) -> u32
     float::bits::to_bits(contents::weight_value(w))
 }
 
-// A setting's letter by its meaning: 1 for the second, 0 for the first and for no line.
-fn choice_number(c: Option<Letter>) -> u32
-    ensures { result ≡ choice_number c }
-{
-    match c {
-        Some(Letter::Second) => 1,
-        _ => 0,
-    }
-}
-
-// A sheet's record as numbers.
+// A sheet's record as numbers; a setting's letter by its meaning: 1 for the second, 0 for the first and for no line.
 pub fn numbers(s: Sheet) -> [u32; NUMBERS]
     ensures { result ≡ numbers_of s }
 {
     let h = s.header;
-    let a = s.first;
-    let b = s.second;
-    let c = s.third;
+    let a = channel_at(s, 0);
+    let b = channel_at(s, 1);
+    let c = channel_at(s, 2);
     [
         h.width,
         h.height,
@@ -45,15 +35,15 @@ pub fn numbers(s: Sheet) -> [u32; NUMBERS]
         h.picture_height,
         h.channels,
         u32::from(h.joint),
-        h.iterations0,
-        h.iterations1,
-        h.iterations2,
-        weight_bits(h.smoothing0),
-        weight_bits(h.smoothing1),
-        weight_bits(h.smoothing2),
-        weight_bits(h.data0),
-        weight_bits(h.data1),
-        weight_bits(h.data2),
+        h.iterations[0],
+        h.iterations[1],
+        h.iterations[2],
+        weight_bits(of_three(0, h.smoothing)),
+        weight_bits(of_three(1, h.smoothing)),
+        weight_bits(of_three(2, h.smoothing)),
+        weight_bits(of_three(0, h.data_weights)),
+        weight_bits(of_three(1, h.data_weights)),
+        weight_bits(of_three(2, h.data_weights)),
         a.width,
         a.height,
         a.across,
@@ -66,8 +56,8 @@ pub fn numbers(s: Sheet) -> [u32; NUMBERS]
         c.height,
         c.across,
         c.down,
-        choice_number(s.settings.rounding),
-        choice_number(s.settings.start),
+        chosen(s.settings.rounding, 0, 1),
+        chosen(s.settings.start, 0, 1),
         held_after(s, 0),
         held_after(s, 1),
         held_after(s, 2),

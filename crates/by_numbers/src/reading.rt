@@ -1,9 +1,9 @@
-// Reading a text into lent buffers, with the sheet's record as numbers, and the reader by its number.
+// Reading a text into lent buffers, with the sheet's record as numbers.
 ghost use Rattle.std.specs.Prelude.{length};
 ghost use Rattle.contents.specs.Sheets.{lent};
 ghost use Rattle.sheet.specs.Calls.{reading};
 ghost use Rattle.sheet.specs.Walk.{said};
-ghost use Rattle.by_numbers.specs.Sheets.{ReadsNumbers, with_record, reader_from, by_reader, line_in, number_in};
+ghost use Rattle.by_numbers.specs.Sheets.{ReadsNumbers, with_record, line_in, number_in};
 
 use crate::{NUMBERS, numbers};
 use contents::{Limits, Reader};
@@ -11,7 +11,8 @@ use refusal::Refusal;
 use sheet::walk::Refused;
 
 // Reads for this reader. Where there is no room for the record's numbers, 8 is the last fault.
-fn read_as(
+// Ruled out: 8 for a text that is itself refused; the numbers of a text that is refused.
+pub fn read(
     text: &[u8],
     limits: Limits,
     who: Reader,
@@ -34,31 +35,4 @@ fn read_as(
             line: 0,
         })
     }
-}
-
-// Reads by the reader's number: 0 is staff, 1 a partner; another is 2 at line 0, before the text is looked at.
-// Ruled out: a partner's number read as staff; 1 at line 1 for a bad text where the reader's number is 2.
-pub fn read(
-    text: &[u8],
-    limits: Limits,
-    partner: u32,
-    lows: &mut [i16],
-    highs: &mut [i16],
-    tables: &mut [u16],
-    header: &mut [u32],
-) -> Result<(), Refused>
-    ensures { ReadsNumbers (reader_from partner) (by_reader partner (with_record (length header.old) (reading limits text.now (lent lows.old highs.old tables.old))))
-        (lent lows.old highs.old tables.old) (lent lows.new highs.new tables.new) header.old header.new (line_in (said result)) (number_in (said result)) }
-{
-    let who = match partner {
-        0 => Reader::Staff,
-        1 => Reader::Partner,
-        _ => {
-            return Err(Refused {
-                refusal: Refusal::Size,
-                line: 0,
-            });
-        }
-    };
-    read_as(text, limits, who, lows, highs, tables, header)
 }

@@ -10,7 +10,8 @@ use borrow.Author.Tests.{eq-eqb, ne_eqb}
 use Rattle.contents.specs.declared.Limits.{Limits}
 use Rattle.contents.specs.declared.Header.{Header}
 use Rattle.contents.specs.declared.Sheet.{Sheet}
-use Rattle.contents.specs.Hold.{of_three, iterations_at, measured, count_at, hold_at, LegalHold}
+use Rattle.contents.specs.Three.{of_three}
+use Rattle.contents.specs.Hold.{iterations_at, measured, count_at, hold_at, LegalHold}
 use Rattle.contents.specs.Legal.{LegalHeader}
 
 module _ (c k l m : ℕ) where
@@ -18,7 +19,7 @@ module _ (c k l m : ℕ) where
   three_0 e = rw (eq-eqb c 0 e)
 
 module _ (h : Header) (c r : ℕ) where
-  pub measured_first : h.channels ≡ 3 → h.joint ≡ true → h.iterations0 ≡ measured h c
+  pub measured_first : h.channels ≡ 3 → h.joint ≡ true → iterations_at h 0 ≡ measured h c
   unfolding measured
   measured_first e j = rw (eq-eqb h.channels 3 e, j)
 
@@ -39,8 +40,7 @@ either false x y n p q = q
 pub measured_most : (h : Header) (limits : Limits) → LegalHeader limits h → (c : ℕ) → measured h c ≤ limits.iterations
 unfolding measured
 measured_most h limits l c =
-    either (eqb h.channels 3 && h.joint) _ _ _ l.iterations0
-    (either (eqb c 0) _ _ _ l.iterations0 (either (eqb c 1) _ _ _ l.iterations1 l.iterations2))
+    either (eqb h.channels 3 && h.joint) _ _ _ (l.iterations 0) (l.iterations c)
 
 count_most : (x : Option (List ℕ)) (h : Header) → LegalHold h x → (c : ℕ) → count_at x h c ≤ measured h c
 unfolding measured

@@ -2,26 +2,20 @@
 use Rattle.std.specs.Prelude.{ℕ, ◌≤◌, ◌≡◌, List, length, get_or, cond, ◌&&◌, eqb, Option, Some, None}
 use Rattle.contents.specs.declared.Header.{Header}
 use Rattle.contents.specs.declared.Sheet.{Sheet}
-
--- the one of three values at the place c
-abbrev pub of_three : ℕ → ℕ → ℕ → ℕ → ℕ
-of_three c k l m = cond (eqb c 0) k (cond (eqb c 1) l m)
-
-abbrev pub three_at : ℕ → List ℕ → ℕ
-three_at c l = of_three c (get_or l 0 0) (get_or l 1 0) (get_or l 2 0)
+use Rattle.contents.specs.Three.{three_at}
 
 -- the iteration count at a channel's place
 abbrev pub iterations_at : Header → ℕ → ℕ
-iterations_at h c = of_three c h.iterations0 h.iterations1 h.iterations2
+iterations_at h c = three_at 0 c h.iterations
 
 -- "the iteration count it is measured against: the one at its place, or with three channels in joint mode the first"
 unfoldable pub measured : Header → ℕ → ℕ
-measured h c = cond (eqb h.channels 3 && h.joint) h.iterations0 (iterations_at h c)
+measured h c = cond (eqb h.channels 3 && h.joint) (iterations_at h 0) (iterations_at h c)
 
 -- "A line `H` with three step counts ..; absent, each equals the iteration count it is measured against"
 abbrev pub count_at : Option (List ℕ) → Header → ℕ → ℕ
 count_at None h c = measured h c
-count_at (Some l) h c = three_at c l
+count_at (Some l) h c = three_at 0 c l
 
 -- after how many steps channel c of a sheet is held
 unfoldable pub hold_at : Sheet → ℕ → ℕ

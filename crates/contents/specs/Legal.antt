@@ -7,8 +7,8 @@ use Rattle.contents.specs.declared.Limits.{Limits}
 use Rattle.contents.specs.declared.Header.{Header}
 use Rattle.contents.specs.declared.Channel.{Channel}
 use Rattle.contents.specs.declared.Sheet.{Sheet}
-use Rattle.contents.specs.Hold.{LegalHold}
-use Rattle.contents.specs.Sheets.{Lent, Marked, Held, no_channel, channel_at, levels_to}
+use Rattle.contents.specs.Hold.{iterations_at, LegalHold}
+use Rattle.contents.specs.Sheets.{Lent, Marked, Held, no_channel, smoothing_at, data_at, channel_at, levels_to}
 use Rattle.contents.specs.Marks.{block_of, has_block, among}
 
 pub record Between (a b n : ℕ) : Type 0 where
@@ -42,15 +42,12 @@ pub record LegalHeader (limits : Limits) (h : Header) : Type 0 where
   pub shown_width : Between 1 h.width h.picture_width
   pub shown_height : Between 1 h.height h.picture_height
   pub channels : (h.channels ≡ 1) ⊎ (h.channels ≡ 3)
-  pub iterations0 : h.iterations0 ≤ limits.iterations
-  pub iterations1 : h.iterations1 ≤ limits.iterations
-  pub iterations2 : h.iterations2 ≤ limits.iterations
-  pub smoothing0 : LegalWeight h.smoothing0
-  pub smoothing1 : LegalWeight h.smoothing1
-  pub smoothing2 : LegalWeight h.smoothing2
-  pub data0 : LegalWeight h.data0
-  pub data1 : LegalWeight h.data1
-  pub data2 : LegalWeight h.data2
+  pub three_iterations : length h.iterations ≡ 3
+  pub three_smoothing : length h.smoothing ≡ 3
+  pub three_data : length h.data_weights ≡ 3
+  pub iterations : (c : ℕ) → iterations_at h c ≤ limits.iterations
+  pub smoothing : (c : ℕ) → LegalWeight (smoothing_at h c)
+  pub data_weights : (c : ℕ) → LegalWeight (data_at h c)
 
 -- An own side is a side, and by its cover no larger than the full one
 pub record LegalChannel (h : Header) (c : Channel) : Type 0 where
@@ -79,6 +76,7 @@ pub record LegalSheet (limits : Limits) (s : Sheet) (h : Lent) : Type 0 where
   pub limits_legal : LegalLimits limits
   pub header : LegalHeader limits s.header
   pub hold : LegalHold s.header s.settings.hold
+  pub three_channels : length s.channels ≡ 3
   pub channel : (j : ℕ) → j < s.header.channels → LegalChannel s.header (channel_at s j)
   pub spare : (j : ℕ) → s.header.channels ≤ j → j < 3 → channel_at s j ≡ no_channel
   pub lows_count : length h.lows ≡ levels_to s s.header.channels

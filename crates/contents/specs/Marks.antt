@@ -6,17 +6,17 @@ use Rattle.contents.specs.declared.Mark.{Mark}
 use Rattle.contents.specs.declared.Reader.{Reader}
 use Rattle.contents.specs.declared.Reader.TheVariants as reader
 use Rattle.contents.specs.Sheets.{Lent, lent, Marked, Held, channel_at}
-use Rattle.contents.specs.Hold.{of_three}
+use Rattle.contents.specs.Three.{of_three}
 
 -- "w × h / 64" blocks of a channel; those of the channels before channel c, and of all
 abbrev pub blocks_in : Channel → ℕ
 blocks_in c = c.width * c.height / 64
 
 abbrev pub blocks_before : Sheet → ℕ → ℕ
-blocks_before s c = of_three c 0 (blocks_in s.first) (blocks_in s.first + blocks_in s.second)
+blocks_before s c = of_three c 0 (blocks_in (channel_at s 0)) (blocks_in (channel_at s 0) + blocks_in (channel_at s 1))
 
 abbrev pub all_blocks : Sheet → ℕ
-all_blocks s = blocks_in s.first + blocks_in s.second + blocks_in s.third
+all_blocks s = blocks_in (channel_at s 0) + blocks_in (channel_at s 1) + blocks_in (channel_at s 2)
 
 -- "channel, block row and block column (from 0)": the number of that block in the order of the text, "blocks .. row by row"
 unfoldable pub block_of : Sheet → Mark → ℕ

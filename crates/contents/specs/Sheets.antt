@@ -1,11 +1,13 @@
 -- A sheet's channels, and what stands beside it: levels, tables and the kinds of its blocks.
-use Rattle.std.specs.Prelude.{ℕ, zero, suc, ◌+◌, ◌*◌, List, [], ◌∷◌, Bool, cond, false, take, eqb, ℤ, None}
+use Rattle.std.specs.Prelude.{ℕ, zero, suc, ◌+◌, ◌*◌, List, [], ◌∷◌, Bool, false, take, ℤ, None}
 use Rattle.contents.specs.declared.Header.{Header}
 use Rattle.contents.specs.declared.Channel.{Channel}
 use Rattle.contents.specs.declared.Sheet.{Sheet}
 use Rattle.contents.specs.declared.Mark.{Mark}
+use Rattle.contents.specs.declared.Weight.{Weight}
 use Rattle.contents.specs.declared.Weight.TheVariants as weight
 use Rattle.contents.specs.declared.Settings.{Settings}
+use Rattle.contents.specs.Three.{three_at}
 
 -- What goes to the lent buffers: the lowest and the highest level of each place, and the tables
 pub record Lent : Type 0 where
@@ -37,7 +39,10 @@ held b rs ms = record { lent = b; ranged = rs; marks = ms }
 abbrev pub nothing : Held
 nothing = held (lent [] [] []) [] []
 
--- no header, no settings, no channel
+-- no weight, no header, no settings, no channel
+abbrev pub no_weight : Weight
+no_weight = weight.Whole 0
+
 abbrev pub no_header : Header
 no_header =
     record {
@@ -47,15 +52,9 @@ no_header =
       picture_height = 0;
       channels = 0;
       joint = false;
-      iterations0 = 0;
-      iterations1 = 0;
-      iterations2 = 0;
-      smoothing0 = weight.Whole 0;
-      smoothing1 = weight.Whole 0;
-      smoothing2 = weight.Whole 0;
-      data0 = weight.Whole 0;
-      data1 = weight.Whole 0;
-      data2 = weight.Whole 0;
+      iterations = 0 ∷ 0 ∷ 0 ∷ [];
+      smoothing = no_weight ∷ no_weight ∷ no_weight ∷ [];
+      data_weights = no_weight ∷ no_weight ∷ no_weight ∷ [];
     }
 
 abbrev pub no_settings : Settings
@@ -64,9 +63,16 @@ no_settings = record { rounding = None; start = None; hold = None }
 abbrev pub no_channel : Channel
 no_channel = record { width = 0; height = 0; across = 0; down = 0 }
 
+-- the smoothing weight and the data weight at a channel's place
+abbrev pub smoothing_at : Header → ℕ → Weight
+smoothing_at h c = three_at no_weight c h.smoothing
+
+abbrev pub data_at : Header → ℕ → Weight
+data_at h c = three_at no_weight c h.data_weights
+
 -- channel j of a sheet
 abbrev pub channel_at : Sheet → ℕ → Channel
-channel_at s j = cond (eqb j 0) s.first (cond (eqb j 1) s.second s.third)
+channel_at s j = three_at no_channel j s.channels
 
 -- the levels of the first j channels
 abbrev pub levels_to : Sheet → ℕ → ℕ
@@ -75,4 +81,4 @@ levels_to s (suc j) = levels_to s j + (channel_at s j).width * (channel_at s j).
 
 -- the channels in use
 abbrev pub channels_of : Sheet → List Channel
-channels_of s = take s.header.channels (s.first ∷ s.second ∷ s.third ∷ [])
+channels_of s = take s.header.channels s.channels

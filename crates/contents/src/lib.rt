@@ -3,8 +3,10 @@
 
 ghost use Rattle.std.specs.Prelude.{◌≡◌, ◌<◌};
 ghost use Rattle.contents.specs.Weights.{value_of};
-ghost use Rattle.contents.specs.Hold.{three_at, measured, hold_at};
-ghost use Rattle.contents.specs.Sheets.{channel_at};
+ghost use Rattle.contents.specs.Three.{three_at};
+ghost use Rattle.contents.specs.Letters.{chosen, letter_from, reader_from};
+ghost use Rattle.contents.specs.Hold.{measured, hold_at};
+ghost use Rattle.contents.specs.Sheets.{channel_at, channels_of};
 ghost use Rattle.contents.specs.Marks.{blocks_in, blocks_before, block_of, has_block};
 
 // A weight: the bits of an f32, or a whole number.
@@ -29,16 +31,11 @@ pub struct Header {
     pub picture_width: u32,
     pub picture_height: u32,
     pub channels: u32,
+    // Kept: it is the mode itself, j or s, and each use asks whether it is j; an enum of the two would make each a comparison with one of them.
     pub joint: bool,
-    pub iterations0: u32,
-    pub iterations1: u32,
-    pub iterations2: u32,
-    pub smoothing0: Weight,
-    pub smoothing1: Weight,
-    pub smoothing2: Weight,
-    pub data0: Weight,
-    pub data1: Weight,
-    pub data2: Weight,
+    pub iterations: [u32; 3],
+    pub smoothing: [Weight; 3],
+    pub data_weights: [Weight; 3],
 }
 
 // A channel line but for its quantisers: own sides and factors.
@@ -55,6 +52,20 @@ pub struct Channel {
 pub enum Letter {
     First,
     Second,
+}
+
+// By number: 1 is the second letter, every other number the first.
+impl From<u32> for Letter {
+    ghost from_gives = { λ n r. r ≡ letter_from n };
+
+    // Kept: two arms each; a trait or a macro over the enums of two would be longer than the impls.
+    fn from(n: u32) -> Letter {
+        if n == 1 {
+            Letter::Second
+        } else {
+            Letter::First
+        }
+    }
 }
 
 // The settings, each where a line says it: F, the rounding, t or n; A, the start, m or o; H, after how many steps each of three channels is held.
@@ -80,14 +91,36 @@ pub enum Reader {
     Partner,
 }
 
+// By number: 1 is a partner, every other number staff.
+impl From<u32> for Reader {
+    ghost from_gives = { λ n r. r ≡ reader_from n };
+
+    // Kept: as that of `Letter`.
+    fn from(n: u32) -> Reader {
+        if n == 1 {
+            Reader::Partner
+        } else {
+            Reader::Staff
+        }
+    }
+}
+
 // A sheet but for its levels and quantisers. With one channel the second and third are zero.
 #[derive(Clone, Copy, Debug, PartialEq, Eq)]
 pub struct Sheet {
     pub header: Header,
     pub settings: Settings,
-    pub first: Channel,
-    pub second: Channel,
-    pub third: Channel,
+    pub channels: [Channel; 3],
+}
+
+impl Sheet {
+    // The lines of the channels in use. Ruled out: three lines for a sheet of one channel; the last channels in the place of the first.
+    pub fn in_use(&self) -> &[Channel]
+        ensures { result.now ≡ channels_of self.now }
+    {
+        let n = self.header.channels as usize;
+        &self.channels[..n.min(3)]
+    }
 }
 
 // The weight as an f32: by its bits, or the whole number exactly. Bits that no legal weight has count too; all NaNs are one.
@@ -108,13 +141,25 @@ pub fn weight_value(w: Weight) -> f32
 }
 
 // The one of three values at the place c; every number above 1 is the third place.
-fn of_three(c: u32, values: [u32; 3]) -> u32
-    ensures { result ≡ three_at c values }
+// Ruled out: the second for place 0; the first for the numbers above 2.
+pub fn of_three<T: Copy>(c: u32, values: [T; 3]) -> T
+    ensures { (none : T) → result ≡ three_at none c values }
 {
     match c {
         0 => values[0],
         1 => values[1],
         _ => values[2],
+    }
+}
+
+// By a setting's letter the first or the second value.
+// Ruled out: the second where no line says the setting; the first for the second letter.
+pub fn chosen<T: Copy>(setting: Option<Letter>, first: T, second: T) -> T
+    ensures { result ≡ chosen setting first second }
+{
+    match setting {
+        None | Some(Letter::First) => first,
+        Some(Letter::Second) => second,
     }
 }
 
@@ -124,9 +169,9 @@ pub fn measured_by(h: Header, c: u32) -> u32
     ensures { result ≡ measured h c }
 {
     if h.channels == 3 && h.joint {
-        h.iterations0
+        h.iterations[0]
     } else {
-        of_three(c, [h.iterations0, h.iterations1, h.iterations2])
+        of_three(c, h.iterations)
     }
 }
 
@@ -144,11 +189,7 @@ pub fn held_after(s: Sheet, c: u32) -> u32
 pub fn channel_at(s: Sheet, c: u32) -> Channel
     ensures { result ≡ channel_at s c }
 {
-    match c {
-        0 => s.first,
-        1 => s.second,
-        _ => s.third,
-    }
+    of_three(c, s.channels)
 }
 
 // How many blocks a channel has. The product of two u32 fits 64 bits.
@@ -164,8 +205,8 @@ fn blocks_before(s: Sheet, c: u32) -> u64
 {
     match c {
         0 => 0,
-        1 => blocks_in(s.first),
-        _ => blocks_in(s.first) + blocks_in(s.second),
+        1 => blocks_in(s.channels[0]),
+        _ => blocks_in(s.channels[0]) + blocks_in(s.channels[1]),
     }
 }
 

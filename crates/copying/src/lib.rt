@@ -20,16 +20,6 @@ pub struct Texts<'a> {
     pub right: &'a [u8],
 }
 
-// Writes bytes from place `at` on, as far as there is room.
-fn paste(out: &mut [u8], at: usize, bytes: &[u8])
-    ensures { out.new ≡ sets out.old at bytes.now }
-{
-    if at < out.len() {
-        let n = bytes.len().min(out.len() - at);
-        out[at..at + n].copy_from_slice(&bytes[..n]);
-    }
-}
-
 impl<'a> Writer<'a> {
     // An output that is written from its front on.
     pub fn new(out: &'a mut [u8]) -> Writer<'a>
@@ -56,11 +46,15 @@ impl<'a> Writer<'a> {
         requires { self.old.at + length bytes.now < 2 ^ 64 }
         ensures { Put self.old bytes.now self.new }
     {
-        paste(self.out, self.at, bytes);
+        if self.at < self.out.len() {
+            let n = bytes.len().min(self.out.len() - self.at);
+            self.out[self.at..self.at + n].copy_from_slice(&bytes[..n]);
+        }
         self.at += bytes.len();
     }
 
     // The decimal digits of n, at most k of them.
+    // Kept: `write!` asks for an impl of `fmt::Write`, which may require nothing of the count that goes on past the output's end, and answers an error that never comes.
     fn put_digits(&mut self, k: usize, n: usize)
         requires { self.old.at + length (digits_of k n) < 2 ^ 64 }
         ensures { Put self.old (digits_of k n) self.new }

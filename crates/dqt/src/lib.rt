@@ -2,11 +2,11 @@
 // destination, 64 quantisers each, row by row. The functions but `import` and `export` are internal.
 #![tactic(auto)]
 
-ghost use Rattle.std.specs.Prelude.{◌≡◌, true, ◌+◌, ◌<◌, ◌≤◌, length};
+ghost use Rattle.std.specs.Prelude.{◌≡◌, true, ◌+◌, ◌<◌, ◌≤◌, length, drop};
 ghost use Rattle.answers.specs.Tests.{all, table_ok};
 ghost use Rattle.answers.specs.Answers.{filled};
 ghost use Rattle.refusal.specs.Refusal.{answer_number};
-ghost use Rattle.dqt.specs.Dqt.{val, framed, started, head_ok, non_zero, fault, faults, unzigzagged, stored, imported, table_byte, exported_at, exported, importing, exporting};
+ghost use Rattle.dqt.specs.Dqt.{val, framed, start, started, head_ok, non_zero, fault, faults, unzigzagged, stored, imported, table_byte, exported_at, exported, importing, exporting};
 
 use answers::tables_ok;
 use refusal::Refusal;
@@ -27,10 +27,9 @@ fn framed(s: &[u8]) -> bool
 
 // How many tables the segment has, with one that it breaks off.
 fn started(s: &[u8]) -> usize
-    requires { 5 ≤ length s.now }
     ensures { result ≡ started s.now }
 {
-    (s.len() - 5) / 65 + 1
+    s.len().saturating_sub(4).div_ceil(65)
 }
 
 // Precision 0 and a destination of at most 3.
@@ -40,25 +39,34 @@ fn head_ok(b: u8) -> bool
     b / 16 == 0 && b % 16 <= 3
 }
 
+// Kept: this and `any` of `rows` are each one call of the library with a test of its own; a function that takes the test would be that call again.
 fn non_zero(s: &[u8]) -> bool
     ensures { result ≡ all non_zero s.now }
 {
     s.iter().all(|&b| b != 0)
 }
 
-// What is wrong with the table that starts at `at`.
-#[tactic(auto, unfolding(crate::specs::Dqt::fault))]
-fn fault(s: &[u8], at: usize) -> Result<(), Refusal>
-    requires { at < length s.now }
-    ensures { answer_number result ≡ fault s.now at }
+// The segment from table t on.
+fn from_table(s: &[u8], t: usize) -> &[u8]
+    requires { start t ≤ length s.now }
+    ensures { result.now ≡ drop (start t) s.now }
 {
-    if !head_ok(s[at]) {
+    &s[4 + t * 65..]
+}
+
+// What is wrong with the table that `rest` starts with.
+#[tactic(auto, unfolding(crate::specs::Dqt::fault))]
+fn fault(rest: &[u8]) -> Result<(), Refusal>
+    requires { 0 < length rest.now }
+    ensures { answer_number result ≡ fault rest.now 0 }
+{
+    if !head_ok(rest[0]) {
         return Err(Refusal::Precision);
     }
-    if s.len() - at < 65 {
+    if rest.len() < 65 {
         return Err(Refusal::Segment);
     }
-    if !non_zero(&s[at + 1..at + 65]) {
+    if !non_zero(&rest[1..65]) {
         return Err(Refusal::Table);
     }
     Ok(())
@@ -66,11 +74,10 @@ fn fault(s: &[u8], at: usize) -> Result<(), Refusal>
 
 // The first fault, table by table.
 fn faults(s: &[u8]) -> Result<(), Refusal>
-    requires { 5 ≤ length s.now }
     ensures { answer_number result ≡ faults s.now }
 {
     for t in 0..started(s) {
-        fault(s, 4 + t * 65)?;
+        fault(from_table(s, t))?;
     }
     Ok(())
 }
@@ -87,28 +94,28 @@ fn unzigzag(bytes: &[u8], table: &mut [u16])
     }
 }
 
-// The table that starts at `at`, stored at its destination.
+// The table that `rest` starts with, stored at its destination.
 #[tactic(auto, using(crate::proofs::Frames::head_small))]
-fn store(s: &[u8], at: usize, tables: &mut [u16])
-    requires { (at + 65 ≤ length s.now) × (head_ok (val s.now at) ≡ true) × (length tables.old ≡ 256) }
-    ensures { tables.new ≡ stored s.now at tables.old }
+fn store(rest: &[u8], tables: &mut [u16])
+    requires { (65 ≤ length rest.now) × (head_ok (val rest.now 0) ≡ true) × (length tables.old ≡ 256) }
+    ensures { tables.new ≡ stored rest.now 0 tables.old }
 {
-    let low = usize::from(s[at]) * 64;
-    unzigzag(&s[at + 1..at + 65], &mut tables[low..low + 64]);
+    let low = usize::from(rest[0]) * 64;
+    unzigzag(&rest[1..65], &mut tables[low..low + 64]);
 }
 
 fn store_all(s: &[u8], tables: &mut [u16])
-    requires { (5 ≤ length s.now) × (faults s.now ≡ 0) × (length tables.old ≡ 256) }
+    requires { (faults s.now ≡ 0) × (length tables.old ≡ 256) }
     ensures { tables.new ≡ imported s.now tables.old }
 {
     for t in 0..started(s) {
-        store(s, 4 + t * 65, tables);
+        store(from_table(s, t), tables);
     }
 }
 
 // The tables of a segment, each stored at its destination; the others keep theirs.
 // Ruled out: quantisers left in zigzag order; and the first table of a segment stored whose second one is refused.
-#[tactic(auto, using(crate::proofs::Frames::framed_long), unfolding(crate::specs::Dqt::importing))]
+#[tactic(auto, unfolding(crate::specs::Dqt::importing))]
 pub fn import(segment: &[u8], tables: &mut [u16]) -> Result<(), Refusal>
     ensures { filled (answer_number result) tables.new ≡ importing segment.now tables.old }
 {
@@ -159,6 +166,7 @@ fn exported_at(tables: FourTables, i: usize) -> u8
     }
 }
 
+// Kept: as `archive::rearrange_all`: a closure would be no plainer than this loop of one line.
 fn export_all(tables: FourTables, out: &mut [u8])
     requires { length out.old ≡ 264 }
     ensures { out.new ≡ exported tables.entry.quantisers.now }

@@ -1,3 +1,2 @@
 -- The theorem.
 pub mod Proved
-pub mod Patterns

@@ -3,9 +3,10 @@ ghost use Rattle.std.specs.Prelude.{◌≡◌, ◌+◌, ◌*◌, ◌≤◌, ◌<
 ghost use Rattle.start.specs.Coef.{block_h, block_w, px_count};
 ghost use Rattle.start.specs.AsCoef.{as_coef};
 ghost use Rattle.interval.specs.Interval.{mid};
-ghost use Rattle.fidelity.specs.DctGradient.{cosb_of, cosbs_of, spread, spread_block, dct_gradient, data_gradient};
+ghost use Rattle.fidelity.specs.DctGradient.{cosb_of, cosbs_of, spread_block, dct_gradient, data_gradient};
 
-use start::coef::Coef;
+use start::coef::{Coef, Sample};
+use utils::dct::{Transform, transform8x8};
 
 // A coefficient's difference from half sum × quantiser, over the quantiser's square.
 fn cosb_of(low: i16, high: i16, q: u16, cosb: f32) -> f32
@@ -26,19 +27,12 @@ fn cosbs_of(cos: &[f32], coef: &Coef, i: usize) -> [f32; 64]
     for (j, &q) in coef.table.iter().enumerate() {
         cosbs[j] = cosb_of(coef.lows[at + j], coef.highs[at + j], q, cosbs[j]);
     }
-    utils::dct::idct8x8(&mut cosbs);
+    transform8x8(&mut cosbs, Transform::Inverse);
     cosbs
 }
 
-// v, times alpha, is added at the places of the own sample (cx, cy).
-fn spread(gradient: &mut [f32], coef: &Coef, alpha: f32, v: f32, cy: usize, cx: usize)
-    requires { (cy < coef.now.own.height) × (cx < coef.now.own.width) × (length gradient.old ≡ coef.now.w * coef.now.h) }
-    ensures { gradient.new ≡ spread coef.now.own coef.now.w alpha v cy cx gradient.old }
-{
-    coef.change(gradient, cy, cx, |x| wide::mul_add(alpha, v, x));
-}
-
-// The same for the 64 values of the block (bx, by).
+// v, times alpha, is added at the places of each of the 64 own samples of the block (bx, by), v being that sample's value.
+// Kept: with the gradient as a field of a struct, the clause on its length would give way to one that the field is still the slice that was lent.
 fn spread_block(gradient: &mut [f32], coef: &Coef, alpha: f32, cosbs: &[f32], by: usize, bx: usize)
     requires { (by < block_h coef.now.own) × (bx < block_w coef.now.own) × (length cosbs.now ≡ 64) × (length gradient.old ≡ coef.now.w * coef.now.h) }
     ensures { gradient.new ≡ spread_block coef.now.own coef.now.w alpha cosbs.now by bx gradient.old }
@@ -46,7 +40,12 @@ fn spread_block(gradient: &mut [f32], coef: &Coef, alpha: f32, cosbs: &[f32], by
     for y in 0..8 {
         for x in 0..8 {
             let v = cosbs[y * 8 + x];
-            spread(gradient, coef, alpha, v, by * 8 + y, bx * 8 + x);
+            let sample = Sample {
+                coef,
+                cy: by * 8 + y,
+                cx: bx * 8 + x,
+            };
+            sample.change(gradient, |g| wide::mul_add(alpha, v, g));
         }
     }
 }

@@ -6,6 +6,7 @@ ghost use Rattle.float.specs.Names.{◌⊗◌, ◌⊞◌};
 
 // The method `f64::mul_add` of two widened f32 and an f64: a * b + t, rounded once. The product of two f32 is exact in f64.
 // Ruled out: the product rounded to f32 before the sum; the sum rounded to f32.
+#[tactic(auto, using(crate::proofs::Wider::fused_by_product))]
 pub fn mul_add(a: f32, b: f32, t: f64) -> f64
     ensures { result ≡ fused_at binary64 a b t }
 {
@@ -26,6 +27,7 @@ const NAN_BITS: u64 = 0x7ff8000000000000;
 // Kept: as `bits::to_bits`.
 // The bits of x; `NAN_BITS` for the NaN.
 // Ruled out: the bits of +0 for -0; a NaN's bits for an infinity.
+#[tactic(auto, using(crate::proofs::Fields::nan_pattern_64))]
 pub fn to_bits(x: f64) -> u64
     ensures { result ≡ to_bits binary64 x }
 {

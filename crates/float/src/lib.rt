@@ -15,6 +15,7 @@ ghost use Rattle.float.specs.Whole.{IsPositive};
 
 // The method `mul_add`: a * b + c, rounded once.
 // Ruled out: the product rounded before the sum (0 for 1 + 2^-23, 1 - 2^-23, -1); -0 where the exact sum cancels.
+#[tactic(auto, using(crate::proofs::Values::fused_value, crate::proofs::Values::fused_left, crate::proofs::Values::fused_right, crate::proofs::Values::fused_last, crate::proofs::Fields::not_finite, crate::proofs::Fields::is_finite))]
 pub fn mul_add(a: f32, b: f32, c: f32) -> f32
     ensures { result ≡ fused a b c }
 {
@@ -39,6 +40,7 @@ pub fn mul_add(a: f32, b: f32, c: f32) -> f32
 
 // The function `f32::midpoint`: (a + b) / 2, rounded once.
 // Ruled out: an infinity for two largest values, whose sum overflows; a half sum of subnormals that loses its last digit before it is rounded.
+#[tactic(auto, using(crate::proofs::Values::midpoint_left, crate::proofs::Values::midpoint_right, crate::proofs::Values::midpoint_value, crate::proofs::Fields::not_finite))]
 pub fn midpoint(a: f32, b: f32) -> f32
     ensures { result ≡ midpoint a b }
 {
@@ -60,6 +62,7 @@ pub fn sqrt(x: f32) -> f32
 
 // The method `sqrt`, where `positive_root(m, k)` gives the root of m * 2^k of the format's smallest values.
 // Ruled out: the root of a value below 0 taken as that of its size; +0 for -0.
+#[tactic(auto, using(crate::proofs::RootCases::root_infinite, crate::proofs::RootCases::root_none, crate::proofs::RootCases::root_zero, crate::proofs::RootCases::root_negative, crate::proofs::RootCases::root_value, crate::proofs::Fields::not_finite))]
 pub fn sqrt_by<F: Fn(u64, u32) -> f32>(x: f32, positive_root: F) -> f32
     requires callable { (m k : ℕ) → IsPositive m k → F.pre positive_root m k }
     requires gives { (m k : ℕ) (r : Float) → IsPositive m k → F.post positive_root m k r → r ≡ root_of m k }
@@ -83,6 +86,7 @@ pub fn sqrt_by<F: Fn(u64, u32) -> f32>(x: f32, positive_root: F) -> f32
 
 // The macro `mul_add!`: the product is rounded, then the sum.
 // Ruled out: the fused product; the sum of a and b rounded first.
+#[tactic(auto, unfolding(crate::specs::Ops::mul_add))]
 pub fn mul_add_rounded(a: f32, b: f32, c: f32) -> f32
     ensures { result ≡ mul_add a b c }
 {
@@ -91,6 +95,7 @@ pub fn mul_add_rounded(a: f32, b: f32, c: f32) -> f32
 
 // The method `powi(2)`: one rounded square.
 // Ruled out: |x|; an exact square that is not rounded to f32.
+#[tactic(auto, unfolding(crate::specs::Ops::square))]
 pub fn powi2(x: f32) -> f32
     ensures { result ≡ square x }
 {
@@ -99,6 +104,7 @@ pub fn powi2(x: f32) -> f32
 
 // The method `clamp`: x, or the end that it lies beyond; a NaN stays.
 // Ruled out: an end for a NaN; +0 for a -0 that equals an end.
+#[tactic(auto, unfolding(crate::specs::Ops::clamp))]
 pub fn clamp(x: f32, low: f32, high: f32) -> f32
     ensures { result ≡ clamp x low high }
 {

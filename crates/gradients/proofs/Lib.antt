@@ -1,5 +1,6 @@
 -- Lemmas that the proofs of several functions use.
 pub mod Places
 pub mod Laws
+pub mod Edges
 pub mod Examples
 pub mod Apart

@@ -9,8 +9,7 @@ ghost use Rattle.gradients.specs.Grid.{Inside, Fills};
 ghost use Rattle.gradients.specs.Tgv.{tgv_differences, g2_norm_of, tgv_beside, tgv_up_down, tgv_corners, tgv_channel_derivatives, tgv_derivatives, tgv_gradient_px, tgv_total_px, tgv_alpha, tgv_gradient, tgv_total};
 
 use crate::grid;
-use crate::grid::Grid;
-use fold::flags::either;
+use crate::grid::{Grid, Pixel};
 
 // g_xxs, g_xy_syms and g_yys: a pixel's differences of differences, by channel.
 #[derive(Clone, Copy)]
@@ -20,14 +19,12 @@ pub struct Second {
     pub g_yys: [f32; 3],
 }
 
-// The place before k, and 0 for 0.
-fn prev(k: usize) -> usize
-    ensures { result ≡ k - 1 }
-{
-    if k == 0 {
-        return 0;
-    }
-    k - 1
+// One channel's.
+#[derive(Clone, Copy)]
+pub struct ChannelSecond {
+    pub g_xx: f32,
+    pub g_xy_sym: f32,
+    pub g_yy: f32,
 }
 
 // The backward differences x and y of the differences at (x, y), and their mixed one made symmetric, of each channel.
@@ -37,8 +34,8 @@ fn differences(across: &[f32], down: &[f32], g: Grid, y: usize, x: usize) -> Sec
 {
     let n = g.n;
     let held = g.held;
-    let left = prev(x);
-    let above = prev(y);
+    let left = x.saturating_sub(1);
+    let above = y.saturating_sub(1);
     let mut g_xxs = [0.0f32; 3];
     let mut g_xy_syms = [0.0f32; 3];
     let mut g_yys = [0.0f32; 3];
@@ -70,6 +67,7 @@ pub fn square_of(g_xx: f32, g_xy_sym: f32, g_yy: f32) -> f32
     )
 }
 
+// Kept: the count over c, under which four arrays are read; by `zip` each turn takes a pair within a pair within a pair apart.
 // g2_norm: √ of what each channel adds.
 fn g2_norm_of(n: usize, held: [bool; 3], d: Second) -> f32
     requires { n ≤ 3 }
@@ -96,195 +94,94 @@ pub fn middle(g_xx: f32, g_xy_sym: f32, g_yy: f32) -> f32
 }
 
 // "compute derivatives" of channel c: own place, left, right.
-fn beside(
-    gradient: &mut [f32],
-    g: Grid,
-    alpha: f32,
-    g2_norm: f32,
-    g_xx: f32,
-    g_xy_sym: f32,
-    g_yy: f32,
-    y: usize,
-    x: usize,
-    c: usize,
-)
-    requires { (c < g.n) × Inside g y x × Fills g (length gradient.old) }
-    ensures { gradient.new ≡ tgv_beside g.w g.h alpha g2_norm g_xx g_xy_sym g_yy y x c gradient.old }
+fn beside(gradient: &mut [f32], p: Pixel, d: ChannelSecond, c: usize)
+    requires { (c < p.g.n) × Fills p.g (length gradient.old) }
+    ensures { gradient.new ≡ tgv_beside p.g.w p.g.h p.alpha p.norm d.g_xx d.g_xy_sym d.g_yy p.y p.x c gradient.old }
 {
-    let w = g.w;
-    let left = prev(x);
-    let own = middle(g_xx, g_xy_sym, g_yy);
-    grid::bump(gradient, g, c, y, x, alpha, own, g2_norm);
-    grid::bump_unless(
-        x == 0,
-        gradient,
-        g,
-        c,
-        y,
-        left,
-        alpha,
-        g_xy_sym + g_xx,
-        g2_norm,
-    );
-    grid::bump_unless(
-        x >= w - 1,
-        gradient,
-        g,
-        c,
-        y,
-        x + 1,
-        alpha,
-        g_xy_sym + g_xx,
-        g2_norm,
-    );
+    let g = p.g;
+    let y = p.y;
+    let x = p.x;
+    let own = middle(d.g_xx, d.g_xy_sym, d.g_yy);
+    let side = d.g_xy_sym + d.g_xx;
+    grid::bump(gradient, g, c, y, x, p.alpha, own, p.norm);
+    if x != 0 {
+        grid::bump(gradient, g, c, y, x - 1, p.alpha, side, p.norm);
+    }
+    if x < g.w - 1 {
+        grid::bump(gradient, g, c, y, x + 1, p.alpha, side, p.norm);
+    }
 }
 
 // Above, below.
-fn up_down(
-    gradient: &mut [f32],
-    g: Grid,
-    alpha: f32,
-    g2_norm: f32,
-    g_xy_sym: f32,
-    g_yy: f32,
-    y: usize,
-    x: usize,
-    c: usize,
-)
-    requires { (c < g.n) × Inside g y x × Fills g (length gradient.old) }
-    ensures { gradient.new ≡ tgv_up_down g.w g.h alpha g2_norm g_xy_sym g_yy y x c gradient.old }
+fn up_down(gradient: &mut [f32], p: Pixel, d: ChannelSecond, c: usize)
+    requires { (c < p.g.n) × Fills p.g (length gradient.old) }
+    ensures { gradient.new ≡ tgv_up_down p.g.w p.g.h p.alpha p.norm d.g_xy_sym d.g_yy p.y p.x c gradient.old }
 {
-    let h = g.h;
-    let above = prev(y);
-    grid::bump_unless(
-        y == 0,
-        gradient,
-        g,
-        c,
-        above,
-        x,
-        alpha,
-        g_yy + g_xy_sym,
-        g2_norm,
-    );
-    grid::bump_unless(
-        y >= h - 1,
-        gradient,
-        g,
-        c,
-        y + 1,
-        x,
-        alpha,
-        g_yy + g_xy_sym,
-        g2_norm,
-    );
+    let g = p.g;
+    let y = p.y;
+    let x = p.x;
+    let end = d.g_yy + d.g_xy_sym;
+    if y != 0 {
+        grid::bump(gradient, g, c, y - 1, x, p.alpha, end, p.norm);
+    }
+    if y < g.h - 1 {
+        grid::bump(gradient, g, c, y + 1, x, p.alpha, end, p.norm);
+    }
 }
 
 // Above right, below left.
-fn corners(
-    gradient: &mut [f32],
-    g: Grid,
-    alpha: f32,
-    g2_norm: f32,
-    g_xy_sym: f32,
-    y: usize,
-    x: usize,
-    c: usize,
-)
-    requires { (c < g.n) × Inside g y x × Fills g (length gradient.old) }
-    ensures { gradient.new ≡ tgv_corners g.w g.h alpha g2_norm g_xy_sym y x c gradient.old }
+fn corners(gradient: &mut [f32], p: Pixel, d: ChannelSecond, c: usize)
+    requires { (c < p.g.n) × Fills p.g (length gradient.old) }
+    ensures { gradient.new ≡ tgv_corners p.g.w p.g.h p.alpha p.norm d.g_xy_sym p.y p.x c gradient.old }
 {
-    let w = g.w;
-    let h = g.h;
-    let above = prev(y);
-    let left = prev(x);
-    let right_or_top = either(x >= w - 1, y == 0);
-    let left_or_bottom = either(x == 0, y >= h - 1);
-    grid::bump_unless(
-        right_or_top,
-        gradient,
-        g,
-        c,
-        above,
-        x + 1,
-        alpha,
-        -g_xy_sym,
-        g2_norm,
-    );
-    grid::bump_unless(
-        left_or_bottom,
-        gradient,
-        g,
-        c,
-        y + 1,
-        left,
-        alpha,
-        -g_xy_sym,
-        g2_norm,
-    );
+    let g = p.g;
+    let y = p.y;
+    let x = p.x;
+    let corner = -d.g_xy_sym;
+    if x < g.w - 1 && y != 0 {
+        grid::bump(gradient, g, c, y - 1, x + 1, p.alpha, corner, p.norm);
+    }
+    if x != 0 && y < g.h - 1 {
+        grid::bump(gradient, g, c, y + 1, x - 1, p.alpha, corner, p.norm);
+    }
 }
 
+// Kept: what is changed, by which pixel, with which differences and in which channel; the three parts take the same four, and a struct of them would be taken apart at once.
 // "compute derivatives" of channel c: all seven, in this order. Rules out: a corner left out, and a change beyond an edge.
-pub fn channel_derivatives(
-    gradient: &mut [f32],
-    g: Grid,
-    alpha: f32,
-    g2_norm: f32,
-    g_xx: f32,
-    g_xy_sym: f32,
-    g_yy: f32,
-    y: usize,
-    x: usize,
-    c: usize,
-)
-    requires { (c < g.n) × Inside g y x × Fills g (length gradient.old) }
-    ensures { gradient.new ≡ tgv_channel_derivatives g.w g.h alpha g2_norm g_xx g_xy_sym g_yy y x c gradient.old }
+pub fn channel_derivatives(gradient: &mut [f32], p: Pixel, d: ChannelSecond, c: usize)
+    requires { (c < p.g.n) × Fills p.g (length gradient.old) }
+    ensures { gradient.new
+        ≡ tgv_channel_derivatives p.g.w p.g.h p.alpha p.norm d.g_xx d.g_xy_sym d.g_yy p.y p.x c gradient.old }
 {
-    beside(gradient, g, alpha, g2_norm, g_xx, g_xy_sym, g_yy, y, x, c);
-    up_down(gradient, g, alpha, g2_norm, g_xy_sym, g_yy, y, x, c);
-    corners(gradient, g, alpha, g2_norm, g_xy_sym, y, x, c);
+    beside(gradient, p, d, c);
+    up_down(gradient, p, d, c);
+    corners(gradient, p, d, c);
 }
 
 // "compute derivatives": each channel's, unless g2_norm is 0.
-fn derivatives(
-    gradient: &mut [f32],
-    g: Grid,
-    alpha: f32,
-    g2_norm: f32,
-    d: Second,
-    y: usize,
-    x: usize,
-)
-    requires { (g.n ≤ 3) × Inside g y x × Fills g (length gradient.old) }
-    ensures { gradient.new ≡ tgv_derivatives g.w g.h g.n (flag g.held) alpha g2_norm d y x gradient.old }
+fn derivatives(gradient: &mut [f32], p: Pixel, d: Second)
+    requires { (p.g.n ≤ 3) × Fills p.g (length gradient.old) }
+    ensures { gradient.new ≡ tgv_derivatives p.g.w p.g.h p.g.n (flag p.g.held) p.alpha p.norm d p.y p.x gradient.old }
 {
-    let n = g.n;
-    let held = g.held;
-    let g_xxs = d.g_xxs;
-    let g_xy_syms = d.g_xy_syms;
-    let g_yys = d.g_yys;
-    if g2_norm == 0.0 {
+    let n = p.g.n;
+    let held = p.g.held;
+    if p.norm == 0.0 {
         return;
     }
     for c in 0..n {
         if held[c] {
             continue;
         }
-        channel_derivatives(
-            gradient,
-            g,
-            alpha,
-            g2_norm,
-            g_xxs[c],
-            g_xy_syms[c],
-            g_yys[c],
-            y,
-            x,
-            c,
-        );
+        let channel = ChannelSecond {
+            g_xx: d.g_xxs[c],
+            g_xy_sym: d.g_xy_syms[c],
+            g_yy: d.g_yys[c],
+        };
+        channel_derivatives(gradient, p, channel, c);
     }
 }
 
+// Kept: the three buffers and the grid, as the run lends them; as at `tv_gradient_px`, a struct with the `&mut` would need that it is still the same buffer.
 // tgv_gradient_px: every channel's gradient. The total so far, tv2, is taken and given back.
 fn tgv_gradient_px(
     across: &[f32],
@@ -304,9 +201,16 @@ fn tgv_gradient_px(
     let n = g.n;
     let held = g.held;
     let d = differences(across, down, g, y, x);
-    let g2_norm = g2_norm_of(n, held, d);
-    derivatives(gradient, g, alpha, g2_norm, d, y, x);
-    float::double::add_product(tv2, alpha, g2_norm)
+    let norm = g2_norm_of(n, held, d);
+    let p = Pixel {
+        g,
+        alpha,
+        norm,
+        y,
+        x,
+    };
+    derivatives(gradient, p, d);
+    float::double::add_product(tv2, alpha, norm)
 }
 
 // alpha /= (nchannel as f32).sqrt(), the same in each pixel. Rules out: alpha undivided, and its product with 1 / √n, which rounds twice.

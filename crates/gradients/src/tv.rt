@@ -6,7 +6,7 @@ ghost use Rattle.gradients.specs.Grid.{Inside, Fills};
 ghost use Rattle.gradients.specs.Tv.{tv_differences, g_norm_of, tv_channel_derivatives, tv_derivatives, store, tv_gradient_px, tv_total_px, tv_alpha, tv_gradient, tv_total};
 
 use crate::grid;
-use crate::grid::Grid;
+use crate::grid::{Grid, Pixel};
 
 // g_xs and g_ys: a pixel's forward differences, by channel.
 #[derive(Clone, Copy)]
@@ -38,6 +38,7 @@ fn differences(plane: &[f32], g: Grid, y: usize, x: usize) -> Forward
     Forward { g_xs, g_ys }
 }
 
+// Kept: the count over c, under which three arrays are read; by `held[..n].iter().zip(d.g_xs).zip(d.g_ys)` each turn takes a pair within a pair apart.
 // g_norm: √ of the squares of both differences, added channel by channel.
 fn g_norm_of(n: usize, held: [bool; 3], d: Forward) -> f32
     requires { n ≤ 3 }
@@ -56,52 +57,40 @@ fn g_norm_of(n: usize, held: [bool; 3], d: Forward) -> f32
     wide::sqrt(g_norm)
 }
 
+// Kept: that the planes fill the gradient, in each contract; a struct of the lent buffer would need in its place, as `copying::Writer` does, that it is still the same buffer.
 // "compute derivatives" of channel c, whose differences are g_x and g_y: own place, right, below.
 // Rules out: two of the three exchanged, and a change beyond an edge.
-pub fn channel_derivatives(
-    gradient: &mut [f32],
-    g: Grid,
-    alpha: f32,
-    g_norm: f32,
-    g_x: f32,
-    g_y: f32,
-    y: usize,
-    x: usize,
-    c: usize,
-)
-    requires { (c < g.n) × Inside g y x × Fills g (length gradient.old) }
-    ensures { gradient.new ≡ tv_channel_derivatives g.w g.h alpha g_norm g_x g_y y x c gradient.old }
+pub fn channel_derivatives(gradient: &mut [f32], p: Pixel, g_x: f32, g_y: f32, c: usize)
+    requires { (c < p.g.n) × Fills p.g (length gradient.old) }
+    ensures { gradient.new ≡ tv_channel_derivatives p.g.w p.g.h p.alpha p.norm g_x g_y p.y p.x c gradient.old }
 {
-    let w = g.w;
-    let h = g.h;
-    grid::bump(gradient, g, c, y, x, alpha, -(g_x + g_y), g_norm);
-    grid::bump_unless(x >= w - 1, gradient, g, c, y, x + 1, alpha, g_x, g_norm);
-    grid::bump_unless(y >= h - 1, gradient, g, c, y + 1, x, alpha, g_y, g_norm);
+    let g = p.g;
+    let y = p.y;
+    let x = p.x;
+    grid::bump(gradient, g, c, y, x, p.alpha, -(g_x + g_y), p.norm);
+    if x < g.w - 1 {
+        grid::bump(gradient, g, c, y, x + 1, p.alpha, g_x, p.norm);
+    }
+    if y < g.h - 1 {
+        grid::bump(gradient, g, c, y + 1, x, p.alpha, g_y, p.norm);
+    }
 }
 
 // "compute derivatives": each channel's, if g_norm isn't 0.
-fn derivatives(
-    gradient: &mut [f32],
-    g: Grid,
-    alpha: f32,
-    g_norm: f32,
-    d: Forward,
-    y: usize,
-    x: usize,
-)
-    requires { (g.n ≤ 3) × Inside g y x × Fills g (length gradient.old) }
-    ensures { gradient.new ≡ tv_derivatives g.w g.h g.n (flag g.held) alpha g_norm d y x gradient.old }
+fn derivatives(gradient: &mut [f32], p: Pixel, d: Forward)
+    requires { (p.g.n ≤ 3) × Fills p.g (length gradient.old) }
+    ensures { gradient.new ≡ tv_derivatives p.g.w p.g.h p.g.n (flag p.g.held) p.alpha p.norm d p.y p.x gradient.old }
 {
-    let n = g.n;
-    let held = g.held;
+    let n = p.g.n;
+    let held = p.g.held;
     let g_xs = d.g_xs;
     let g_ys = d.g_ys;
-    if g_norm != 0.0 {
+    if p.norm != 0.0 {
         for c in 0..n {
             if held[c] {
                 continue;
             }
-            channel_derivatives(gradient, g, alpha, g_norm, g_xs[c], g_ys[c], y, x, c);
+            channel_derivatives(gradient, p, g_xs[c], g_ys[c], c);
         }
     }
 }
@@ -122,6 +111,7 @@ fn store(buffer: &mut [f32], g: Grid, vs: [f32; 3], y: usize, x: usize)
     }
 }
 
+// Kept: the four buffers and the grid, as the run lends them; a struct of the three `&mut` would need that each is still the same buffer where the contract now says its length.
 // tv_gradient_px: every channel's gradient and differences. The total so far, tv, is taken and given back.
 fn tv_gradient_px(
     plane: &[f32],
@@ -144,13 +134,20 @@ fn tv_gradient_px(
     let d = differences(plane, g, y, x);
     let n = g.n;
     let held = g.held;
-    let g_norm = g_norm_of(n, held, d);
-    derivatives(gradient, g, alpha, g_norm, d, y, x);
+    let norm = g_norm_of(n, held, d);
+    let p = Pixel {
+        g,
+        alpha,
+        norm,
+        y,
+        x,
+    };
+    derivatives(gradient, p, d);
     let g_xs = d.g_xs;
     let g_ys = d.g_ys;
     store(across, g, g_xs, y, x);
     store(down, g, g_ys, y, x);
-    float::double::mul_add(alpha, g_norm, tv)
+    float::double::mul_add(alpha, norm, tv)
 }
 
 // alpha = 1.0 / (nchannel as f32).sqrt(), the same in each pixel. Rules out: 1.0 / nchannel, and the root of the channels that aren't held.

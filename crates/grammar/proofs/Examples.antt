@@ -94,20 +94,12 @@ whole_sheet =
         picture_height = 1;
         channels = 1;
         joint = false;
-        iterations0 = 0;
-        iterations1 = 0;
-        iterations2 = 0;
-        smoothing0 = weight.Whole 0;
-        smoothing1 = weight.Whole 0;
-        smoothing2 = weight.Whole 0;
-        data0 = weight.Whole 0;
-        data1 = weight.Whole 0;
-        data2 = weight.Whole 0;
+        iterations = 0 ∷ 0 ∷ 0 ∷ [];
+        smoothing = weight.Whole 0 ∷ weight.Whole 0 ∷ weight.Whole 0 ∷ [];
+        data_weights = weight.Whole 0 ∷ weight.Whole 0 ∷ weight.Whole 0 ∷ [];
       };
       settings = no_settings;
-      first = record { width = 8; height = 8; across = 1; down = 1 };
-      second = no_channel;
-      third = no_channel;
+      channels = record { width = 8; height = 8; across = 1; down = 1 } ∷ no_channel ∷ no_channel ∷ [];
     }
 
 -- a value, then zeros

@@ -9,17 +9,18 @@ use mathlib.Core.Logic.{⊎_elim}
 use native.Mathlib.Numerals.{add-one}
 use native.Mathlib.Nat.{mul-div_cancel_left, mul-le-mul_left}
 use native.Mathlib.Omega.{arith}
-use lib.ListN.{length, get_or, drop, replicate, length-append, length-drop}
+use lib.ListN.{length, get_or, drop, replicate, length-append, length-drop, length-set}
+use Rattle.std.proofs.lemmas.List.{get_or-set_same, get_or-set_other}
 use lib.Dec.{eqb, leb, ltb}
 use lib.IntN.{ℤ}
-use borrow.Author.Tests.{eqb-true, eqb-false, leb-true, ne_eqb}
+use borrow.Author.Tests.{eqb-true, eqb-false, leb-true}
 use Rattle.text.specs.declared.field.Rule.{Rule}
 use Rattle.text.specs.declared.field.Rule.TheVariants as rule
 use Rattle.text.specs.Pieces.{split}
 use Rattle.text.specs.Numbers.{number_at}
 use Rattle.text.specs.Weights.{weight_at}
 use Rattle.text.specs.Fields.{is_side, field_of, fault_in, tables_in}
-use Rattle.contents.specs.Legal.{Between, LegalSide, LegalLimits, LegalHeader, LegalChannel, LegalQuantisers, LegalLevels, LegalRanges, LegalSheet, LegalBlocks, LegalMarks}
+use Rattle.contents.specs.Legal.{LegalWeight, Between, LegalSide, LegalLimits, LegalHeader, LegalChannel, LegalQuantisers, LegalLevels, LegalRanges, LegalSheet, LegalBlocks, LegalMarks}
 use Rattle.digits.specs.Written.{joined}
 use Rattle.text.proofs.GoodLaws.{side_is, range_good, count_good, side_good, channels_good, weight_good}
 use Rattle.digits.proofs.Both.{both_left, both_right}
@@ -33,6 +34,7 @@ use Rattle.progress.specs.declared.State.{State}
 use Rattle.lines.specs.Lines.{header_rules, channel_rules, mark_rules, mark_of, end_rules, rules_of, first_fault, fields_fault, line_adds, holding, header_of, channel_of, record_of}
 use Rattle.contents.specs.declared.Mark.{Mark}
 use Rattle.contents.specs.Marks.{block_of, among}
+use Rattle.contents.proofs.ThreeLaws.{each_of}
 use Rattle.contents.specs.Sheets.{Marked, marked, Held, nothing, no_channel, channel_at, levels_to}
 use Rattle.progress.specs.Progress.{headed, blank, last_said, may_stand, line_tag, with_setting, settled, placed, opened, covers, exists, taken_if}
 use Rattle.sheet.specs.Reading.{Outcome, Contents, contents, taken_of, is_last, line_fault, nothing_left, on_fault, on_taken, read_from, allowed, read_text}
@@ -56,15 +58,14 @@ header_is_legal limits fs n e =
       shown_width = range_good (get_or fs 3 []) refusal.Size 1 (number_at fs 1) (at 3 (omega arith));
       shown_height = range_good (get_or fs 4 []) refusal.Size 1 (number_at fs 2) (at 4 (omega arith));
       channels = channels_good (get_or fs 5 []) (at 5 (omega arith));
-      iterations0 = (count_good (get_or fs 7 []) limits.iterations (at 7 (omega arith))).2;
-      iterations1 = (count_good (get_or fs 8 []) limits.iterations (at 8 (omega arith))).2;
-      iterations2 = (count_good (get_or fs 9 []) limits.iterations (at 9 (omega arith))).2;
-      smoothing0 = weight_good (get_or fs 10 []) (at 10 (omega arith));
-      smoothing1 = weight_good (get_or fs 11 []) (at 11 (omega arith));
-      smoothing2 = weight_good (get_or fs 12 []) (at 12 (omega arith));
-      data0 = weight_good (get_or fs 13 []) (at 13 (omega arith));
-      data1 = weight_good (get_or fs 14 []) (at 14 (omega arith));
-      data2 = weight_good (get_or fs 15 []) (at 15 (omega arith));
+      three_iterations = refl;
+      three_smoothing = refl;
+      three_data = refl;
+      iterations =
+          each_of (λ (n : ℕ). n ≤ limits.iterations) _ _ _ (count_good (get_or fs 7 []) limits.iterations (at 7 (omega arith))).2
+          (count_good (get_or fs 8 []) limits.iterations (at 8 (omega arith))).2 (count_good (get_or fs 9 []) limits.iterations (at 9 (omega arith))).2;
+      smoothing = each_of LegalWeight _ _ _ (weight_good (get_or fs 10 []) (at 10 (omega arith))) (weight_good (get_or fs 11 []) (at 11 (omega arith))) (weight_good (get_or fs 12 []) (at 12 (omega arith)));
+      data_weights = each_of LegalWeight _ _ _ (weight_good (get_or fs 13 []) (at 13 (omega arith))) (weight_good (get_or fs 14 []) (at 14 (omega arith))) (weight_good (get_or fs 15 []) (at 15 (omega arith)));
     }
   where
     at : (i : ℕ) → i < 16 → fault_in (field_of (get_or (header_rules limits fs) i (rule.Tag 0)) (get_or fs i [])) ≡ None
@@ -116,6 +117,7 @@ record Begun (limits : Limits) (s : State) (H : Held) : Type 0 where
   hold : LegalHold s.sheet.header s.sheet.settings.hold
   upto : s.read ≤ s.sheet.header.channels
   channel : (j : ℕ) → j < s.read → LegalChannel s.sheet.header (channel_at s.sheet j)
+  three : length s.sheet.channels ≡ 3
   spare : (j : ℕ) → s.read ≤ j → j < 3 → channel_at s.sheet j ≡ no_channel
   lows_count : length H.lent.lows + 64 * s.left ≡ levels_to s.sheet s.read
   highs_count : length H.lent.highs + 64 * s.left ≡ levels_to s.sheet s.read
@@ -139,16 +141,16 @@ few limits h l = ⊎_elim (λ e. omega arith) (λ e. omega arith) l.channels
 
 -- a channel at its place leaves the others
 placed_other : (s : Sheet) (r : ℕ) (c : Channel) (j : ℕ) → (j ≡ r → ⊥) → j < 3 → channel_at (placed s r c) j ≡ channel_at s j
-placed_other s r c zero h k = rw (ne_eqb r 0 (λ e. h (sym e)))
-placed_other s r c (suc zero) h k = rw (ne_eqb r 1 (λ e. h (sym e)))
-placed_other s r c (suc (suc zero)) h k = rw (ne_eqb r 2 (λ e. h (sym e)))
+placed_other s r c zero h k = get_or-set_other s.channels r 0 c no_channel h
+placed_other s r c (suc zero) h k = get_or-set_other s.channels r 1 c no_channel h
+placed_other s r c (suc (suc zero)) h k = get_or-set_other s.channels r 2 c no_channel h
 placed_other s r c (suc (suc (suc j))) h k = let y : ⊥ = omega arith in absurd y
 
-placed_there : (s : Sheet) (r : ℕ) (c : Channel) → r < 3 → channel_at (placed s r c) r ≡ c
-placed_there s zero c k = refl
-placed_there s (suc zero) c k = refl
-placed_there s (suc (suc zero)) c k = refl
-placed_there s (suc (suc (suc r))) c k = let y : ⊥ = omega arith in absurd y
+placed_there : (s : Sheet) (r : ℕ) (c : Channel) → length s.channels ≡ 3 → r < 3 → channel_at (placed s r c) r ≡ c
+placed_there s zero c n k = get_or-set_same s.channels 0 c no_channel (omega arith)
+placed_there s (suc zero) c n k = get_or-set_same s.channels 1 c no_channel (omega arith)
+placed_there s (suc (suc zero)) c n k = get_or-set_same s.channels 2 c no_channel (omega arith)
+placed_there s (suc (suc (suc r))) c n k = let y : ⊥ = omega arith in absurd y
 
 levels_same : (s t : Sheet) (n : ℕ) → ((j : ℕ) → j < n → channel_at t j ≡ channel_at s j) → levels_to t n ≡ levels_to s n
 levels_same s t zero f = refl
@@ -309,6 +311,7 @@ module _ (limits : Limits) (most : LegalLimits limits) (p : List ℕ) (rest : Li
         hold = tt;
         upto = omega arith;
         channel = λ j h. let y : ⊥ = omega arith in absurd y;
+        three = refl;
         spare = λ j h. none-yet j (header_of fs);
         lows_count = omega arith;
         highs_count = omega arith;
@@ -346,6 +349,7 @@ module _ (limits : Limits) (most : LegalLimits limits) (p : List ℕ) (rest : Li
           hold = b.hold;
           upto = b.upto;
           channel = b.channel;
+          three = b.three;
           spare = b.spare;
           lows_count = rw (length-append ls w.ls) (omega (arith, x.low_count, b.lows_count));
           highs_count = rw (length-append hs w.hs) (omega (arith, x.high_count, b.highs_count));
@@ -377,6 +381,7 @@ module _ (limits : Limits) (most : LegalLimits limits) (p : List ℕ) (rest : Li
           hold = with_legal s.sheet.header s.sheet.settings r.x b.hold r.legal;
           upto = b.upto;
           channel = b.channel;
+          three = b.three;
           spare = b.spare;
           lows_count = b.lows_count ∙ sym (levels_same s.sheet t s.read (λ j h. refl));
           highs_count = b.highs_count ∙ sym (levels_same s.sheet t s.read (λ j h. refl));
@@ -420,7 +425,7 @@ module _ (limits : Limits) (most : LegalLimits limits) (p : List ℕ) (rest : Li
             ap (λ (n : ℕ). levels_to t.sheet n) (add-one s.read)
             ∙ ap (λ (n : ℕ). n + (channel_at t.sheet s.read).width * (channel_at t.sheet s.read).height)
             (levels_same s.sheet t.sheet s.read (λ q h. placed_other s.sheet s.read c q (λ w. omega arith) (omega arith)))
-            ∙ ap (λ (d : Channel). levels_to s.sheet s.read + d.width * d.height) (placed_there s.sheet s.read c (omega arith)) in
+            ∙ ap (λ (d : Channel). levels_to s.sheet s.read + d.width * d.height) (placed_there s.sheet s.read c b.three (omega arith)) in
             let kept : length H.lent.lows + 64 * (c.width * c.height / 64) ≡ levels_to s.sheet s.read + c.width * c.height =
             omega (arith, blocks c.width c.height good.width.whole good.height.whole, b.lows_count, u) in
             let too : length H.lent.highs + 64 * (c.width * c.height / 64) ≡ levels_to s.sheet s.read + c.width * c.height =
@@ -432,6 +437,7 @@ module _ (limits : Limits) (most : LegalLimits limits) (p : List ℕ) (rest : Li
               hold = b.hold;
               upto = omega (arith, v);
               channel = λ q h. which q r good (eqb q s.read) refl (omega arith);
+              three = length-set s.sheet.channels s.read c ∙ b.three;
               spare = λ q h w. placed_other s.sheet s.read c q (λ x. omega arith) w ∙ b.spare q (omega arith) w;
               lows_count = kept ∙ sym all;
               highs_count = too ∙ sym all;
@@ -448,7 +454,7 @@ module _ (limits : Limits) (most : LegalLimits limits) (p : List ℕ) (rest : Li
           where
             which : (q : ℕ) → s.read ≤ 2 → LegalChannel s.sheet.header c → (t : Bool) → eqb q s.read ≡ t → q < s.read + 1
                 → LegalChannel s.sheet.header (channel_at (placed s.sheet s.read c) q)
-            which q r good true z h = rw (eqb-true q s.read z, placed_there s.sheet s.read c (omega arith)) good
+            which q r good true z h = rw (eqb-true q s.read z, placed_there s.sheet s.read c b.three (omega arith)) good
             which q r good false z h =
                 let less : q < s.read = omega (arith, eqb-false q s.read z) in
                 rw (placed_other s.sheet s.read c q (eqb-false q s.read z) (omega arith)) (b.channel q less)
@@ -471,6 +477,7 @@ module _ (limits : Limits) (most : LegalLimits limits) (p : List ℕ) (rest : Li
               header = b.header;
               hold = b.hold;
               channel = λ j h. b.channel j (omega arith);
+              three_channels = b.three;
               spare = λ j h w. b.spare j (omega arith) w;
               lows_count = all ∙ ap (λ (n : ℕ). levels_to s.sheet n) x;
               highs_count = too ∙ ap (λ (n : ℕ). levels_to s.sheet n) x;
@@ -496,6 +503,7 @@ module _ (limits : Limits) (most : LegalLimits limits) (p : List ℕ) (rest : Li
           hold = b.hold;
           upto = b.upto;
           channel = b.channel;
+          three = b.three;
           spare = b.spare;
           lows_count = b.lows_count;
           highs_count = b.highs_count;

@@ -9,7 +9,7 @@ use mathlib.Core.Logic.{◌⊎◌, inl, inr}
 use native.Mathlib.Nat.{mul-le-mul}
 use native.Mathlib.Omega.{arith}
 use lib.Dec.{eqb, ltb}
-use lib.ListN.{length, get_or}
+use lib.ListN.{length, get_or, set}
 use borrow.Author.Tests.{ltb-true, eqb-true, eqb-false, eq-eqb, ne_eqb}
 use Rattle.text.specs.declared.field.Rule.TheVariants as rule
 use Rattle.text.specs.Numbers.{number_at}
@@ -24,7 +24,7 @@ use Rattle.contents.specs.declared.Limits.{Limits}
 use Rattle.contents.specs.declared.Channel.{Channel}
 use Rattle.contents.specs.declared.Mark.{Mark}
 use Rattle.contents.specs.declared.Sheet.{Sheet}
-use Rattle.contents.specs.Sheets.{Lent, Marked, marked, Held, held, channel_at}
+use Rattle.contents.specs.Sheets.{Lent, Marked, marked, Held, held, no_channel, channel_at}
 use Rattle.contents.specs.Marks.{blocks_in, blocks_before, all_blocks, block_of, has_block, among}
 use Rattle.contents.specs.Legal.{LegalSheet, LegalMark, LegalMarks}
 use Rattle.lines.specs.Lines.{mark_rules, mark_of, first_fault, holding}
@@ -120,10 +120,10 @@ module _ (limits : Limits) (s : Sheet) (b : Lent) (l : LegalSheet limits s b) wh
 
   before_few : (c : ℕ) → c < s.header.channels → blocks_before s c ≤ 8192
   before_few zero h = omega arith
-  before_few (suc zero) h = let n = four_thousand s.first.width s.first.height (wide 0 (omega arith)) (high 0 (omega arith)) in omega arith
+  before_few (suc zero) h = let n = four_thousand (channel_at s 0).width (channel_at s 0).height (wide 0 (omega arith)) (high 0 (omega arith)) in omega arith
   before_few (suc (suc zero)) h =
-      let n = four_thousand s.first.width s.first.height (wide 0 (omega arith)) (high 0 (omega arith)) in
-      let m = four_thousand s.second.width s.second.height (wide 1 (omega arith)) (high 1 (omega arith)) in
+      let n = four_thousand (channel_at s 0).width (channel_at s 0).height (wide 0 (omega arith)) (high 0 (omega arith)) in
+      let m = four_thousand (channel_at s 1).width (channel_at s 1).height (wide 1 (omega arith)) (high 1 (omega arith)) in
       omega arith
   before_few (suc (suc (suc c))) h = let y : ⊥ = omega (arith, few_channels) in absurd y
 
@@ -197,11 +197,19 @@ block_below s m p = by m.channel (within (channel_at s m.channel).width (channel
 
 -- a channel more
 pub placed_blocks : (s : Sheet) (r : ℕ) (c : Channel) → all_blocks (placed s r c) ≤ all_blocks s + blocks_in c
-placed_blocks s zero c = omega arith
-placed_blocks s (suc zero) c = omega arith
-placed_blocks s (suc (suc zero)) c = omega arith
-placed_blocks s (suc (suc (suc r))) c =
-    rw (ne_eqb (suc (suc (suc r))) 0 (λ e. omega arith), ne_eqb (suc (suc (suc r))) 1 (λ e. omega arith), ne_eqb (suc (suc (suc r))) 2 (λ e. omega arith)) (omega arith)
+placed_blocks s r c = by s.channels r
+  where
+    all : List Channel → ℕ
+    all xs = blocks_in (get_or xs 0 no_channel) + blocks_in (get_or xs 1 no_channel) + blocks_in (get_or xs 2 no_channel)
+
+    by : (xs : List Channel) (r : ℕ) → all (set xs r c) ≤ all xs + blocks_in c
+    by [] r = omega arith
+    by (x ∷ xs) zero = omega arith
+    by (x ∷ []) (suc r) = omega arith
+    by (x ∷ (y ∷ xs)) (suc zero) = omega arith
+    by (x ∷ (y ∷ [])) (suc (suc r)) = omega arith
+    by (x ∷ (y ∷ (z ∷ xs))) (suc (suc zero)) = omega arith
+    by (x ∷ (y ∷ (z ∷ xs))) (suc (suc (suc r))) = omega arith
 
 -- A mark's line has few bytes
 

@@ -10,7 +10,7 @@ use mathlib.Core.Bool.{Bool, true, false, not, cond, ◌&&◌, ◌||◌}
 use mathlib.Core.Logic.{◌⊎◌, inl, inr}
 use native.Mathlib.Nat.{mul-le-mul, mul-le-mul_right, le_trans, suc-mul}
 use native.Mathlib.Omega.{arith}
-use lib.ListN.{length, get_or, take, drop, replicate, length-drop, length-take, drop_of_length-le}
+use lib.ListN.{length, get_or, set, take, drop, replicate, length-drop, length-take, drop_of_length-le}
 use lib.Seq.{drop-cons, take_all, take-nil, length-take-le}
 use lib.Dec.{eqb, ltb, leb}
 use borrow.Author.Tests.{lt-ltb, le-ltb, ne_eqb, ltb-true, ltb-false, eqb-true, eqb-false, leb-true, leb-false}
@@ -29,6 +29,7 @@ use Rattle.contents.specs.declared.Limits.{Limits}
 use Rattle.contents.specs.declared.Header.{Header}
 use Rattle.contents.specs.Legal.{LegalLimits}
 use Rattle.contents.specs.Hold.{measured}
+use Rattle.contents.proofs.ThreeLaws.{each_of}
 use Rattle.contents.proofs.HoldLaws.{measured_most}
 use Rattle.contents.specs.declared.Settings.{Settings}
 use Rattle.progress.specs.declared.State.{State}
@@ -36,7 +37,7 @@ use Rattle.lines.specs.Lines.{header_rules, channel_rules, mark_rules, mark_of, 
 use Rattle.contents.specs.declared.Channel.{Channel}
 use Rattle.contents.specs.declared.Mark.{Mark}
 use Rattle.contents.specs.Marks.{all_blocks, block_of, among}
-use Rattle.contents.specs.Sheets.{Marked, marked, Held, nothing}
+use Rattle.contents.specs.Sheets.{Marked, marked, Held, nothing, no_channel}
 use Rattle.progress.specs.Progress.{headed, blank, last_said, may_stand, line_tag, opened, covers, exists, taken_if}
 use Rattle.sheet.specs.Reading.{Outcome, Contents, contents, taken_of, is_last, line_fault, nothing_left, on_fault, on_taken, read_from, allowed, read_text}
 use Rattle.sheet.specs.Reading.Outcome.{Gives, Refused}
@@ -151,9 +152,19 @@ room limits s ms =
 abbrev Small : Limits → Channel → Type 0
 Small limits c = (c.width ≤ limits.side) × (c.height ≤ limits.side)
 
-either_small : (limits : Limits) (x : Bool) (c d : Channel) → Small limits c → Small limits d → Small limits (cond x c d)
-either_small limits true c d a b = a
-either_small limits false c d a b = b
+small_set : (limits : Limits) (xs : List Channel) (r : ℕ) (c : Channel) → ((j : ℕ) → Small limits (get_or xs j no_channel)) → Small limits c
+    → (j : ℕ) → Small limits (get_or (set xs r c) j no_channel)
+small_set limits [] r c f k j = f j
+small_set limits (x ∷ xs) zero c f k zero = k
+small_set limits (x ∷ xs) zero c f k (suc j) = f (suc j)
+small_set limits (x ∷ xs) (suc r) c f k zero = f 0
+small_set limits (x ∷ xs) (suc r) c f k (suc j) = small_set limits xs r c (λ i. f (suc i)) k j
+
+small_headed : (limits : Limits) (h : Header) (j : ℕ) → Small limits (get_or (headed h).channels j no_channel)
+small_headed limits h zero = (omega arith, omega arith)
+small_headed limits h (suc zero) = (omega arith, omega arith)
+small_headed limits h (suc (suc zero)) = (omega arith, omega arith)
+small_headed limits h (suc (suc (suc j))) = (omega arith, omega arith)
 
 record On (limits : Limits) (s : State) : Type 0 where
   begun : s.begun ≡ true
@@ -161,9 +172,7 @@ record On (limits : Limits) (s : State) : Type 0 where
   high : s.sheet.header.height ≤ limits.side
   few : s.sheet.header.channels ≤ 3
   counts : (c : ℕ) → measured s.sheet.header c ≤ 1000
-  first : Small limits s.sheet.first
-  second : Small limits s.sheet.second
-  third : Small limits s.sheet.third
+  small : (j : ℕ) → Small limits (get_or s.sheet.channels j no_channel)
 
 abbrev Stage : Limits → State → Type 0
 Stage limits s = (s ≡ blank) ⊎ On limits s
@@ -202,7 +211,7 @@ module _ (limits : Limits) (most : LegalLimits limits) (p : List ℕ) where
       let c : ℕ = (header_of fs).channels in
       subst (λ (x : State). Spent limits blank ms p x ms) (good_inj _ t o)
       (record {
-        stage = record { begun = refl; wide = l.width.top; high = l.height.top; few = f; counts = λ c. le_trans (measured_most (header_of fs) limits l c) most.iterations; first = (omega arith, omega arith); second = (omega arith, omega arith); third = (omega arith, omega arith) };
+        stage = record { begun = refl; wide = l.width.top; high = l.height.top; few = f; counts = λ c. le_trans (measured_most (header_of fs) limits l c) most.iterations; small = small_headed limits (header_of fs) };
         bytes =
             let z : c - 0 ≤ 3 = omega arith in
             let x : mark_room (record { begun = true; sheet = headed (header_of fs); read = 0; left = 0 }) ms ≤ 0 = mark_room_most (record { begun = true; sheet = headed (header_of fs); read = 0; left = 0 }) ms in
@@ -218,7 +227,7 @@ module _ (limits : Limits) (most : LegalLimits limits) (p : List ℕ) where
         let z : good (less_block s) ≡ Ok t = rw (block_record r g (split 9 p) q) at o in
         subst (λ (x : State). Spent limits s ms p x ms) (good_inj _ t z)
         (record {
-          stage = record { begun = b.begun; wide = b.wide; high = b.high; few = b.few; counts = b.counts; first = b.first; second = b.second; third = b.third };
+          stage = record { begun = b.begun; wide = b.wide; high = b.high; few = b.few; counts = b.counts; small = b.small };
           bytes = rw (b.begun, lt-ltb 0 s.left h) (omega (arith, block_bytes r w.ls w.hs w.block, ap length w.row, mul-le-mul_right (row_bytes (mark_sizes limits.side)) (mark_room_most (less_block s) ms)));
         })
 
@@ -233,7 +242,7 @@ module _ (limits : Limits) (most : LegalLimits limits) (p : List ℕ) where
         let z : good (with_set s w.x) ≡ Ok t = rw w.says at o in
         subst (λ (x : State). Spent limits s ms p x ms) (good_inj _ t z)
         (record {
-          stage = record { begun = b.begun; wide = b.wide; high = b.high; few = b.few; counts = b.counts; first = b.first; second = b.second; third = b.third };
+          stage = record { begun = b.begun; wide = b.wide; high = b.high; few = b.few; counts = b.counts; small = b.small };
           bytes =
               rw (b.begun, both_left (eqb s.read 0) (ltb (last_said x) i) r, now_said x w.x h)
               (omega (arith, setting_spent s.sheet.header b.counts w.x w.legal p (last_said x) h w.row));
@@ -257,9 +266,7 @@ module _ (limits : Limits) (most : LegalLimits limits) (p : List ℕ) where
                 high = b.high;
                 few = b.few;
                 counts = b.counts;
-                first = either_small limits (eqb s.read 0) c s.sheet.first (w, u) b.first;
-                second = either_small limits (eqb s.read 1) c s.sheet.second (w, u) b.second;
-                third = either_small limits (eqb s.read 2) c s.sheet.third (w, u) b.third;
+                small = small_set limits s.sheet.channels s.read c b.small (w, u);
               };
           bytes =
               let here : mark_room s ms ≡ all_blocks s.sheet = rw (le-ltb 0 s.left z, lt-ltb s.read s.sheet.header.channels h) in
@@ -294,7 +301,7 @@ module _ (limits : Limits) (most : LegalLimits limits) (p : List ℕ) where
         by true false q r w =
             let g = place-of s.sheet m (exists_has s.sheet m q) in
             let c = m.channel in
-            let own = either_small limits (eqb c 0) s.sheet.first _ b.first (either_small limits (eqb c 1) s.sheet.second s.sheet.third b.second b.third) in
+            let own = each_of (Small limits) _ _ _ (b.small 0) (b.small 1) (b.small 2) c in
             let less = unmarked_less ms (marked m (block_of s.sheet m)) (all_blocks s.sheet) (block_below s.sheet m g) r in
             let bytes = mark_bytes limits.side s.sheet m b.few own.0 own.1 g in
             let row : length (joined (mark_fields m)) ≡ length p = ap length (row_as p (mark_fields m) (mark_as (split 9 p) n e)) in

@@ -3,7 +3,7 @@ use Rattle.contents.specs.declared.Letter.{Letter}
 use Rattle.contents.specs.declared.Letter.TheVariants as letters
 use Rattle.std.proofs.Common.{None, Some, Ok, Option}
 use Prim.Native.Nat.{ℕ, zero, suc, ◌+◌, ◌-◌, ◌*◌, ◌/◌, ◌<◌, ◌≤◌}
-use mathlib.Core.Path.{◌≡◌, refl, sym, ap, ◌∙◌, subst⁻¹}
+use mathlib.Core.Path.{◌≡◌, refl, sym, ap, ◌∙◌, subst⁻¹, subst}
 use mathlib.Core.List.{List, [], ◌∷◌, ◌++◌, append_assoc, append-nil}
 use mathlib.Core.Bool.{Bool, true, false, cond, ◌&&◌}
 use mathlib.Core.Logic.{◌⊎◌, inl, inr}
@@ -20,6 +20,7 @@ use Rattle.digits.specs.Written.{decimal, joined}
 use Rattle.text.proofs.JoinLaws.{free, all_free, split_joined, joined_free, split_ended}
 use Rattle.contents.specs.declared.Limits.{Limits}
 use Rattle.contents.specs.Hold.{measured, LegalHold}
+use Rattle.contents.proofs.ThreeLaws.{spelled, spelled_is}
 use Rattle.contents.proofs.HoldLaws.{measured_most}
 use Rattle.contents.specs.declared.Header.{Header}
 use Rattle.contents.specs.declared.Channel.{Channel}
@@ -31,7 +32,7 @@ use Rattle.progress.specs.declared.State.{State}
 use Rattle.lines.specs.Lines.{header_rules, rounding_rules, start_rules, hold_rules, mark_of, rules_of, field_count, first_fault, holding, channel_of, record_of}
 use Rattle.contents.specs.declared.Mark.{Mark}
 use Rattle.contents.specs.Marks.{block_of, has_block, among}
-use Rattle.contents.specs.Sheets.{Lent, lent, Marked, marked, Held, held, nothing, levels_to, channels_of}
+use Rattle.contents.specs.Sheets.{Lent, lent, Marked, marked, Held, held, nothing, channel_at, levels_to, channels_of}
 use Rattle.progress.specs.Progress.{headed, blank, last_said, line_tag, with_setting, settled, placed, covers, most_blocks, exists, taken_if}
 use Rattle.sheet.specs.Reading.{contents, taken_of, is_last, read_from, allowed, read_text}
 use Rattle.sheet.specs.Reading.Outcome.{Refused}
@@ -451,7 +452,7 @@ opening s = settled (headed s.header) s.settings
 
 -- the first n channels are those that are placed
 abbrev channels_to : Sheet → ℕ → List Channel
-channels_to s n = take n (s.first ∷ s.second ∷ s.third ∷ [])
+channels_to s n = take n s.channels
 
 record Used (s : Sheet) (n : ℕ) : Type 0 where
   count : length (channels_to s n) ≡ n
@@ -460,21 +461,21 @@ record Used (s : Sheet) (n : ℕ) : Type 0 where
   placed : placed_all (opening s) 0 (channels_to s n) ≡ s
 
 used : (limits : Limits) (s : Sheet) (b : Lent) → LegalSheet limits s b → Used s s.header.channels
-used limits s b l = by l.header.channels
+used limits s b l = subst (λ (v : Sheet). Used v s.header.channels) (spelled_is s l.three_channels) (by l.header.channels)
   where
-    by : (s.header.channels ≡ 1) ⊎ (s.header.channels ≡ 3) → Used s s.header.channels
+    by : (s.header.channels ≡ 1) ⊎ (s.header.channels ≡ 3) → Used (spelled s) s.header.channels
     by (inl e) =
         let p = l.spare 1 (omega arith) (omega arith) in
         let q = l.spare 2 (omega arith) (omega arith) in
-        subst⁻¹ (Used s) e
+        subst⁻¹ (Used (spelled s)) e
         (record {
           count = refl;
           levels = omega arith;
           legal = (l.channel 0 (omega arith), tt);
-          placed = λ i. record { header = s.header; settings = s.settings; first = s.first; second = sym p i; third = sym q i };
+          placed = λ i. record { header = s.header; settings = s.settings; channels = channel_at s 0 ∷ sym p i ∷ sym q i ∷ [] };
         })
     by (inr e) =
-        subst⁻¹ (Used s) e
+        subst⁻¹ (Used (spelled s)) e
         (record {
           count = refl;
           levels = omega arith;

@@ -27,13 +27,14 @@ use Rattle.text.proofs.DecimalLaws.{number_written}
 use Rattle.digits.proofs.Lengths.{decimal_length}
 use Rattle.text.proofs.SpellingLaws.{weight_written, level_written, weight_length}
 use Rattle.text.proofs.JoinLaws.{above, above_free, above_less, above_decimal, above_weight, above_level, all_free, Within, joined_length}
-use Rattle.contents.specs.Hold.{measured, LegalHold}
+use Rattle.contents.specs.Hold.{iterations_at, measured, LegalHold}
+use Rattle.contents.proofs.ThreeLaws.{three_of}
 use Rattle.contents.specs.declared.Limits.{Limits}
 use Rattle.contents.specs.declared.Header.{Header}
 use Rattle.contents.specs.declared.Channel.{Channel}
 use Rattle.contents.specs.declared.Mark.{Mark}
 use Rattle.contents.specs.declared.Sheet.{Sheet}
-use Rattle.contents.specs.Sheets.{Held}
+use Rattle.contents.specs.Sheets.{Held, no_weight, smoothing_at, data_at}
 use Rattle.lines.specs.Lines.{count, mode, header_rules, hold_rules, hold_of, mark_rules, mark_of, channel_rules, block_rules, pair_rules, range_rules, field_count, first_fault, line_adds, holding, header_of, channel_of}
 use Rattle.grammar.specs.Written.{header_fields, hold_fields, mark_fields, channel_fields, pair_texts, block_fields, end_fields}
 use Rattle.lines.proofs.GoodLines.{lows_skip, highs_skip, tables_skip}
@@ -127,22 +128,22 @@ module _ (limits : Limits) (allowed : LegalLimits limits) (h : Header) (l : Lega
                   (
                     mode_written h.joint,
                     (
-                      count_written h.iterations0 l.iterations0,
+                      count_written (iterations_at h 0) (l.iterations 0),
                       (
-                        count_written h.iterations1 l.iterations1,
+                        count_written (iterations_at h 1) (l.iterations 1),
                         (
-                          count_written h.iterations2 l.iterations2,
+                          count_written (iterations_at h 2) (l.iterations 2),
                           (
-                            weight_field_written h.smoothing0 l.smoothing0,
+                            weight_field_written (smoothing_at h 0) (l.smoothing 0),
                             (
-                              weight_field_written h.smoothing1 l.smoothing1,
+                              weight_field_written (smoothing_at h 1) (l.smoothing 1),
                               (
-                                weight_field_written h.smoothing2 l.smoothing2,
+                                weight_field_written (smoothing_at h 2) (l.smoothing 2),
                                 (
-                                  weight_field_written h.data0 l.data0,
+                                  weight_field_written (data_at h 0) (l.data_weights 0),
                                   (
-                                    weight_field_written h.data1 l.data1,
-                                    (weight_field_written h.data2 l.data2, tt),
+                                    weight_field_written (data_at h 1) (l.data_weights 1),
+                                    (weight_field_written (data_at h 2) (l.data_weights 2), tt),
                                   ),
                                 ),
                               ),
@@ -172,25 +173,30 @@ module _ (limits : Limits) (allowed : LegalLimits limits) (h : Header) (l : Lega
         number_back h.picture_height (omega (arith, l.shown_height.top, high)),
         number_back h.channels few,
         mode_back h.joint,
-        number_back h.iterations0 (omega (arith, page, l.iterations0)),
-        number_back h.iterations1 (omega (arith, page, l.iterations1)),
-        number_back h.iterations2 (omega (arith, page, l.iterations2)),
-        weight_back h.smoothing0 l.smoothing0,
-        weight_back h.smoothing1 l.smoothing1,
-        weight_back h.smoothing2 l.smoothing2,
-        weight_back h.data0 l.data0,
-        weight_back h.data1 l.data1,
-        weight_back h.data2 l.data2,
+        number_back (iterations_at h 0) (omega (arith, page, (l.iterations 0))),
+        number_back (iterations_at h 1) (omega (arith, page, (l.iterations 1))),
+        number_back (iterations_at h 2) (omega (arith, page, (l.iterations 2))),
+        weight_back (smoothing_at h 0) (l.smoothing 0),
+        weight_back (smoothing_at h 1) (l.smoothing 1),
+        weight_back (smoothing_at h 2) (l.smoothing 2),
+        weight_back (data_at h 0) (l.data_weights 0),
+        weight_back (data_at h 1) (l.data_weights 1),
+        weight_back (data_at h 2) (l.data_weights 2),
       )
+      (λ i.
+      record {
+        width = h.width;
+        height = h.height;
+        picture_width = h.picture_width;
+        picture_height = h.picture_height;
+        channels = h.channels;
+        joint = h.joint;
+        iterations = three_of 0 h.iterations l.three_iterations i;
+        smoothing = three_of no_weight h.smoothing l.three_smoothing i;
+        data_weights = three_of no_weight h.data_weights l.three_data i;
+      })
 
 -- The held counts
-
-three_of : (l : List ℕ) → length l ≡ 3 → get_or l 0 0 ∷ get_or l 1 0 ∷ get_or l 2 0 ∷ [] ≡ l
-three_of (k ∷ (l ∷ (m ∷ []))) e = refl
-three_of [] e = absurd (omega arith)
-three_of (k ∷ []) e = absurd (omega arith)
-three_of (k ∷ (l ∷ [])) e = absurd (omega arith)
-three_of (k ∷ (l ∷ (m ∷ (n ∷ r)))) e = absurd (omega arith)
 
 module _ (h : Header) (six : (c : ℕ) → measured h c ≤ 999999) (l : List ℕ) (g : LegalHold h (Some l)) where
   first_six : get_or l 0 0 ≤ 999999
@@ -213,7 +219,7 @@ module _ (h : Header) (six : (c : ℕ) → measured h c ≤ 999999) (l : List �
 
   pub hold_back : hold_of (hold_fields l) ≡ l
   unfolding hold_of number_at
-  hold_back = rw (number_back (get_or l 0 0) first_six, number_back (get_or l 1 0) second_six, number_back (get_or l 2 0) third_six) (three_of l g.0)
+  hold_back = rw (number_back (get_or l 0 0) first_six, number_back (get_or l 1 0) second_six, number_back (get_or l 2 0) third_six) (three_of 0 l g.0)
 
 -- Marks
 
@@ -408,12 +414,12 @@ header_free b k h =
                 (
                   clean_mode h.joint,
                   (
-                    clean_decimal h.iterations0,
+                    clean_decimal (iterations_at h 0),
                     (
-                      clean_decimal h.iterations1,
+                      clean_decimal (iterations_at h 1),
                       (
-                        clean_decimal h.iterations2,
-                        (above_weight h.smoothing0, (above_weight h.smoothing1, (above_weight h.smoothing2, (above_weight h.data0, (above_weight h.data1, (above_weight h.data2, tt)))))),
+                        clean_decimal (iterations_at h 2),
+                        (above_weight (smoothing_at h 0), (above_weight (smoothing_at h 1), (above_weight (smoothing_at h 2), (above_weight (data_at h 0), (above_weight (data_at h 1), (above_weight (data_at h 2), tt)))))),
                       ),
                     ),
                   ),
@@ -475,18 +481,18 @@ header_short limits most h l =
                   (
                     omega arith,
                     (
-                      short_decimal h.iterations0 (omega (arith, most.iterations, l.iterations0)),
+                      short_decimal (iterations_at h 0) (omega (arith, most.iterations, (l.iterations 0))),
                       (
-                        short_decimal h.iterations1 (omega (arith, most.iterations, l.iterations1)),
+                        short_decimal (iterations_at h 1) (omega (arith, most.iterations, (l.iterations 1))),
                         (
-                          short_decimal h.iterations2 (omega (arith, most.iterations, l.iterations2)),
+                          short_decimal (iterations_at h 2) (omega (arith, most.iterations, (l.iterations 2))),
                           (
-                            weight_length h.smoothing0 l.smoothing0,
+                            weight_length (smoothing_at h 0) (l.smoothing 0),
                             (
-                              weight_length h.smoothing1 l.smoothing1,
+                              weight_length (smoothing_at h 1) (l.smoothing 1),
                               (
-                                weight_length h.smoothing2 l.smoothing2,
-                                (weight_length h.data0 l.data0, (weight_length h.data1 l.data1, (weight_length h.data2 l.data2, tt))),
+                                weight_length (smoothing_at h 2) (l.smoothing 2),
+                                (weight_length (data_at h 0) (l.data_weights 0), (weight_length (data_at h 1) (l.data_weights 1), (weight_length (data_at h 2) (l.data_weights 2), tt))),
                               ),
                             ),
                           ),

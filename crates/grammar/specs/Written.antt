@@ -9,7 +9,8 @@ use Rattle.contents.specs.declared.Settings.{Settings}
 use Rattle.contents.specs.declared.Channel.{Channel}
 use Rattle.contents.specs.declared.Mark.{Mark}
 use Rattle.contents.specs.declared.Sheet.{Sheet}
-use Rattle.contents.specs.Sheets.{lent, Marked, Held, held, channels_of}
+use Rattle.contents.specs.Hold.{iterations_at}
+use Rattle.contents.specs.Sheets.{lent, Marked, Held, held, smoothing_at, data_at, channels_of}
 use Rattle.lines.specs.declared.Setting.{Setting}
 use Rattle.lines.specs.declared.Setting.TheVariants as setting
 
@@ -20,9 +21,9 @@ header_fields h =
     ∷ decimal h.width ∷ decimal h.height
     ∷ decimal h.picture_width ∷ decimal h.picture_height
     ∷ decimal h.channels ∷ (cond h.joint 106 115 ∷ [])
-    ∷ decimal h.iterations0 ∷ decimal h.iterations1 ∷ decimal h.iterations2
-    ∷ weight_text h.smoothing0 ∷ weight_text h.smoothing1 ∷ weight_text h.smoothing2
-    ∷ weight_text h.data0 ∷ weight_text h.data1 ∷ weight_text h.data2
+    ∷ decimal (iterations_at h 0) ∷ decimal (iterations_at h 1) ∷ decimal (iterations_at h 2)
+    ∷ weight_text (smoothing_at h 0) ∷ weight_text (smoothing_at h 1) ∷ weight_text (smoothing_at h 2)
+    ∷ weight_text (data_at h 0) ∷ weight_text (data_at h 1) ∷ weight_text (data_at h 2)
     ∷ []
 
 abbrev pub channel_fields : Channel → List ℕ → List (List ℕ)

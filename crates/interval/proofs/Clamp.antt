@@ -24,9 +24,6 @@ Below false a true b = (a ≡ 0) × (b ≡ 0)
 Below true a false b = Unit {0}
 Below true a true b = b ≤ a
 
-signed_neg : (n : ℕ) → signed true (suc n) ≡ negsuc n
-signed_neg n = refl
-
 signed_le : (s t : Bool) (a b : ℕ) → Below s a t b → signed s a ≤ℤ signed t b
 signed_le false false a b h = le_z_yes (le→leb a b h)
 signed_le false true a b h =

@@ -7,11 +7,17 @@ use mathlib.Core.Bool.{Bool, true, false, not, ◌&&◌, cond}
 use lib.IntN.{ℤ, pos, negsuc, nat_abs}
 use lib.Dec.{ltb, lit<, lit≤}
 use borrow.Author.Tests.{lt-ltb, le-ltb}
+use lib.Count.{count_trailing_zeros}
 use lib.Pow.{shl_lt}
-use lib.Ieee.{Float, nan, inf, fin, up, down, unlike, binary32, round, neg, sum, add, sub, mul, of_int}
+use lib.Ieee.{Float, nan, inf, fin, up, down, unlike, binary32, round, neg, sum, add, sub, mul, of_int, of_bits, of_fields}
 use lib.Ieee.Fits.{down_pos}
 use lib.Ieee.Exact.{HasValue, round_exact}
 use Rattle.interval.specs.Interval.{f½, lowest, highest}
+
+-- 0.5 as the machine has it
+pub half_bits : of_bits binary32 1056964608 ≡ f½
+unfolding of_bits of_fields count_trailing_zeros
+half_bits = refl
 
 -- x is ±k / 2
 abbrev pub Halves : Float → Bool → ℕ → Type 0

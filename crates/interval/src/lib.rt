@@ -2,37 +2,33 @@
 #![tactic(auto)]
 
 ghost use Rattle.std.specs.Prelude.{◌≡◌};
-ghost use Rattle.interval.specs.Interval.{whole, lowest, highest, dequantised, clamp_to, outside, mid};
-
-// A level as f32.
-pub fn whole(level: i16) -> f32
-    ensures { result ≡ whole level }
-{
-    f32::from(level)
-}
+ghost use Rattle.interval.specs.Interval.{lowest, highest, dequantised, clamp_to, outside, mid};
 
 // (low - 0.5) * q.
+#[tactic(auto, using(crate::proofs::Ends::half_bits), unfolding(crate::specs::Interval::lowest))]
 fn lowest(low: i16, q: u16) -> f32
     ensures { result ≡ lowest low q }
 {
-    (whole(low) - 0.5) * f32::from(q)
+    (f32::from(low) - 0.5) * f32::from(q)
 }
 
 // (high + 0.5) * q.
+#[tactic(auto, using(crate::proofs::Ends::half_bits), unfolding(crate::specs::Interval::highest))]
 fn highest(high: i16, q: u16) -> f32
     ensures { result ≡ highest high q }
 {
-    (whole(high) + 0.5) * f32::from(q)
+    (f32::from(high) + 0.5) * f32::from(q)
 }
 
 // The half sum of a pair of levels. Rules out: a half sum cut to a whole number, and the low level for both.
 pub fn mid(low: i16, high: i16) -> f32
     ensures { result ≡ mid low high }
 {
-    (whole(low) + whole(high)) * 0.5
+    (f32::from(low) + f32::from(high)) * 0.5
 }
 
 // Half sum × quantiser. Rules out: the value of the low level alone, and the quantiser added.
+#[tactic(auto, unfolding(crate::specs::Interval::dequantised))]
 pub fn dequantised(low: i16, high: i16, q: u16) -> f32
     ensures { result ≡ dequantised (mid low high) q }
 {
@@ -49,6 +45,7 @@ pub struct Clamped {
 
 // x, or the end of the interval that it lies beyond; a NaN stays, and counts as unmoved.
 // Rules out: a NaN turned into an end, an interval of level × quantiser alone, and a value at an end that counts as moved.
+#[tactic(auto, unfolding(crate::specs::Interval::outside))]
 pub fn clamp_to(low: i16, high: i16, q: u16, x: f32) -> Clamped
     ensures { (result.value ≡ clamp_to low high q x) × (result.moved ≡ outside low high q x) }
 {

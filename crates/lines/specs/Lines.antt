@@ -180,15 +180,9 @@ header_of fs =
       picture_height = number_at fs 4;
       channels = number_at fs 5;
       joint = letter 106 (get_or fs 6 []);
-      iterations0 = number_at fs 7;
-      iterations1 = number_at fs 8;
-      iterations2 = number_at fs 9;
-      smoothing0 = weight_at fs 10;
-      smoothing1 = weight_at fs 11;
-      smoothing2 = weight_at fs 12;
-      data0 = weight_at fs 13;
-      data1 = weight_at fs 14;
-      data2 = weight_at fs 15;
+      iterations = number_at fs 7 ∷ number_at fs 8 ∷ number_at fs 9 ∷ [];
+      smoothing = weight_at fs 10 ∷ weight_at fs 11 ∷ weight_at fs 12 ∷ [];
+      data_weights = weight_at fs 13 ∷ weight_at fs 14 ∷ weight_at fs 15 ∷ [];
     }
 
 unfoldable pub channel_of : List (List ℕ) → Channel

@@ -148,12 +148,12 @@ fn range_rule(i: usize, last: Field) -> Rule
 }
 
 // A setting with one of two letters.
-fn choice_rule(i: usize, tag: u8, a: u8, b: u8) -> Rule
+fn choice_rule(i: usize, tag: Tag, a: u8, b: u8) -> Rule
     requires { i < 2 }
-    ensures { result ≡ get_or (choice_rules tag a b) i (Rule.Tag 0) }
+    ensures { result ≡ get_or (choice_rules (letter_of tag) a b) i (Rule.Tag 0) }
 {
     if i == 0 {
-        Rule::Tag(tag)
+        Rule::Tag(tag.letter())
     } else {
         Rule::Letters(a, b)
     }
@@ -199,8 +199,8 @@ pub fn rule_at(tag: Tag, i: usize, limits: Limits, header: Header, last: Field, 
 {
     match tag {
         Tag::Header => header_rule(i, limits, row),
-        Tag::Rounding => choice_rule(i, b'F', b't', b'n'),
-        Tag::Start => choice_rule(i, b'A', b'm', b'o'),
+        Tag::Rounding => choice_rule(i, tag, b't', b'n'),
+        Tag::Start => choice_rule(i, tag, b'm', b'o'),
         Tag::Hold => hold_rule(i, header),
         Tag::Channel => channel_rule(i),
         Tag::Block => block_rule(i),
@@ -214,12 +214,6 @@ pub fn rule_at(tag: Tag, i: usize, limits: Limits, header: Header, last: Field, 
 fn header_of(row: &[u8]) -> Header
     ensures { result ≡ header_of (split 9 row.now) }
 {
-    let smoothing0 = weight::weight_at(row, 10);
-    let smoothing1 = weight::weight_at(row, 11);
-    let smoothing2 = weight::weight_at(row, 12);
-    let data0 = weight::weight_at(row, 13);
-    let data1 = weight::weight_at(row, 14);
-    let data2 = weight::weight_at(row, 15);
     Header {
         width: number::number_at(row, 1),
         height: number::number_at(row, 2),
@@ -227,15 +221,21 @@ fn header_of(row: &[u8]) -> Header
         picture_height: number::number_at(row, 4),
         channels: number::number_at(row, 5),
         joint: field::letter_at(row, 6, b'j'),
-        iterations0: number::number_at(row, 7),
-        iterations1: number::number_at(row, 8),
-        iterations2: number::number_at(row, 9),
-        smoothing0,
-        smoothing1,
-        smoothing2,
-        data0,
-        data1,
-        data2,
+        iterations: [
+            number::number_at(row, 7),
+            number::number_at(row, 8),
+            number::number_at(row, 9),
+        ],
+        smoothing: [
+            weight::weight_at(row, 10),
+            weight::weight_at(row, 11),
+            weight::weight_at(row, 12),
+        ],
+        data_weights: [
+            weight::weight_at(row, 13),
+            weight::weight_at(row, 14),
+            weight::weight_at(row, 15),
+        ],
     }
 }
 
@@ -273,8 +273,9 @@ fn hold_of(row: &[u8]) -> [u32; 3]
     ]
 }
 
+// The mark of a line N: its channel, row and column. Ruled out: the column as the row; the line's first field as its channel.
 #[tactic(auto, unfolding(crate::specs::Lines::mark_of))]
-fn mark_of(row: &[u8]) -> Mark
+pub fn mark_of(row: &[u8]) -> Mark
     ensures { result ≡ mark_of (split 9 row.now) }
 {
     Mark {

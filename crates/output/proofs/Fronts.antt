@@ -5,7 +5,9 @@ use Prim.Native.Nat.{ℕ, ◌+◌, ◌-◌, ◌≤◌}
 use native.Mathlib.Omega.{arith}
 use lib.ListN.{length, take, drop, length-append, length-drop, take-append-drop}
 use lib.Seq.{sets, sets-eq, length-take-le, take_at, drop_at, drop-drop}
-use Rattle.output.specs.Output.{Wrote}
+use Rattle.copying.specs.declared.Writer.{Writer}
+use Rattle.copying.specs.Parts.{Put}
+use Rattle.output.specs.Output.{Wrote, Adds, room}
 
 module _ {a k : ℕ} {s xs x : List ℕ} (w : Wrote a s xs k x) (h : k ≤ length xs) where
   long : length (take a xs ++ s) ≡ k
@@ -54,3 +56,16 @@ wrote_front {s} {xs} {x} {k} w = ap (take k) w.bytes ∙ take_at s (drop k xs) k
 pub wrote_within : {s xs x : List ℕ} {k : ℕ} → Wrote 0 s xs k x → length x ≡ length xs → k ≤ length xs
 wrote_within {s} {xs} {x} {k} w h =
     omega (arith, w.count, ap length w.bytes ∙ length-append s (drop k xs), length-drop k xs)
+
+-- the same of a lent output: nothing; a text that was put where there is room; a text after a text
+pub adds_none : (w : Writer) → Adds w [] w
+adds_none w = record { wrote = wrote_none w.at w.out.now; same = refl }
+
+pub adds_put : {u v : Writer} {text : List ℕ} → Put u text v → length text ≤ room u → Adds u text v
+adds_put p h = record { wrote = wrote_put p.next p.last h; same = p.same }
+
+pub adds_more : {u v w : Writer} {s t : List ℕ} → v.at ≤ length u.out.now → Adds u s v → Adds v t w → Adds u (s ++ t) w
+adds_more h a b = record { wrote = wrote_more a.wrote h b.wrote; same = b.same ∙ a.same }
+
+pub adds_as : {u v : Writer} {s t : List ℕ} → s ≡ t → Adds u s v → Adds u t v
+adds_as e a = rw e at a

@@ -13,7 +13,10 @@ use lib.Ieee.{Float, nan, binary64, to_bits}
 use Rattle.digits.specs.Written.{decimal, hex_of, ended}
 use Rattle.digits.proofs.Lengths.{decimal_length}
 use Rattle.digits.proofs.Both.{both_left, both_right}
-use Rattle.output.specs.Output.{each, numbers_line, pixel, row_line, picture_text, picture_room, picture_fits, picture_into, refusal_text, refusal_into, step_line, totals_text, totals_fits, totals_into, clipped_text, clipped_fits, clipped_into, refusal_fits}
+use Rattle.output.specs.Output.{each, numbers_line, pixel, row_line, picture_text, picture_room, picture_fits, picture_into, refusal_text, refusal_into, step_line, totals_text, totals_fits, totals_into, clipped_text, clipped_fits, clipped_into, refusal_fits, room, Adds}
+use Rattle.copying.specs.declared.Writer.{Writer}
+use Rattle.copying.specs.Parts.{Put}
+use Rattle.output.proofs.Fronts.{adds_none, adds_put}
 use Rattle.output.proofs.Lines.{tabbed, tabbed_more, ended_more, row_text, totals-text, lines_done}
 
 tabbed_length : (f : ℕ → List ℕ) (m n : ℕ) → ((i : ℕ) → length (f i) ≡ m) → length (tabbed (each f n)) ≡ n * (m + 1)
@@ -196,3 +199,60 @@ clipped_within channel number room =
 -- no product of two sides is too large to compute
 pub sides_product : (a b : ℕ) → a ≤ 512 → b ≤ 3586 → a * b ≤ 512 * 3586
 sides_product a b p q = mul-le-mul p q
+
+-- What each call writes, b being whether its text fits and k the room: the text, which was put, or nothing
+module _ (u v : Writer) (b : Bool) (k : ℕ) (r : k ≡ room u) where
+  module _ (width height : ℕ) (rgb : List ℕ) (e : b ≡ picture_fits width height (length rgb) k) where
+    pub picture_adds : b ≡ true → Put u (picture_text width height rgb) v → Adds u (picture_into width height rgb (room u)) v
+    unfolding picture_into
+    picture_adds h p =
+        let t = sym (rw r at e) ∙ h in
+        let f = fits width height (length rgb) (room u) t in
+        rw t (adds_put p (omega (arith, f.3, picture-room width height rgb f.0 f.1)))
+
+    pub picture_none : b ≡ false → Adds u (picture_into width height rgb (room u)) u
+    unfolding picture_into
+    picture_none h = rw (sym (rw r at e) ∙ h) (adds_none u)
+
+  module _ (channel steps : ℕ) (totals : List Float) (e : b ≡ totals_fits channel steps (length totals) k) where
+    pub totals_adds : b ≡ true → Put u (totals_text channel steps totals) v → Adds u (totals_into channel steps totals (room u)) v
+    unfolding totals_into
+    totals_adds h p =
+        let t = sym (rw r at e) ∙ h in
+        let f = totals_fit channel steps (length totals) (room u) t in
+        rw t (adds_put p (omega (arith, f.3, totals_room channel steps totals f.0 f.1)))
+
+    pub totals_none : b ≡ false → Adds u (totals_into channel steps totals (room u)) u
+    unfolding totals_into
+    totals_none h = rw (sym (rw r at e) ∙ h) (adds_none u)
+
+  module _ (channel number : ℕ) (e : b ≡ clipped_fits channel number k) where
+    pub clipped_asks : b ≡ true → u.at + (4 + length (decimal channel) + length (decimal number)) ≤ length u.out.now
+    clipped_asks h =
+        let f = clipped_fit channel number (room u) (sym (rw r at e) ∙ h) in omega (arith, f.2, clipped_digits channel number f.0 f.1)
+
+    pub clipped_adds : b ≡ true → Put u (ended (numbers_line 75 channel number ∷ [])) v → Adds u (clipped_into channel number (room u)) v
+    unfolding clipped_into clipped_text
+    clipped_adds h p =
+        let t = sym (rw r at e) ∙ h in
+        let f = clipped_fit channel number (room u) t in rw t (adds_put p (omega (arith, f.2, clipped_room channel number f.0 f.1)))
+
+    pub clipped_none : b ≡ false → Adds u (clipped_into channel number (room u)) u
+    unfolding clipped_into
+    clipped_none h = rw (sym (rw r at e) ∙ h) (adds_none u)
+
+  module _ (number line n : ℕ) (w : n ≡ number) (m : number ≤ 255) (e : b ≡ refusal_fits line k) where
+    pub refusal_asks : b ≡ true → u.at + (4 + length (decimal n) + length (decimal line)) ≤ length u.out.now
+    refusal_asks h =
+        let f = refusal_fit line (room u) (sym (rw r at e) ∙ h) in omega (arith, f.1, refusal_length n line (omega arith) f.0)
+
+    pub refusal_adds : b ≡ true → Put u (ended (numbers_line 88 n line ∷ [])) v → Adds u (refusal_into number line (room u)) v
+    unfolding refusal_into refusal_text
+    refusal_adds h p =
+        let t = sym (rw r at e) ∙ h in
+        let f = refusal_fit line (room u) t in rw t (adds_put (rw w at p) (omega (arith, f.1, refusal_room number line m f.0)))
+
+  module _ (number line : ℕ) (e : b ≡ refusal_fits line k) where
+    pub refusal_none : b ≡ false → Adds u (refusal_into number line (room u)) u
+    unfolding refusal_into
+    refusal_none h = rw (sym (rw r at e) ∙ h) (adds_none u)

@@ -1,8 +1,9 @@
 -- The text that the program `smooth` prints, as bytes. Document 01, "Whole run and picture", last paragraph; document 02, M-103 and M-104.
-use Rattle.std.specs.Prelude.{◌≡◌, Bool, cond, ◌&&◌, List, [], ◌∷◌, ◌++◌, ℕ, zero, suc, ◌+◌, ◌*◌, eqb, leb, length, get_or, take, drop, Float}
+use Rattle.std.specs.Prelude.{◌≡◌, Bool, cond, ◌&&◌, List, [], ◌∷◌, ◌++◌, ℕ, zero, suc, ◌+◌, ◌-◌, ◌*◌, eqb, leb, length, get_or, take, drop, Float}
 use Rattle.std.specs.Float.{nan, binary64}
 use Rattle.std.specs.Float.Ieee.{to_bits}
 use Rattle.digits.specs.Written.{decimal, hex_of, joined, ended}
+use Rattle.copying.specs.declared.Writer.{Writer}
 
 -- f of 0, 1 and so on, n of them
 module _ {A : Type 0} where
@@ -92,3 +93,12 @@ clipped_into channel number room = cond (clipped_fits channel number room) (clip
 pub record Wrote (at : ℕ) (text before : List ℕ) (r : ℕ) (after : List ℕ) : Type 0 where
   pub count : r ≡ at + length text
   pub bytes : after ≡ take at before ++ (text ++ drop r before)
+
+-- The bytes that a lent output has from its place on
+abbrev pub room : Writer → ℕ
+room to = length to.out.now - to.at
+
+-- A text was written whole into a lent output, from its place on, which is then the text's end
+pub record Adds (before : Writer) (text : List ℕ) (after : Writer) : Type 0 where
+  pub wrote : Wrote before.at text before.out.now after.at after.out.now
+  pub same : after.out.ghost_name ≡ before.out.ghost_name

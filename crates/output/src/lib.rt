@@ -1,16 +1,17 @@
-// The text that the program `smooth` prints, written to a lent buffer from a place of it on.
+// The text that the program `smooth` prints, written to a lent output from its place on.
 #![tactic(auto)]
 
-ghost use Rattle.std.specs.Prelude.{[], ◌∷◌, ◌+◌, ◌-◌, ◌*◌, ◌^◌, ◌≤◌, ◌<◌, ◌≡◌, length};
+ghost use Rattle.std.specs.Prelude.{[], ◌∷◌, ◌+◌, ◌*◌, ◌^◌, ◌≤◌, ◌<◌, ◌≡◌, length};
 ghost use Rattle.std.specs.Float.{binary64};
 ghost use Rattle.std.specs.Float.Ieee.{to_bits};
 ghost use Rattle.digits.specs.Written.{decimal, hex_byte, hex_of, ended};
 ghost use Rattle.copying.specs.Parts.{Put};
-ghost use Rattle.output.specs.Output.{numbers_line, pixel, row_line, picture_text, picture_room, picture_fits, picture_into, refusal_into, step_line, totals_text, totals_fits, totals_into, clipped_fits, clipped_into, refusal_fits, Wrote};
+ghost use Rattle.output.specs.Output.{numbers_line, pixel, row_line, picture_text, picture_room, picture_fits, picture_into, refusal_into, step_line, totals_text, totals_fits, totals_into, clipped_fits, clipped_into, refusal_fits, room, Adds};
 
 use copying::Writer;
 
 // A tab and a number.
+// Kept: it is two calls of the writer's, a tab and a number; see `Writer::put_digits`.
 fn put_number(n: usize, to: &mut Writer)
     requires { to.old.at + (1 + length (decimal n)) < 2 ^ 64 }
     ensures { Put to.old (9 ∷ decimal n) to.new }
@@ -20,6 +21,7 @@ fn put_number(n: usize, to: &mut Writer)
 }
 
 // A letter and two numbers.
+// Kept: the letter is the byte that is written; an enum of the letters would be turned into that byte here.
 fn put_head(letter: u8, a: usize, b: usize, to: &mut Writer)
     requires { to.old.at + (3 + length (decimal a) + length (decimal b)) < 2 ^ 64 }
     ensures { Put to.old (numbers_line letter a b) to.new }
@@ -30,6 +32,7 @@ fn put_head(letter: u8, a: usize, b: usize, to: &mut Writer)
 }
 
 // The line of a letter and two numbers.
+// Kept: the letter is the byte that is written, as in `put_head`.
 fn put_numbers(letter: u8, a: usize, b: usize, to: &mut Writer)
     requires { to.old.at + (4 + length (decimal a) + length (decimal b)) < 2 ^ 64 }
     ensures { Put to.old (ended (numbers_line letter a b ∷ [])) to.new }
@@ -39,6 +42,7 @@ fn put_numbers(letter: u8, a: usize, b: usize, to: &mut Writer)
 }
 
 // A hexadecimal digit, in lower case.
+// Kept: the digit is the byte that is written; `char::from_digit` gives an Option of a char, to be unwrapped and turned into that byte.
 fn hex_digit(d: u8) -> u8
     requires { d < 16 }
     ensures { result ≡ hex_byte d }
@@ -50,6 +54,7 @@ fn hex_digit(d: u8) -> u8
 }
 
 // The last k hexadecimal digits of a number.
+// Kept: as `Writer::put_digits`.
 fn put_hex(k: usize, n: u64, to: &mut Writer)
     requires { to.old.at + k < 2 ^ 64 }
     ensures { Put to.old (hex_of k n) to.new }
@@ -83,7 +88,7 @@ fn put_step(channel: usize, totals: &[f64], k: usize, to: &mut Writer)
 
 // The lines of a run's steps that fit.
 fn put_totals(channel: usize, steps: usize, totals: &[f64], to: &mut Writer)
-    requires { (channel ≤ 9) × (steps ≤ 9999) × (length totals.now ≡ steps * 2) × (to.old.at + steps * 43 < 2 ^ 64) }
+    requires { (channel ≤ 9) × (steps ≤ 9999) × (length totals.now ≡ steps * 2) × (steps * 43 ≤ room to.old) }
     ensures { Put to.old (totals_text channel steps totals.now) to.new }
 {
     for k in 0..steps {
@@ -135,19 +140,23 @@ fn picture_fits(width: usize, height: usize, bytes: usize, room: usize) -> bool
         && 10 + height * (7 * width + 2) <= room
 }
 
-// Writes the text of a picture from place `at` of `out` on and answers where it ends; `at` and nothing written where the picture does not fit.
-// Ruled out: `ABCDEF` for `abcdef`, or green before red; a row left out, or one that does not end with byte 10; a byte before `at` changed.
-pub fn write_picture(width: u32, height: u32, rgb: &[u8], out: &mut [u8], at: usize) -> usize
-    ensures { Wrote at (picture_into width height rgb.now (length out.old - at)) out.old result out.new }
+// How many bytes an output has from its place on.
+fn room(to: &Writer) -> usize
+    ensures { result ≡ room to.now }
+{
+    to.out.len().saturating_sub(to.at)
+}
+
+// Writes the text of a picture; nothing where the picture does not fit.
+// Ruled out: `ABCDEF` for `abcdef`, or green before red; a row left out, or one that does not end with byte 10; a byte before the output's place changed.
+pub fn write_picture(width: u32, height: u32, rgb: &[u8], to: &mut Writer)
+    ensures { Adds to.old (picture_into width height rgb.now (room to.old)) to.new }
 {
     let w = width as usize;
     let h = height as usize;
-    if !picture_fits(w, h, rgb.len(), out.len().saturating_sub(at)) {
-        return at;
+    if picture_fits(w, h, rgb.len(), room(to)) {
+        put_picture(w, h, rgb, to);
     }
-    let mut to = Writer { out, at };
-    put_picture(w, h, rgb, &mut to);
-    to.at
 }
 
 // Whether the lines of a run's steps fit: the channel and the steps, the number of totals, and the room that the lines have.
@@ -157,24 +166,14 @@ fn totals_fit(channel: usize, steps: usize, values: usize, room: usize) -> bool
     channel <= 9 && steps <= 9999 && values == steps * 2 && steps * 43 <= room
 }
 
-// Writes the lines of both totals of each step of a run from place `at` of `out` on and answers where they end; `at` and nothing written where they do not
-// fit. `channel` is that of the run's start.
+// Writes the lines of both totals of each step of a run; nothing where they do not fit. `channel` is that of the run's start.
 // Ruled out: `T` with step 0; the step before the channel; the digits `7FF0000000000000`, or the sign of a NaN.
-pub fn write_totals(
-    channel: usize,
-    steps: usize,
-    totals: &[f64],
-    out: &mut [u8],
-    at: usize,
-) -> usize
-    ensures { Wrote at (totals_into channel steps totals.now (length out.old - at)) out.old result out.new }
+pub fn write_totals(channel: usize, steps: usize, totals: &[f64], to: &mut Writer)
+    ensures { Adds to.old (totals_into channel steps totals.now (room to.old)) to.new }
 {
-    if !totals_fit(channel, steps, totals.len(), out.len().saturating_sub(at)) {
-        return at;
+    if totals_fit(channel, steps, totals.len(), room(to)) {
+        put_totals(channel, steps, totals, to);
     }
-    let mut to = Writer { out, at };
-    put_totals(channel, steps, totals, &mut to);
-    to.at
 }
 
 // Whether the line of a clipped number fits.
@@ -184,18 +183,15 @@ fn clipped_fits(channel: usize, number: usize, room: usize) -> bool
     channel <= 9 && number <= 999999 && 11 <= room
 }
 
-// Writes the line of a channel's number of clipped coefficients from place `at` of `out` on and answers where it ends; `at` and nothing
-// written where it does not fit.
+// Writes the line of a channel's number of clipped coefficients; nothing where it does not fit.
 // Ruled out: the number before the channel; an empty field for 0.
-pub fn write_clipped(channel: usize, number: usize, out: &mut [u8], at: usize) -> usize
-    ensures { Wrote at (clipped_into channel number (length out.old - at)) out.old result out.new }
+#[tactic(auto, using(crate::proofs::Sizes::clipped_asks))]
+pub fn write_clipped(channel: usize, number: usize, to: &mut Writer)
+    ensures { Adds to.old (clipped_into channel number (room to.old)) to.new }
 {
-    if !clipped_fits(channel, number, out.len().saturating_sub(at)) {
-        return at;
+    if clipped_fits(channel, number, room(to)) {
+        put_numbers(b'K', channel, number, to);
     }
-    let mut to = Writer { out, at };
-    put_numbers(b'K', channel, number, &mut to);
-    to.at
 }
 
 // Whether the text of a refusal at this line fits.
@@ -205,16 +201,14 @@ fn refusal_fits(line: usize, room: usize) -> bool
     line <= 999999 && 13 <= room
 }
 
-// Writes the text of a refusal to the front of `out` and answers its length; 0 and nothing written where it does not fit.
+// Writes the text of a refusal; nothing where it does not fit.
 // Ruled out: the line before the refusal's number; an empty field for line 0, which is written `0`.
-// Kept: the number stays a u8, since a caller may have any of them written; `Refusal` would ask more.
-pub fn write_refusal(number: u8, line: usize, out: &mut [u8]) -> usize
-    ensures { Wrote 0 (refusal_into number line (length out.old)) out.old result out.new }
+// Kept: the call writes any u8, as it did; a `Refusal` would ask more of its callers, which a rule of the project forbids.
+#[tactic(auto, using(crate::proofs::Sizes::refusal_asks))]
+pub fn write_refusal(number: u8, line: usize, to: &mut Writer)
+    ensures { Adds to.old (refusal_into number line (room to.old)) to.new }
 {
-    if !refusal_fits(line, out.len()) {
-        return 0;
+    if refusal_fits(line, room(to)) {
+        put_numbers(b'X', usize::from(number), line, to);
     }
-    let mut to = Writer { out, at: 0 };
-    put_numbers(b'X', usize::from(number), line, &mut to);
-    to.at
 }

@@ -22,6 +22,10 @@ pub record Fed (r : Run) (c : ℕ) (levels : Levels) (tables : List ℕ) : Type 
 abbrev pub Whole : Run → List Float → Type 0
 Whole r xs = length xs ≡ r.count * (r.w * r.h)
 
+-- all six of the record's length
+abbrev pub SixWhole : Run → Buffers → Type 0
+SixWhole r B = Whole r B.plane × Whole r B.prior × Whole r B.gradient × Whole r B.across × Whole r B.down × Whole r B.saved
+
 -- the four buffers of project: channel c's part, and with that part replaced
 abbrev pub part_box : ℕ → ℕ → Box → Box
 part_box n c b = record { plane = part_of n c b.plane; across = part_of n c b.across; down = part_of n c b.down; saved = part_of n c b.saved }

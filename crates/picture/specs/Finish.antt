@@ -25,6 +25,10 @@ abbrev pub to_byte : Rounding → Float → ℕ
 to_byte rounding.Truncate v = to_unsigned 8 v
 to_byte rounding.Nearest v = nearest v
 
+-- a letter as it is lent: 1 is the nearest, any other number truncated
+abbrev pub rounding_from : ℕ → Rounding
+rounding_from n = cond (n == 1) rounding.Nearest rounding.Truncate
+
 -- 128.0, 1.402, 0.34414, 0.71414, 1.772
 abbrev pub f128 : Float
 f128 = of_bits binary32 0x43000000

@@ -15,6 +15,21 @@ pub enum Rounding {
     Nearest,
 }
 
+// The rounding of a letter's number: 1 is the nearest, any other number truncated. Ruled out: the nearest for 2, and for 0.
+impl From<u32> for Rounding {
+    ghost use Rattle.picture.specs.Finish.{rounding_from};
+
+    ghost from_gives = { λ n r. r ≡ rounding_from n };
+
+    // Kept: two arms, as those of start's `Reorder`; a trait or a macro over the enums of two would be longer than the impls.
+    fn from(n: u32) -> Rounding {
+        match n {
+            1 => Rounding::Nearest,
+            _ => Rounding::Truncate,
+        }
+    }
+}
+
 // Solved planes w wide and h high, one for each channel, one after the other.
 #[derive(Clone, Copy)]
 struct Planes<'a> {
@@ -27,37 +42,43 @@ struct Planes<'a> {
     ghost long: { length values.now ≡ channels * (w * h) },
 }
 
-// A clamped value truncated, and 0 for NaN.
-fn truncated(v: f32) -> u8
-    requires { lt f255 v ≡ false }
-    ensures { result ≡ to_unsigned 8 v }
-{
-    if 0.0 < v {
-        return std::num::truncating_f32_to_u64(v) as u8;
-    }
-    0
+// A value clamped to 0 to 255, or NaN.
+#[derive(Clone, Copy)]
+struct Clamped {
+    v: f32,
+    ghost most: { lt f255 v ≡ false },
 }
 
-// The whole number nearest to a clamped value, halves upward, and 0 for NaN. k + 0.5 is exact, v + 0.5 would not be: at the f32 below 0.5 it is 1.
-fn nearest(v: f32) -> u8
-    requires { lt f255 v ≡ false }
-    ensures { result ≡ nearest v }
-{
-    let k = truncated(v);
-    if k as f32 + 0.5 <= v {
-        return k + 1;
+impl Clamped {
+    // Truncated, and 0 for NaN.
+    fn truncated(self) -> u8
+        ensures { result ≡ to_unsigned 8 self.v }
+    {
+        if 0.0 < self.v {
+            return std::num::truncating_f32_to_u64(self.v) as u8;
+        }
+        0
     }
-    k
-}
 
-// A clamped value as a byte. This function alone decides how.
-fn to_byte(rounding: Rounding, v: f32) -> u8
-    requires { lt f255 v ≡ false }
-    ensures { result ≡ to_byte rounding v }
-{
-    match rounding {
-        Rounding::Truncate => truncated(v),
-        Rounding::Nearest => nearest(v),
+    // The nearest whole number, halves upward, and 0 for NaN. k + 0.5 is exact, v + 0.5 would not be: at the f32 below 0.5 it is 1.
+    fn nearest(self) -> u8
+        ensures { result ≡ nearest self.v }
+    {
+        let k = self.truncated();
+        if k as f32 + 0.5 <= self.v {
+            return k + 1;
+        }
+        k
+    }
+
+    // As a byte. This function alone decides how.
+    fn to_byte(self, rounding: Rounding) -> u8
+        ensures { result ≡ to_byte rounding self.v }
+    {
+        match rounding {
+            Rounding::Truncate => self.truncated(),
+            Rounding::Nearest => self.nearest(),
+        }
     }
 }
 
@@ -66,53 +87,54 @@ fn shade(rounding: Rounding, x: f32) -> u8
     ensures { result ≡ shade (to_byte rounding) x }
 {
     let v = float::clamp(x, 0.0, 255.0);
-    to_byte(rounding, v)
+    Clamped { v }.to_byte(rounding)
 }
 
 // The three bytes of a pixel of three channels; y has its 128 already.
-fn colour(rounding: Rounding, y: f32, cb: f32, cr: f32, out: &mut [u8])
-    requires { length out.old ≡ 3 }
-    ensures { out.new ≡ colour (to_byte rounding) y cb cr }
+#[tactic(auto, unfolding(crate::specs::Finish::colour))]
+fn colour(rounding: Rounding, y: f32, cb: f32, cr: f32) -> [u8; 3]
+    ensures { result ≡ colour (to_byte rounding) y cb cr }
 {
     let green = float::mul_add_rounded(0.34414, -cb, y);
-    out[0] = shade(rounding, float::mul_add_rounded(1.402, cr, y));
-    out[1] = shade(rounding, float::mul_add_rounded(0.71414, -cr, green));
-    out[2] = shade(rounding, float::mul_add_rounded(1.772, cb, y));
+    [
+        shade(rounding, float::mul_add_rounded(1.402, cr, y)),
+        shade(rounding, float::mul_add_rounded(0.71414, -cr, green)),
+        shade(rounding, float::mul_add_rounded(1.772, cb, y)),
+    ]
 }
 
 // The three bytes of a pixel of one channel.
-fn grey(rounding: Rounding, y: f32, out: &mut [u8])
-    requires { length out.old ≡ 3 }
-    ensures { out.new ≡ grey (to_byte rounding) y }
+#[tactic(auto, unfolding(crate::specs::Finish::grey))]
+fn grey(rounding: Rounding, y: f32) -> [u8; 3]
+    ensures { result ≡ grey (to_byte rounding) y }
 {
-    let v = shade(rounding, y);
-    out.copy_from_slice(&[v, v, v]);
+    [shade(rounding, y); 3]
 }
 
 // The pixel at a place of the planes. Only channel 0 gets 128 added.
-fn pixel(rounding: Rounding, planes: Planes, at: usize, out: &mut [u8])
-    requires { (at < planes.w * planes.h) × (length out.old ≡ 3) }
-    ensures { out.new ≡ pixel (to_byte rounding) planes.entry.channels (planes.entry.w * planes.entry.h) planes.entry.values.now at }
+#[tactic(auto, unfolding(crate::specs::Finish::pixel))]
+fn pixel(rounding: Rounding, planes: Planes, at: usize) -> [u8; 3]
+    requires { at < planes.w * planes.h }
+    ensures { result ≡ pixel (to_byte rounding) planes.entry.channels (planes.entry.w * planes.entry.h) planes.entry.values.now at }
 {
     let n = planes.w * planes.h;
     let y = planes.values[at] + 128.0;
     if planes.channels == 3 {
         let cb = planes.values[n + at];
         let cr = planes.values[2 * n + at];
-        colour(rounding, y, cb, cr, out);
-    } else {
-        grey(rounding, y, out);
+        return colour(rounding, y, cb, cr);
     }
+    grey(rounding, y)
 }
 
-// The pixels of a row whose first is that of place `from`.
-fn row(rounding: Rounding, planes: Planes, from: usize, width: usize, out: &mut [u8])
-    requires { (from + width ≤ planes.w * planes.h) × (length out.old ≡ width * 3) }
-    ensures { out.new ≡ row (to_byte rounding) planes.entry.channels (planes.entry.w * planes.entry.h) planes.entry.values.now from width }
+// The first pixels of the planes' row y, as many as the picture is wide.
+fn row(rounding: Rounding, planes: Planes, y: usize, width: usize, out: &mut [u8])
+    requires { (y < planes.h) × (width ≤ planes.w) × (length out.old ≡ width * 3) }
+    ensures { out.new ≡ row (to_byte rounding) planes.entry.channels (planes.entry.w * planes.entry.h) planes.entry.values.now (y * planes.entry.w) width }
 {
     for x in 0..width {
-        let at = x * 3;
-        pixel(rounding, planes, from + x, &mut out[at..at + 3]);
+        let bytes = pixel(rounding, planes, y * planes.w + x);
+        out[x * 3..x * 3 + 3].copy_from_slice(&bytes);
     }
 }
 
@@ -124,13 +146,7 @@ fn rows(rounding: Rounding, planes: Planes, width: usize, height: usize, rgb: &m
     let line = width * 3;
     for y in 0..height {
         let at = y * line;
-        row(
-            rounding,
-            planes,
-            y * planes.w,
-            width,
-            &mut rgb[at..at + line],
-        );
+        row(rounding, planes, y, width, &mut rgb[at..at + line]);
     }
 }
 
@@ -148,28 +164,36 @@ fn within(most: u32, n: u32) -> bool
     1 <= n && n <= most
 }
 
-// Sizes and channel count of a legal sheet.
-fn legal(w: u32, h: u32, width: u32, height: u32, channels: u32) -> bool
-    ensures { result ≡ legal w h width height channels }
-{
-    side(w) && side(h) && within(w, width) && within(h, height) && (channels == 1 || channels == 3)
-}
-
-// Planes and bytes of the exact lengths.
-fn fitting(
+// The full sides, the picture's sides and the channel count.
+#[derive(Clone, Copy)]
+struct Shape {
     w: u32,
     h: u32,
     width: u32,
     height: u32,
     channels: u32,
-    values: usize,
-    bytes: usize,
-) -> bool
-    requires { legal w h width height channels ≡ true }
-    ensures { result ≡ fitting w h width height channels values bytes }
-{
-    values == channels as usize * (w as usize * h as usize)
-        && bytes == 3 * (width as usize * height as usize)
+}
+
+impl Shape {
+    // That of a legal sheet.
+    fn is_legal(self) -> bool
+        ensures { result ≡ legal self.w self.h self.width self.height self.channels }
+    {
+        side(self.w)
+            && side(self.h)
+            && within(self.w, self.width)
+            && within(self.h, self.height)
+            && (self.channels == 1 || self.channels == 3)
+    }
+
+    // Planes and bytes of the exact lengths.
+    fn is_fitting(self, values: usize, bytes: usize) -> bool
+        requires { legal self.w self.h self.width self.height self.channels ≡ true }
+        ensures { result ≡ fitting self.w self.h self.width self.height self.channels values bytes }
+    {
+        values == self.channels as usize * (self.w as usize * self.h as usize)
+            && bytes == 3 * (self.width as usize * self.height as usize)
+    }
 }
 
 // The picture's bytes, pixel by pixel from the top left, made of the lent planes, which are only read.
@@ -187,10 +211,17 @@ pub fn finish(
 ) -> Result<(), Refusal>
     ensures { record { answer = verdict result; bytes = rgb.new } ≡ finishing rounding w h width height channels planes.now rgb.old }
 {
-    if !legal(w, h, width, height, channels) {
+    let shape = Shape {
+        w,
+        h,
+        width,
+        height,
+        channels,
+    };
+    if !shape.is_legal() {
         return Err(Refusal::Record);
     }
-    if !fitting(w, h, width, height, channels, planes.len(), rgb.len()) {
+    if !shape.is_fitting(planes.len(), rgb.len()) {
         return Err(Refusal::Length);
     }
     let solved = Planes {

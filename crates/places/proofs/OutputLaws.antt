@@ -79,13 +79,13 @@ module _ (s t : Sheet) (h k : Held) (l : LegalSheet whole s h.lent) (b : LegalBl
 
   module _ (p : Mark) (h₀ : p.channel < s.header.channels) where
     link_left : Linked s.header.channels s p.channel
-    link_left = linked s.header.channels s (number s h l b) p.channel h₀
+    link_left = linked s.header.channels s l.three_channels (number s h l b) p.channel h₀
 
     link_right : Linked t.header.channels t p.channel
-    link_right = linked t.header.channels t (number t k m g) p.channel (subst (λ (n : ℕ). p.channel < n) f.channels h₀)
+    link_right = linked t.header.channels t m.three_channels (number t k m g) p.channel (subst (λ (n : ℕ). p.channel < n) f.channels h₀)
 
     link_both : Linked s.header.channels S p.channel
-    link_both = linked s.header.channels S (number s h l b) p.channel h₀
+    link_both = linked s.header.channels S refl (number s h l b) p.channel h₀
 
     first_both : firsts (pairs_of (channels_of s) (channels_of t)) p.channel ≡ blocks_before S p.channel
     first_both = ap (λ (cs : List Channel). firsts cs p.channel) (sym both.both) ∙ link_both.first

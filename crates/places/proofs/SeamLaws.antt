@@ -4,6 +4,8 @@ use mathlib.Core.Path.{◌≡◌, refl, sym, ap, ◌∙◌, subst}
 use mathlib.Core.List.{List, [], ◌∷◌}
 use mathlib.Core.Bool.{Bool, true, false, ◌&&◌}
 use native.Mathlib.Nat.{add-mul}
+use native.Mathlib.Omega.{arith}
+use lib.ListN.{length}
 use lib.Dec.{eqb}
 use lib.Ieee.{binary32, to_bits}
 use borrow.Author.Tests.{eqb-true, eq-eqb}
@@ -16,11 +18,14 @@ use Rattle.contents.specs.declared.Channel.{Channel}
 use Rattle.contents.specs.declared.Sheet.{Sheet}
 use Rattle.contents.specs.Weights.{value_of}
 use Rattle.contents.specs.Hold.{measured, count_at, hold_at}
+use Rattle.contents.specs.Legal.{LegalHeader}
 use Rattle.contents.specs.Sheets.{channels_of}
 use Rattle.sheet.specs.Reading.{Contents}
-use Rattle.seam.specs.Seam.{same, same_weight, same_smoothing, same_data, same_counts, same_shape, same_header, second, same_letters, same_holds, same_channel, same_channels, same_sheet, same_tables, seam}
+use Rattle.seam.specs.Seam.{same, same_weight, same_weights, same_shape, same_header, second, same_letters, same_holds, same_channel, same_channels, same_sheet, same_numbers, seam}
 use Rattle.stitch.specs.Stitched.{wider, besides, stitched_sheet, stitched_held}
 use Rattle.stitch.proofs.TextLaws.{pairs_of}
+use Rattle.stitch.specs.Calls.{whole}
+use Rattle.stitch.proofs.CallLaws.{itself}
 use Rattle.stitch.proofs.LegalLaws.{Same, same_is}
 
 -- Tests that are all true
@@ -60,10 +65,35 @@ eq_same a b e = rw e (self b)
     self true = refl
     self false = refl
 
--- Headers
+and_of : (a b : Bool) → a ≡ true → b ≡ true → (a && b) ≡ true
+and_of true b p q = q
+and_of false b p q = p
+
+-- Numbers and weights, place by place
 
 abbrev bits_of : Weight → ℕ
 bits_of w = to_bits binary32 (value_of w)
+
+numbers_eq : (xs ys : List ℕ) → same_numbers xs ys ≡ true → xs ≡ ys
+numbers_eq [] [] e = refl
+numbers_eq [] (y ∷ ys) e = absurd cc
+numbers_eq (x ∷ xs) [] e = absurd cc
+numbers_eq (x ∷ xs) (y ∷ ys) e =
+    let p = eqb-true x y (both_left (eqb x y) (same_numbers xs ys) e) in
+    let q = numbers_eq xs ys (both_right (eqb x y) (same_numbers xs ys) e) in
+    λ i. p i ∷ q i
+
+weights_both : (us vs ws : List Weight) → length us ≡ length vs → same_weights us vs ≡ true → same_weights vs ws ≡ true → same_weights us ws ≡ true
+weights_both [] vs ws e p q = refl
+weights_both (u ∷ us) [] ws e p q = absurd (omega arith)
+weights_both (u ∷ us) (v ∷ vs) [] e p q = refl
+weights_both (u ∷ us) (v ∷ vs) (w ∷ ws) e p q =
+    and_of _ _
+    (eq-eqb (bits_of u) (bits_of w)
+    (eqb-true (bits_of u) (bits_of v) (both_left (same_weight u v) (same_weights us vs) p) ∙ eqb-true (bits_of v) (bits_of w) (both_left (same_weight v w) (same_weights vs ws) q)))
+    (weights_both us vs ws (omega arith) (both_right (same_weight u v) (same_weights us vs) p) (both_right (same_weight v w) (same_weights vs ws) q))
+
+-- Headers
 
 record Alike (h k : Header) : Type 0 where
   height : h.height ≡ k.height
@@ -71,72 +101,44 @@ record Alike (h k : Header) : Type 0 where
   joint : h.joint ≡ k.joint
   high : h.picture_height ≡ k.picture_height
   wide : h.picture_width ≡ h.width
-  count0 : h.iterations0 ≡ k.iterations0
-  count1 : h.iterations1 ≡ k.iterations1
-  count2 : h.iterations2 ≡ k.iterations2
-  smoothing0 : bits_of h.smoothing0 ≡ bits_of k.smoothing0
-  smoothing1 : bits_of h.smoothing1 ≡ bits_of k.smoothing1
-  smoothing2 : bits_of h.smoothing2 ≡ bits_of k.smoothing2
-  data0 : bits_of h.data0 ≡ bits_of k.data0
-  data1 : bits_of h.data1 ≡ bits_of k.data1
-  data2 : bits_of h.data2 ≡ bits_of k.data2
+  counts : h.iterations ≡ k.iterations
+  smoothing : same_weights h.smoothing k.smoothing ≡ true
+  data_weights : same_weights h.data_weights k.data_weights ≡ true
 
 alike : (h k : Header) → same_header h k ≡ true → Alike h k
 alike h k e =
-    let p = four_of (same_shape h k) (same_counts h k) (same_smoothing h k) (same_data h k) e in
+    let p = four_of (same_shape h k) (same_numbers h.iterations k.iterations) (same_weights h.smoothing k.smoothing) (same_weights h.data_weights k.data_weights) e in
     let A = eqb h.picture_height k.picture_height && eqb h.picture_width h.width in
     let s = four_of (eqb h.height k.height) (eqb h.channels k.channels) (same h.joint k.joint) A p.one in
     let w = two_of (eqb h.picture_height k.picture_height) (eqb h.picture_width h.width) s.rest.three in
-    let c = three_of (eqb h.iterations0 k.iterations0) (eqb h.iterations1 k.iterations1) (eqb h.iterations2 k.iterations2) p.rest.one in
-    let m = three_of (same_weight h.smoothing0 k.smoothing0) (same_weight h.smoothing1 k.smoothing1) (same_weight h.smoothing2 k.smoothing2) p.rest.two in
-    let d = three_of (same_weight h.data0 k.data0) (same_weight h.data1 k.data1) (same_weight h.data2 k.data2) p.rest.three in
     record {
       height = eqb-true h.height k.height s.one;
       channels = eqb-true h.channels k.channels s.rest.one;
       joint = same_eq h.joint k.joint s.rest.two;
       high = eqb-true h.picture_height k.picture_height w.one;
       wide = eqb-true h.picture_width h.width w.two;
-      count0 = eqb-true h.iterations0 k.iterations0 c.one;
-      count1 = eqb-true h.iterations1 k.iterations1 c.two;
-      count2 = eqb-true h.iterations2 k.iterations2 c.three;
-      smoothing0 = eqb-true (bits_of h.smoothing0) (bits_of k.smoothing0) m.one;
-      smoothing1 = eqb-true (bits_of h.smoothing1) (bits_of k.smoothing1) m.two;
-      smoothing2 = eqb-true (bits_of h.smoothing2) (bits_of k.smoothing2) m.three;
-      data0 = eqb-true (bits_of h.data0) (bits_of k.data0) d.one;
-      data1 = eqb-true (bits_of h.data1) (bits_of k.data1) d.two;
-      data2 = eqb-true (bits_of h.data2) (bits_of k.data2) d.three;
+      counts = numbers_eq h.iterations k.iterations p.rest.one;
+      smoothing = p.rest.two;
+      data_weights = p.rest.three;
     }
-
-and_of : (a b : Bool) → a ≡ true → b ≡ true → (a && b) ≡ true
-and_of true b p q = q
-and_of false b p q = p
 
 header-of : (h k : Header) → Alike h k → same_header h k ≡ true
 header-of h k a =
     let s = and_of _ _ (eq-eqb h.height k.height a.height) (and_of _ _ (eq-eqb h.channels k.channels a.channels) (and_of _ _ (eq_same h.joint k.joint a.joint) (and_of _ _ (eq-eqb h.picture_height k.picture_height a.high) (eq-eqb h.picture_width h.width a.wide)))) in
-    let c = and_of _ _ (eq-eqb h.iterations0 k.iterations0 a.count0) (and_of _ _ (eq-eqb h.iterations1 k.iterations1 a.count1) (eq-eqb h.iterations2 k.iterations2 a.count2)) in
-    let m = and_of _ _ (eq-eqb (bits_of h.smoothing0) (bits_of k.smoothing0) a.smoothing0) (and_of _ _ (eq-eqb (bits_of h.smoothing1) (bits_of k.smoothing1) a.smoothing1) (eq-eqb (bits_of h.smoothing2) (bits_of k.smoothing2) a.smoothing2)) in
-    let d = and_of _ _ (eq-eqb (bits_of h.data0) (bits_of k.data0) a.data0) (and_of _ _ (eq-eqb (bits_of h.data1) (bits_of k.data1) a.data1) (eq-eqb (bits_of h.data2) (bits_of k.data2) a.data2)) in
-    and_of _ _ s (and_of _ _ c (and_of _ _ m d))
+    and_of _ _ s (and_of _ _ (ap (λ (l : List ℕ). same_numbers l k.iterations) a.counts ∙ itself k.iterations) (and_of _ _ a.smoothing a.data_weights))
 
 -- the first two together, and the third
-alike_left : (h k l : Header) → Alike h k → Alike k l → Alike (wider h k) l
-alike_left h k l a b =
+alike_left : (h k l : Header) → length h.smoothing ≡ length k.smoothing → length h.data_weights ≡ length k.data_weights → Alike h k → Alike k l → Alike (wider h k) l
+alike_left h k l m n a b =
     record {
       height = a.height ∙ b.height;
       channels = a.channels ∙ b.channels;
       joint = a.joint ∙ b.joint;
       high = a.high ∙ b.high;
       wide = λ i. a.wide i + b.wide i;
-      count0 = a.count0 ∙ b.count0;
-      count1 = a.count1 ∙ b.count1;
-      count2 = a.count2 ∙ b.count2;
-      smoothing0 = a.smoothing0 ∙ b.smoothing0;
-      smoothing1 = a.smoothing1 ∙ b.smoothing1;
-      smoothing2 = a.smoothing2 ∙ b.smoothing2;
-      data0 = a.data0 ∙ b.data0;
-      data1 = a.data1 ∙ b.data1;
-      data2 = a.data2 ∙ b.data2;
+      counts = a.counts ∙ b.counts;
+      smoothing = weights_both h.smoothing k.smoothing l.smoothing m a.smoothing b.smoothing;
+      data_weights = weights_both h.data_weights k.data_weights l.data_weights n a.data_weights b.data_weights;
     }
 
 -- Settings
@@ -207,15 +209,6 @@ module _ (w v u : ℕ) where
       and_of _ _ (channel-of w (v + u) c (besides d e) (record { height = a.height; across = a.across; down = a.down; wide = a.wide; wide_right = wide_both d e v u b.across b.wide b.wide_right }))
       (channels_right cs ds es (both_right (same_channel w v c d) (same_channels w v cs ds) p) (both_right (same_channel v u d e) (same_channels v u ds es) q))
 
-tables_eq : (xs ys : List ℕ) → same_tables xs ys ≡ true → xs ≡ ys
-tables_eq [] [] e = refl
-tables_eq [] (y ∷ ys) e = absurd cc
-tables_eq (x ∷ xs) [] e = absurd cc
-tables_eq (x ∷ xs) (y ∷ ys) e =
-    let p = eqb-true x y (both_left (eqb x y) (same_tables xs ys) e) in
-    let q = tables_eq xs ys (both_right (eqb x y) (same_tables xs ys) e) in
-    λ i. p i ∷ q i
-
 -- Whole sheets
 
 record Parts (s t : Sheet) : Type 0 where
@@ -230,6 +223,7 @@ parts s t e =
     record { header = alike s.header t.header p.one; letters = p.rest.one; holds = p.rest.two; channels = p.rest.three }
 
 module _ (c d e : Contents) (x : channels_of (stitched_sheet c.sheet d.sheet) ≡ pairs_of (channels_of c.sheet) (channels_of d.sheet)) (y : channels_of (stitched_sheet d.sheet e.sheet) ≡ pairs_of (channels_of d.sheet) (channels_of e.sheet))
+    (l : LegalHeader whole c.sheet.header) (m : LegalHeader whole d.sheet.header)
     (p : seam c d ≡ true) (q : seam d e ≡ true) where
   pub seam_left : seam (record { sheet = stitched_sheet c.sheet d.sheet; held = stitched_held c.sheet d.sheet c.held d.held }) e ≡ true
   unfolding seam
@@ -237,14 +231,14 @@ module _ (c d e : Contents) (x : channels_of (stitched_sheet c.sheet d.sheet) �
       let s = c.sheet in
       let t = d.sheet in
       let v = e.sheet in
-      let a = parts s t (both_left (same_sheet s t) (same_tables c.held.lent.tables d.held.lent.tables) p) in
-      let b = parts t v (both_left (same_sheet t v) (same_tables d.held.lent.tables e.held.lent.tables) q) in
+      let a = parts s t (both_left (same_sheet s t) (same_numbers c.held.lent.tables d.held.lent.tables) p) in
+      let b = parts t v (both_left (same_sheet t v) (same_numbers d.held.lent.tables e.held.lent.tables) q) in
       let n = a.header.channels in
-      let T : same_tables c.held.lent.tables e.held.lent.tables ≡ true =
-      ap (λ (l : List ℕ). same_tables l e.held.lent.tables) (tables_eq c.held.lent.tables d.held.lent.tables (both_right (same_sheet s t) (same_tables c.held.lent.tables d.held.lent.tables) p))
-      ∙ both_right (same_sheet t v) (same_tables d.held.lent.tables e.held.lent.tables) q in
+      let T : same_numbers c.held.lent.tables e.held.lent.tables ≡ true =
+      ap (λ (l : List ℕ). same_numbers l e.held.lent.tables) (numbers_eq c.held.lent.tables d.held.lent.tables (both_right (same_sheet s t) (same_numbers c.held.lent.tables d.held.lent.tables) p))
+      ∙ both_right (same_sheet t v) (same_numbers d.held.lent.tables e.held.lent.tables) q in
       and_of _ _
-      (and_of _ _ (header-of (wider s.header t.header) v.header (alike_left s.header t.header v.header a.header b.header))
+      (and_of _ _ (header-of (wider s.header t.header) v.header (alike_left s.header t.header v.header (l.three_smoothing ∙ sym m.three_smoothing) (l.three_data ∙ sym m.three_data) a.header b.header))
       (and_of _ _ (letters_both s.settings t.settings v.settings a.letters b.letters)
       (and_of _ _ (holds_left s t v s.header.channels a.holds (subst (λ (k : ℕ). same_holds k t v ≡ true) (sym n) b.holds))
       (ap (λ (cs : List Channel). same_channels (s.header.width + t.header.width) v.header.width cs (channels_of v)) x
@@ -256,12 +250,12 @@ module _ (c d e : Contents) (x : channels_of (stitched_sheet c.sheet d.sheet) �
       let s = c.sheet in
       let t = d.sheet in
       let v = e.sheet in
-      let a = parts s t (both_left (same_sheet s t) (same_tables c.held.lent.tables d.held.lent.tables) p) in
-      let b = parts t v (both_left (same_sheet t v) (same_tables d.held.lent.tables e.held.lent.tables) q) in
+      let a = parts s t (both_left (same_sheet s t) (same_numbers c.held.lent.tables d.held.lent.tables) p) in
+      let b = parts t v (both_left (same_sheet t v) (same_numbers d.held.lent.tables e.held.lent.tables) q) in
       and_of _ _
-      (and_of _ _ (both_left (same_header s.header t.header) (same_letters s.settings t.settings && (same_holds s.header.channels s t && same_channels s.header.width t.header.width (channels_of s) (channels_of t))) (both_left (same_sheet s t) (same_tables c.held.lent.tables d.held.lent.tables) p))
+      (and_of _ _ (both_left (same_header s.header t.header) (same_letters s.settings t.settings && (same_holds s.header.channels s t && same_channels s.header.width t.header.width (channels_of s) (channels_of t))) (both_left (same_sheet s t) (same_numbers c.held.lent.tables d.held.lent.tables) p))
       (and_of _ _ a.letters
       (and_of _ _ (holds_right s t v s.header.channels a.holds)
       (ap (λ (ds : List Channel). same_channels s.header.width (t.header.width + v.header.width) (channels_of s) ds) y
       ∙ channels_right s.header.width t.header.width v.header.width (channels_of s) (channels_of t) (channels_of v) a.channels b.channels))))
-      (both_right (same_sheet s t) (same_tables c.held.lent.tables d.held.lent.tables) p)
+      (both_right (same_sheet s t) (same_numbers c.held.lent.tables d.held.lent.tables) p)

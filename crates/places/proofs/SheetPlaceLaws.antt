@@ -9,6 +9,7 @@ use lib.ListN.{length, take, drop, length-drop}
 use lib.Seq.{take-append-le, drop-append-le, drop-drop}
 use Rattle.contents.specs.declared.Channel.{Channel}
 use Rattle.contents.specs.declared.Sheet.{Sheet}
+use Rattle.contents.proofs.ThreeLaws.{spelled, spelled_is}
 use Rattle.contents.specs.Sheets.{no_channel, channel_at}
 use Rattle.contents.specs.Marks.{blocks_in, blocks_before}
 use Rattle.stitch.specs.Stitched.{besides, rows_in, columns_in, weave, woven}
@@ -110,18 +111,20 @@ module _ {A : Type 0} where
 -- The channels in use of a sheet
 
 pub record Linked (n : ℕ) (s : Sheet) (c : ℕ) : Type 0 where
-  pub is : nth (take n (s.first ∷ s.second ∷ s.third ∷ [])) c ≡ channel_at s c
-  pub first : firsts (take n (s.first ∷ s.second ∷ s.third ∷ [])) c ≡ blocks_before s c
-  pub inside : c < length (take n (s.first ∷ s.second ∷ s.third ∷ []))
+  pub is : nth (take n s.channels) c ≡ channel_at s c
+  pub first : firsts (take n s.channels) c ≡ blocks_before s c
+  pub inside : c < length (take n s.channels)
 
-pub linked : (n : ℕ) (s : Sheet) → Number n → (c : ℕ) → c < n → Linked n s c
-linked n s x c h = ⊎_elim (λ e. subst (λ (k : ℕ). Linked k s c) (sym e) (one c (omega arith))) (λ e. subst (λ (k : ℕ). Linked k s c) (sym e) (all c (omega arith))) x
+pub linked : (n : ℕ) (s : Sheet) → length s.channels ≡ 3 → Number n → (c : ℕ) → c < n → Linked n s c
+linked n s t x c h =
+    subst (λ (v : Sheet). Linked n v c) (spelled_is s t)
+    (⊎_elim (λ e. subst (λ (k : ℕ). Linked k (spelled s) c) (sym e) (one c (omega arith))) (λ e. subst (λ (k : ℕ). Linked k (spelled s) c) (sym e) (all c (omega arith))) x)
   where
-    one : (c : ℕ) → c < 1 → Linked 1 s c
+    one : (c : ℕ) → c < 1 → Linked 1 (spelled s) c
     one zero h = record { is = refl; first = refl; inside = omega arith }
     one (suc c) h = absurd (omega arith)
 
-    all : (c : ℕ) → c < 3 → Linked 3 s c
+    all : (c : ℕ) → c < 3 → Linked 3 (spelled s) c
     all zero h = record { is = refl; first = refl; inside = omega arith }
     all (suc zero) h = record { is = refl; first = omega arith; inside = omega arith }
     all (suc (suc zero)) h = record { is = refl; first = omega arith; inside = omega arith }

@@ -129,21 +129,16 @@ sheet_both s t v =
             picture_height = s.header.picture_height;
             channels = s.header.channels;
             joint = s.header.joint;
-            iterations0 = s.header.iterations0;
-            iterations1 = s.header.iterations1;
-            iterations2 = s.header.iterations2;
-            smoothing0 = s.header.smoothing0;
-            smoothing1 = s.header.smoothing1;
-            smoothing2 = s.header.smoothing2;
-            data0 = s.header.data0;
-            data1 = s.header.data1;
-            data2 = s.header.data2;
+            iterations = s.header.iterations;
+            smoothing = s.header.smoothing;
+            data_weights = s.header.data_weights;
           };
       settings = s.settings;
-      first = besides_both s.first t.first v.first i;
-      second = besides_both s.second t.second v.second i;
-      third = besides_both s.third t.third v.third i;
+      channels = beside 0 i ∷ beside 1 i ∷ beside 2 i ∷ [];
     }
+  where
+    beside : (c : ℕ) → besides (besides (channel_at s c) (channel_at t c)) (channel_at v c) ≡ besides (channel_at s c) (besides (channel_at t c) (channel_at v c))
+    beside c = besides_both (channel_at s c) (channel_at t c) (channel_at v c)
 
 -- Marks: those of the third are moved by both
 

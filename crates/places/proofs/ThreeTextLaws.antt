@@ -91,8 +91,10 @@ module _ (a b c ab bc : List ℕ) (x : Both a b ab) (y : Both b c bc) where
       let A = x.one in
       let B = x.other in
       let C = y.other in
-      let l = seam_left A B C (paired a b ab x).both pair_last.both x.fit fit_last in
-      let r = seam_right A B C (paired a b ab x).both pair_last.both x.fit fit_last in
+      let h = (legal whole a A.sheet A.held x.left_reads).header in
+      let k = (legal whole b B.sheet B.held x.right_reads).header in
+      let l = seam_left A B C (paired a b ab x).both pair_last.both h k x.fit fit_last in
+      let r = seam_right A B C (paired a b ab x).both pair_last.both h k x.fit fit_last in
       let w = add_assoc A.sheet.header.width B.sheet.header.width C.sheet.header.width in
       (λ i. joining (reads a b ab x i) (y.right_reads i))
       ∙ (λ i. cond (l i) (cond (leb (w i) 512) (Text (same_output i)) (Fault 2 0 0)) (Fault 16 0 0))

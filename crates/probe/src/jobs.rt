@@ -5,57 +5,17 @@ ghost use Rattle.steps.specs.Step.{moved};
 ghost use Rattle.gradients.specs.Blend.{blended, totals};
 ghost use Rattle.start.specs.Auxiliary.{aux_init};
 ghost use Rattle.projection.specs.Blown.{is_blown};
-ghost use Rattle.start.specs.Coef.{Covers, Lent, coef, pairs};
-ghost use Rattle.start.specs.AsCoef.{as_coef};
+ghost use Rattle.start.specs.Coef.{Covers, Lent, coef, pairs, reorder_from};
 ghost use Rattle.fidelity.specs.DctGradient.{data_gradient};
 ghost use Rattle.projection.specs.Projection.{clipped, project_onto_box, transformed};
-ghost use Rattle.probe.specs.Jobs.{own, reorder_from, bits_of};
+ghost use Rattle.probe.specs.Jobs.{own, bits_of};
 
 use gradients::grid::Grid;
 use start::coef::{Coef, Own, Reorder};
 use steps::solve::step_constants;
 
-fn reorder_from(n: u32) -> Reorder
-    ensures { result ≡ reorder_from n }
-{
-    if n == 1 {
-        return Reorder::Once;
-    }
-    Reorder::Each
-}
-
-// A channel's coefficients, of the numbers and slices that a C function takes.
-fn coef_of<'a>(
-    width: usize,
-    height: usize,
-    fx: usize,
-    fy: usize,
-    w: usize,
-    h: usize,
-    lows: &'a [i16],
-    highs: &'a [i16],
-    table: &'a [u16],
-) -> Coef<'a>
-    requires { Covers (own width height fx fy) w h
-        × Lent (own width height fx fy) (pairs lows.now highs.now) table.now }
-    ensures { (as_coef result ≡ coef (own width height fx fy) (pairs lows.now highs.now) table.now) × (result.w ≡ w) × (result.h ≡ h) }
-{
-    Coef {
-        own: Own {
-            width,
-            height,
-            horizontal: fx,
-            vertical: fy,
-        },
-        w,
-        h,
-        lows,
-        highs,
-        table,
-    }
-}
-
 // Start of one channel: own sides `width` and `height`, factors fx across and fy down, full sides w and h, and reordered once where `reorder` is 1.
+// Kept: a function for C takes numbers and slices alone, so the facts that a `Coef` carries stand here, and in the contracts of probe_data and probe_project.
 #[unsafe(no_mangle)]
 pub extern "C" fn probe_start(
     plane: &mut [f32],
@@ -89,12 +49,26 @@ pub extern "C" fn probe_start(
     }
         ≡ aux_init (reorder_from reorder) (coef (own width height fx fy) (pairs lows.now highs.now) table.now) w h }
 {
-    let coef = coef_of(width, height, fx, fy, w, h, lows, highs, table);
-    let r = reorder_from(reorder);
-    start::auxiliary::start(plane, prior, gradient, across, down, saved, &coef, r);
+    let own = Own {
+        width,
+        height,
+        horizontal: fx,
+        vertical: fy,
+    };
+    let coef = Coef {
+        own,
+        w,
+        h,
+        lows,
+        highs,
+        table,
+    };
+    let order = Reorder::from(reorder);
+    start::auxiliary::start(plane, prior, gradient, across, down, saved, &coef, order);
 }
 
 // Job 1 of a step, counted from 0, of a run with full sides w and h.
+// Kept: a function for C takes numbers and slices alone, so the five numbers that `step_constants` takes are lent one by one, here and to probe_blend and probe_move.
 #[unsafe(no_mangle)]
 pub extern "C" fn probe_push(
     plane: &mut [f32],
@@ -136,7 +110,20 @@ pub extern "C" fn probe_data(
         ≡ data_gradient (coef (own width height fx fy) (pairs lows.now highs.now) table.now)
         w h weight saved.now }
 {
-    let coef = coef_of(width, height, fx, fy, w, h, lows, highs, table);
+    let own = Own {
+        width,
+        height,
+        horizontal: fx,
+        vertical: fy,
+    };
+    let coef = Coef {
+        own,
+        w,
+        h,
+        lows,
+        highs,
+        table,
+    };
     fidelity::dct_gradient::data(saved, gradient, &coef, weight);
 }
 
@@ -221,7 +208,20 @@ pub extern "C" fn probe_project(
         (transformed (coef (own width height fx fy) (pairs lows.now highs.now) table.now) w h
         (record { plane = plane.old; across = across.old; down = down.old; saved = saved.old }))) }
 {
-    let coef = coef_of(width, height, fx, fy, w, h, lows, highs, table);
+    let own = Own {
+        width,
+        height,
+        horizontal: fx,
+        vertical: fy,
+    };
+    let coef = Coef {
+        own,
+        w,
+        h,
+        lows,
+        highs,
+        table,
+    };
     projection::projection::project_onto_box(plane, across, down, saved, &coef)
 }
 
@@ -231,8 +231,5 @@ pub extern "C" fn probe_blown(plane: &[f32], saved: &[f32], n: usize) -> u32
     requires { n ≤ length saved.now }
     ensures { result ≡ cond (is_blown n plane.now saved.now) 1 0 }
 {
-    if projection::blown::is_blown(plane, saved, n) {
-        return 1;
-    }
-    0
+    u32::from(projection::blown::is_blown(plane, saved, n))
 }

@@ -12,6 +12,9 @@ ghost use Rattle.utils.specs.Auxiliary.{upsample_pixels};
 ghost use Rattle.utils.specs.Blocks.{from_blocks, to_blocks};
 ghost use Rattle.utils.specs.Dct.{dct8x8, idct8x8};
 
+use utils::blocks::{Order, move_blocks};
+use utils::dct::{Transform, transform8x8};
+
 #[unsafe(no_mangle)]
 pub extern "C" fn probe_mul_add(a: f32, b: f32, c: f32) -> f32
     ensures { result ≡ fused a b c }
@@ -55,6 +58,7 @@ pub extern "C" fn probe_powi2(x: f32) -> f32
 }
 
 // The two sums of f64 that the totals are made of, by their bits.
+// Kept: C calls each by its own name, and the body of each is the one call that it compares.
 #[unsafe(no_mangle)]
 pub extern "C" fn probe_total_mul_add(a: f32, b: f32, t: f64) -> u64
     ensures { result ≡ to_bits binary64 (fused_at binary64 a b t) }
@@ -62,6 +66,7 @@ pub extern "C" fn probe_total_mul_add(a: f32, b: f32, t: f64) -> u64
     float::double::to_bits(float::double::mul_add(a, b, t))
 }
 
+// Kept: as probe_total_mul_add.
 #[unsafe(no_mangle)]
 pub extern "C" fn probe_total_add_product(t: f64, a: f32, b: f32) -> u64
     ensures { result ≡ to_bits binary64 (t ⊞ (a ⊗ b)) }
@@ -74,7 +79,7 @@ pub extern "C" fn probe_idct8x8(a: &mut [f32])
     requires { length a.old ≡ 64 }
     ensures { a.new ≡ idct8x8 a.old }
 {
-    utils::dct::idct8x8(a);
+    transform8x8(a, Transform::Inverse);
 }
 
 #[unsafe(no_mangle)]
@@ -82,23 +87,25 @@ pub extern "C" fn probe_dct8x8(a: &mut [f32])
     requires { length a.old ≡ 64 }
     ensures { a.new ≡ dct8x8 a.old }
 {
-    utils::dct::dct8x8(a);
+    transform8x8(a, Transform::Forward);
 }
 
+// Kept: C calls this and probe_to_blocks each by its own name, and the body of each is the one call that it compares.
 #[unsafe(no_mangle)]
 pub extern "C" fn probe_from_blocks(input: &[f32], output: &mut [f32], w: usize, h: usize)
     requires { (w % 8 ≡ 0) × (h % 8 ≡ 0) × (w * h ≤ length input.now) × (w * h ≤ length output.old) }
     ensures { output.new ≡ from_blocks w (w / 8) (h / 8) input.now output.old }
 {
-    utils::blocks::from_blocks(input, output, w, h, w / 8, h / 8);
+    move_blocks(input, output, w, h, w / 8, h / 8, Order::Raster);
 }
 
+// Kept: as probe_from_blocks.
 #[unsafe(no_mangle)]
 pub extern "C" fn probe_to_blocks(input: &[f32], output: &mut [f32], w: usize, h: usize)
     requires { (w % 8 ≡ 0) × (h % 8 ≡ 0) × (w * h ≤ length input.now) × (w * h ≤ length output.old) }
     ensures { output.new ≡ to_blocks w (w / 8) (h / 8) input.now output.old }
 {
-    utils::blocks::to_blocks(input, output, w, h, w / 8, h / 8);
+    move_blocks(input, output, w, h, w / 8, h / 8, Order::Blocks);
 }
 
 #[unsafe(no_mangle)]

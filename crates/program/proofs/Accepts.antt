@@ -21,7 +21,8 @@ use Rattle.contents.specs.declared.Limits.{Limits}
 use Rattle.contents.specs.declared.Sheet.{Sheet}
 use Rattle.contents.specs.declared.Header.{Header}
 use Rattle.contents.specs.declared.Channel as Line
-use Rattle.contents.specs.Sheets.{Lent, channel_at, levels_to}
+use Rattle.contents.specs.Sheets as Sheets
+use Rattle.contents.specs.Sheets.{Lent, channel_at, data_at, levels_to}
 use Rattle.start.specs.Coef.{Levels, pairs}
 use Rattle.calls.specs.Run.{coefs, count, levels_before, Numbers, fresh, own, place, side, full_side, factor, weight, own_ok, header_ok, sheet_ok, places_ok, legal, every}
 use Rattle.calls.specs.Run as Model
@@ -187,13 +188,13 @@ module _ (limits : Limits) (S : Sheet) (b : Lent) (l : LegalSheet limits S b) wh
   thousand n k = le_trans k l.limits_legal.iterations
 
   -- M-108: in the sheet's own mode a count is within what it is measured against, which is the run's steps; in the other mode it is the run's steps
-  measured_joint : S.header.joint ≡ true → (c : ℕ) → c < S.header.channels → measured S.header c ≡ S.header.iterations0
+  measured_joint : S.header.joint ≡ true → (c : ℕ) → c < S.header.channels → measured S.header c ≡ iterations_at S 0
   measured_joint j c below = go l.header.channels
     where
-      go : (S.header.channels ≡ 1) ⊎ (S.header.channels ≡ 3) → measured S.header c ≡ S.header.iterations0
+      go : (S.header.channels ≡ 1) ⊎ (S.header.channels ≡ 3) → measured S.header c ≡ iterations_at S 0
       go (inl e) =
           let first : c ≡ 0 = omega arith in
-          sym (measured_one S.header c S.header.iterations0 (three_0 c S.header.iterations0 S.header.iterations1 S.header.iterations2 first) (λ t. omega arith))
+          sym (measured_one S.header c (iterations_at S 0) (three_0 c _ _ _ first) (λ t. omega arith))
       go (inr e) = sym (measured_first S.header c 0 e j)
 
   measured_alone : S.header.joint ≡ false → (c : ℕ) → measured S.header c ≡ iterations_at S c
@@ -203,10 +204,10 @@ module _ (limits : Limits) (S : Sheet) (b : Lent) (l : LegalSheet limits S b) wh
       go (inl e) = sym (measured_one S.header c (iterations_at S c) refl (λ t. omega arith))
       go (inr e) = sym (measured_apart S.header c (iterations_at S c) refl j e)
 
-  joint_held : (c : ℕ) → c < S.header.channels → held_in S.header.joint S c S.header.iterations0 ≤ S.header.iterations0
+  joint_held : (c : ℕ) → c < S.header.channels → held_in S.header.joint S c (iterations_at S 0) ≤ iterations_at S 0
   joint_held c below = go S.header.joint refl
     where
-      go : (b : Bool) → S.header.joint ≡ b → held_in b S c S.header.iterations0 ≤ S.header.iterations0
+      go : (b : Bool) → S.header.joint ≡ b → held_in b S c (iterations_at S 0) ≤ iterations_at S 0
       go true j = omega (arith, hold_most S l.hold c, measured_joint j c below)
       go false j = omega arith
 
@@ -225,15 +226,15 @@ module _ (limits : Limits) (S : Sheet) (b : Lent) (l : LegalSheet limits S b) wh
         three = refl;
         wide = full h.width l.header.width;
         high = full h.height l.header.height;
-        few = thousand h.iterations0 l.header.iterations0;
-        smooth = weight_test h.smoothing0 l.header.smoothing0;
+        few = thousand (iterations_at S 0) (l.header.iterations 0);
+        smooth = weight_test (Sheets.smoothing_at h 0) (l.header.smoothing 0);
         count = l.header.channels;
         each =
             λ c below.
             below_3 (λ c. c < h.channels → T (own_ok (sheet_of (joint S)) (own_of (get_or (joint S).channels c no_channel))))
-            (λ b. channel_test (joint S) h S.first h.data0 _ refl refl (l.channel 0 b) l.header.data0 (joint_held 0 b))
-            (λ b. channel_test (joint S) h S.second h.data1 _ refl refl (l.channel 1 b) l.header.data1 (joint_held 1 b))
-            (λ b. channel_test (joint S) h S.third h.data2 _ refl refl (l.channel 2 b) l.header.data2 (joint_held 2 b))
+            (λ b. channel_test (joint S) h (channel_at S 0) (data_at h 0) _ refl refl (l.channel 0 b) (l.header.data_weights 0) (joint_held 0 b))
+            (λ b. channel_test (joint S) h (channel_at S 1) (data_at h 1) _ refl refl (l.channel 1 b) (l.header.data_weights 1) (joint_held 1 b))
+            (λ b. channel_test (joint S) h (channel_at S 2) (data_at h 2) _ refl refl (l.channel 2 b) (l.header.data_weights 2) (joint_held 2 b))
             c (omega (arith, at-most h.channels l.header.channels)) below;
         at_start = λ c below. below_3 (λ c. (get_or (joint S).channels c no_channel).position ≡ 0) refl refl refl c (omega (arith, at-most h.channels l.header.channels));
         unmarked = λ c below. below_3 (λ c. (get_or (joint S).channels c no_channel).mark ≡ false) refl refl refl c (omega (arith, at-most h.channels l.header.channels));
@@ -244,20 +245,17 @@ module _ (limits : Limits) (S : Sheet) (b : Lent) (l : LegalSheet limits S b) wh
   unfolding alone
   alone_fine c below =
       let h = S.header in
-      let third : c < 3 = omega (arith, at-most h.channels l.header.channels) in
       record {
         three = refl;
         wide = full h.width l.header.width;
         high = full h.height l.header.height;
-        few = below_3 (λ c. (alone S c).n ≤ 1000) (thousand h.iterations0 l.header.iterations0) (thousand h.iterations1 l.header.iterations1) (thousand h.iterations2 l.header.iterations2) c third;
-        smooth =
-            below_3 (λ c. T (weight (alone S c).smoothing)) (weight_test h.smoothing0 l.header.smoothing0) (weight_test h.smoothing1 l.header.smoothing1)
-            (weight_test h.smoothing2 l.header.smoothing2) c third;
+        few = thousand (iterations_at S c) (l.header.iterations c);
+        smooth = weight_test (Sheets.smoothing_at h c) (l.header.smoothing c);
         count = inl refl;
         each =
             λ d b.
             subst (λ (d : ℕ). T (own_ok (sheet_of (alone S c)) (own_of (get_or (alone S c).channels d no_channel)))) (sym (zero_of d b))
-            (channel_test (alone S c) h (channel_at S c) h.data0 _ refl refl (l.channel c below) l.header.data0 (alone_held c));
+            (channel_test (alone S c) h (channel_at S c) (data_at h 0) _ refl refl (l.channel c below) (l.header.data_weights 0) (alone_held c));
         at_start = λ d b. subst (λ (d : ℕ). (get_or (alone S c).channels d no_channel).position ≡ 0) (sym (zero_of d b)) refl;
         unmarked = λ d b. subst (λ (d : ℕ). (get_or (alone S c).channels d no_channel).mark ≡ false) (sym (zero_of d b)) refl;
         unclipped = λ d b. subst (λ (d : ℕ). (get_or (alone S c).channels d no_channel).clipped ≡ 0) (sym (zero_of d b)) refl;

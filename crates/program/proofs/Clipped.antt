@@ -2,7 +2,7 @@
 use mathlib.Core.Path.{◌≡◌, refl, ap}
 use mathlib.Core.Bool.{Bool, true, false, cond}
 use mathlib.Core.List.{List, [], ◌++◌}
-use Prim.Native.Nat.{ℕ, ◌+◌, ◌-◌, ◌*◌, ◌≤◌, ◌<◌}
+use Prim.Native.Nat.{ℕ, ◌+◌, ◌*◌, ◌≤◌, ◌<◌}
 use native.Mathlib.Nat.{mul-le-mul}
 use native.Mathlib.Numerals.{add-one}
 use native.Mathlib.Omega.{arith}
@@ -20,10 +20,11 @@ use Rattle.record.specs.Model.{sheet_of}
 use Rattle.rounds.specs.Whole.{job_count, run_of}
 use Rattle.rounds.proofs.Ends.{kept_most}
 use Rattle.solve.specs.Solve.{alone, joint_given, alone_given, separately, whole_of, clipped_at}
-use Rattle.output.specs.Output.{Wrote, clipped_text, clipped_into}
+use Rattle.copying.specs.declared.Writer.{Writer}
+use Rattle.output.specs.Output.{clipped_text, clipped_into, room, Adds}
 use Rattle.output.proofs.Sizes.{clipped-into, clipped_room_32}
-use Rattle.output.proofs.Fronts.{wrote_as, wrote_more}
-use Rattle.program.specs.Printed.{limits, levels_of, clipped_lines, most_picture}
+use Rattle.output.proofs.Fronts.{wrote_length, adds_as, adds_more}
+use Rattle.program.specs.Printed.{limits, levels_of, clipped_lines, most_picture, AddsTo}
 use Rattle.program.proofs.Accepts.{same_sides}
 
 -- at the program's limit no channel has more than 1,024 coefficients
@@ -68,13 +69,14 @@ pub none_written : (f : ℕ → ℕ) → [] ≡ clipped_lines 0 f
 unfolding clipped_lines upto
 none_written f = refl
 
-pub one_written : (f : ℕ → ℕ) (from : ℕ) (out mid out' : List ℕ) (c at r : ℕ) → c < 3 → f c ≤ 1024 → from + (27 + most_picture) ≤ length out → length mid ≡ length out
-    → at ≤ from + 9 * c → Wrote from (clipped_lines c f) out at mid → Wrote at (clipped_into c (f c) (length mid - at)) mid r out'
-    → Wrote from (clipped_lines (c + 1) f) out r out' × (r ≤ from + 9 * (c + 1))
+pub one_written : (f : ℕ → ℕ) (u v w : Writer) (c : ℕ) → c < 3 → f c ≤ 1024 → 27 + most_picture ≤ room u → AddsTo (9 * c) u (clipped_lines c f) v
+    → Adds v (clipped_into c (f c) (room v)) w → AddsTo (9 * (c + 1)) u (clipped_lines (c + 1) f) w
 unfolding clipped_lines upto
-one_written f from out mid out' c at r below small room same early w v =
-    let line = wrote_as (clipped-into c (f c) (length mid - at) (omega arith) (omega arith) (omega arith)) v in
-    (rw add-one (wrote_more w (omega arith) line), omega (arith, line.count, clipped_room_32 c (f c) (omega arith) (omega arith)))
+one_written f u v w c below small big early b =
+    let within : v.at ≤ length u.out.now = omega (arith, early.1) in
+    let same : length v.out.now ≡ length u.out.now = wrote_length early.0.wrote within in
+    let line = adds_as (clipped-into c (f c) (room v) (omega arith) (omega arith) (omega (arith, early.1))) b in
+    (rw add-one (adds_more within early.0 line), omega (arith, early.1, line.wrote.count, clipped_room_32 c (f c) (omega arith) (omega arith)))
 
 -- all of them
 pub lines_end : (f : ℕ → ℕ) {c n : ℕ} → c ≡ n → clipped_lines c f ≡ clipped_lines n f

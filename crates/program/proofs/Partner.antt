@@ -103,6 +103,7 @@ legal_seen given s h l reader.Partner =
       limits_legal = l.limits_legal;
       header = l.header;
       hold = l.hold;
+      three_channels = l.three_channels;
       channel = l.channel;
       spare = l.spare;
       lows_count = hide_long h.marks 0 h.lent.lows ∙ l.lows_count;

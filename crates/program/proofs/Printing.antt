@@ -2,7 +2,7 @@
 use mathlib.Core.Path.{◌≡◌, refl, sym, ap, ◌∙◌, subst}
 use mathlib.Core.Bool.{Bool, true, false}
 use mathlib.Core.List.{List}
-use Prim.Native.Nat.{ℕ, zero, suc, ◌+◌, ◌-◌, ◌*◌, ◌≤◌, ◌<◌}
+use Prim.Native.Nat.{ℕ, zero, suc, ◌+◌, ◌-◌, ◌*◌, ◌≤◌, ◌<◌, min}
 use native.Mathlib.Nat.{suc-mul, mul-le-mul}
 use native.Mathlib.Omega.{arith}
 use borrow.Author.Tests.{eq-eqb, le-leb}
@@ -42,8 +42,9 @@ use Rattle.solve.proofs.Laws.{whole_channels}
 use Rattle.picture.specs.declared.Rounding.{Rounding}
 use Rattle.picture.specs.Finish as Finish
 use Rattle.picture.proofs.Pixels.{picture_length}
-use Rattle.output.specs.Output.{Wrote, picture_into, refusal_text, refusal_into}
-use Rattle.output.proofs.Fronts.{wrote_as, wrote_more}
+use Rattle.copying.specs.declared.Writer.{Writer}
+use Rattle.output.specs.Output.{Wrote, picture_into, refusal_text, refusal_into, room as space, Adds}
+use Rattle.output.proofs.Fronts.{wrote_as, adds_as, adds_more}
 use Rattle.program.specs.Printed.{limits, levels_of, rounding_of, painted, totals_lines, clipped_lines, sheet_text, says, printed, most_picture, most_printed, printed_into, SixLong}
 use Rattle.program.proofs.Clipped.{clipped_small, lines_same}
 use Rattle.program.proofs.Accepts.{at-most, accepts}
@@ -64,13 +65,12 @@ finishes f h l ps long rgb rgb' room t e = by t (ap (λ (o : Finish.Finished). o
 pub paints : (f : Rounding) (h : Header) → LegalHeader limits h → (ps : List Float) → length ps ≡ h.channels * (h.width * h.height)
     → (rgb rgb' : List ℕ) → length rgb ≡ 3 * (h.picture_width * h.picture_height) → (t : Finish.Verdict)
     → record { answer = t; bytes = rgb' } ≡ Finish.finishing f h.width h.height h.picture_width h.picture_height h.channels ps rgb
-    → (at : ℕ) (out : List ℕ) (r : ℕ) (out' : List ℕ) → at + most_picture ≤ length out
-    → Wrote at (picture_into h.picture_width h.picture_height rgb' (length out - at)) out r out' → Wrote at (painted f h ps) out r out'
-paints f h l ps long rgb rgb' room t e at out r out' m w =
+    → (u v : Writer) → most_picture ≤ space u → Adds u (picture_into h.picture_width h.picture_height rgb' (space u)) v → Adds u (painted f h ps) v
+paints f h l ps long rgb rgb' room t e u v m w =
     let is : rgb' ≡ Finish.picture (Finish.to_byte f) h.width h.height h.picture_width h.picture_height h.channels ps =
     ap (λ (o : Finish.Finished). o.bytes) (e ∙ finished h l f ps long rgb room) in
-    wrote_as
-    (written h l f ps rgb' (length out - at) is (ap length is ∙ picture_length (Finish.to_byte f) h.width h.height h.picture_width h.picture_height h.channels ps) (omega arith))
+    adds_as
+    (written h l f ps rgb' (space u) is (ap length is ∙ picture_length (Finish.to_byte f) h.width h.height h.picture_width h.picture_height h.channels ps) m)
     w
 
 -- ---- solved_with: how solving a legal sheet ends
@@ -139,17 +139,16 @@ module _ (S : Sheet) (b : Lent) (l : LegalSheet limits S b) (B : Buffers)
     pub done_room : length L'.totals ≡ blend_count S * 2
     done_room = (not_blown (blows S ls ts) ended).4 ∙ room
 
-    pub done_text : (f : Rounding) → f ≡ rounding_of S.settings.rounding → (out : List ℕ) (from : ℕ) (first : List ℕ) → Wrote 0 (totals_lines S L'.totals) out from first
-        → from ≤ length out → length first ≡ length out → (at : ℕ) (mid : List ℕ) → Wrote from (clipped_lines S.header.channels (number_in ks)) first at mid → at ≤ length out
-        → (r : ℕ) (out' : List ℕ) → Wrote at (painted f S.header L'.buffers.plane) mid r out' → Wrote 0 (sheet_text S ls ts) out r out'
+    pub done_text : (f : Rounding) → f ≡ rounding_of S.settings.rounding → (u v w x : Writer) → Adds u (totals_lines S L'.totals) v → v.at ≤ length u.out.now
+        → Adds v (clipped_lines S.header.channels (number_in ks)) w → w.at ≤ length v.out.now → Adds w (painted f S.header L'.buffers.plane) x → Adds u (sheet_text S ls ts) x
     unfolding sheet_text
-    done_text f q out from first t m same at mid k n r out' w =
+    done_text f q u v w x t m k n p =
         let d = not_blown (blows S ls ts) ended in
         let sums : L'.totals ≡ totals_of S ls ts = ap (λ (K : Loan). K.totals) d.1 in
         let shown : L'.buffers.plane ≡ planes S ls ts = ap (λ (K : Loan). K.buffers.plane) d.1 in
         rw d.0
-        (wrote_more (wrote_as (ap (totals_lines S) sums) t) m
-        (wrote_more (wrote_as (lines_same S.header.channels (number_in ks) (clipped_at S ls ts) numbers) k) (omega arith) (wrote_as (λ i. painted (q i) S.header (shown i)) w)))
+        (adds_more m (adds_as (ap (totals_lines S) sums) t)
+        (adds_more n (adds_as (lines_same S.header.channels (number_in ks) (clipped_at S ls ts) numbers) k) (adds_as (λ i. painted (q i) S.header (shown i)) p)))
 
   -- any other answer: it blew
   module _ (other : a ≡ Ok Done → ⊥) where
@@ -157,12 +156,12 @@ module _ (S : Sheet) (b : Lent) (l : LegalSheet limits S b) (B : Buffers)
     blown true e = refl
     blown false e = absurd (not_done a other (sym e.0))
 
-    pub blown_text : (out : List ℕ) (r : ℕ) (out' : List ℕ) (number line : ℕ) → most_printed ≤ length out → Wrote 0 (refusal_into number line (length out)) out r out'
-        → number ≡ 10 → line ≡ 0 → Wrote 0 (sheet_text S ls ts) out r out'
+    pub blown_text : (u v : Writer) (number line : ℕ) → most_printed ≤ space u → Adds u (refusal_into number line (space u)) v
+        → number ≡ 10 → line ≡ 0 → Adds u (sheet_text S ls ts) v
     unfolding sheet_text
-    blown_text out r out' number line m w e f =
+    blown_text u v number line m w e f =
         rw (blown (blows S ls ts) ended)
-        (wrote_as (refused number line (length out) (omega arith) m ∙ (λ i. refusal_text (e i) (f i))) w)
+        (adds_as (refused number line (space u) (omega arith) m ∙ (λ i. refusal_text (e i) (f i))) w)
 
 -- ---- read_with: reading into room of the lengths that measuring gave
 
@@ -198,9 +197,9 @@ module _ (text : List ℕ) (into after : Lent) (r : Result Sheet walk.Refused)
   pub sheet_legal : (s : Sheet) → r ≡ Ok s → LegalSheet limits s after
   sheet_legal s p = let q = sheet_read s p in legal limits text s (held after q.0 q.1) q.2
 
-  pub sheet-text : (s : Sheet) → r ≡ Ok s → (out : List ℕ) (n : ℕ) (out' : List ℕ) → Wrote 0 (sheet_text s (levels_of after) after.tables) out n out' → Wrote 0 (printed text) out n out'
+  pub sheet-text : (s : Sheet) → r ≡ Ok s → (u v : Writer) → Adds u (sheet_text s (levels_of after) after.tables) v → Adds u (printed text) v
   unfolding printed says
-  sheet-text s p out n out' w = wrote_as (ap says (sym (sheet_read s p).2)) w
+  sheet-text s p u v w = adds_as (ap says (sym (sheet_read s p).2)) w
 
   -- a refusal was measured before
   pub not_refused : (f : walk.Refused) → r ≡ Err f → ⊥
@@ -247,7 +246,7 @@ same_room o n m n' m' e p q = e ∙ (λ i. Gives (record { levels = sym p i; tab
 -- ---- answer: the refusal of measuring is that of reading
 
 -- the code's constant
-abbrev decided : ℕ
+abbrev pub decided : ℕ
 decided = 39294
 
 pub decisive_32 : decisive 32 ≡ decided
@@ -258,26 +257,29 @@ pub measured_room : (o : Outcome Lengths) (r : Result Lengths walk.Refused) (n :
 measured_room o r n e p = sym e ∙ ap Walk.said p
 
 pub refusal-text : (text : List ℕ) → length text ≤ decisive 32 → (r : Result Lengths walk.Refused) (f : walk.Refused) → Walk.said r ≡ measuring limits text → r ≡ Err f → (k : ℕ) → k ≡ number_of f.refusal
-    → (out : List ℕ) (n : ℕ) (out' : List ℕ) → most_printed ≤ length out → Wrote 0 (refusal_into k f.line (length out)) out n out' → Wrote 0 (printed text) out n out'
+    → (u v : Writer) → most_printed ≤ space u → Adds u (refusal_into k f.line (space u)) v → Adds u (printed text) v
 unfolding printed says
-refusal-text text h r f e p k same_number out n out' m w = by (read_text limits text) (line_bound limits text) (sym (ap Walk.said p) ∙ e)
+refusal-text text h r f e p k same_number u v m w = by (read_text limits text) (line_bound limits text) (sym (ap Walk.said p) ∙ e)
   where
-    by : (T : Outcome Contents) → LineTo (length text + 2) T → Refused (number_of f.refusal) f.line ≡ lengths_of T → Wrote 0 (says T) out n out'
+    by : (T : Outcome Contents) → LineTo (length text + 2) T → Refused (number_of f.refusal) f.line ≡ lengths_of T → Adds u (says T) v
     by (Gives c) b q = absurd (let z : ◌≡◌ {A = ℕ} 0 1 = cc in omega arith)
     by (Refused k' line') b q =
         let number : k ≡ k' = cc in
         let same : f.line ≡ line' = cc in
-        wrote_as (refused k f.line (length out) (omega (arith, decisive_32)) m ∙ (λ i. refusal_text (number i) (same i))) w
+        adds_as (refused k f.line (space u) (omega (arith, decisive_32)) m ∙ (λ i. refusal_text (number i) (same i))) w
 
 -- ---- smooth_text: enough room, and as much of the text as decides
+
+pub part_short : (text : List ℕ) (n : ℕ) → n ≡ min decided (length text) → length (take n text) ≤ decisive 32
+part_short text n e = omega (arith, e, decisive_32, length-take-le n text (omega (arith, e)))
 
 pub roomy : (text out : List ℕ) (n : ℕ) (out' : List ℕ) → most_printed ≤ length out → Wrote 0 (printed text) out n out'
     → Wrote 0 (printed_into text (length out)) out n out'
 unfolding printed_into
 roomy text out n out' h w = rw (le-leb most_printed (length out) h) w
 
-pub first_bytes : (text part out : List ℕ) (n : ℕ) (out' : List ℕ) → most_printed ≤ length out → Wrote 0 (printed part) out n out' → part ≡ take decided text
+pub first_bytes : (text part out : List ℕ) (n : ℕ) (last out' : List ℕ) → most_printed ≤ length out → Wrote 0 (printed part) out n last → last ≡ out' → part ≡ take decided text
     → Wrote 0 (printed_into text (length out)) out n out'
 unfolding printed
-first_bytes text part out n out' h w e =
-    roomy text out n out' h (wrote_as (ap printed e ∙ ap says (decides limits text decided (omega (arith, decisive_32)))) w)
+first_bytes text part out n last out' h w same e =
+    roomy text out n out' h (wrote_as (ap printed e ∙ ap says (decides limits text decided (omega (arith, decisive_32)))) (rw same at w))

@@ -1,8 +1,8 @@
 -- What the program `smooth` prints for a text (document 01, "Whole run and picture", last paragraph): demands 1 and 2 from end to end.
-use Rattle.std.specs.Prelude.{ℕ, Option, Some, None, suc, ◌+◌, ◌*◌, ◌≡◌, cond, List, [], ◌++◌, leb, length, Float}
+use Rattle.std.specs.Prelude.{ℕ, Option, suc, ◌+◌, ◌*◌, ◌≡◌, ◌≤◌, cond, List, [], ◌++◌, leb, length, Float}
 use Rattle.contents.specs.declared.Limits.{Limits}
 use Rattle.contents.specs.declared.Letter.{Letter}
-use Rattle.contents.specs.declared.Letter.TheVariants as letter
+use Rattle.contents.specs.Letters.{chosen}
 use Rattle.contents.specs.declared.Header.{Header}
 use Rattle.contents.specs.declared.Sheet.{Sheet}
 use Rattle.contents.specs.Sheets.{Lent}
@@ -15,13 +15,12 @@ use Rattle.solve.specs.Solve.{iterations_at, steps_before, planes, blows, totals
 use Rattle.picture.specs.declared.Rounding.{Rounding}
 use Rattle.picture.specs.declared.Rounding.TheVariants as rounding
 use Rattle.picture.specs.Finish.{to_byte, picture}
-use Rattle.output.specs.Output.{picture_text, picture_room, refusal_text, totals_text, clipped_text}
+use Rattle.copying.specs.declared.Writer.{Writer}
+use Rattle.output.specs.Output.{picture_text, picture_room, refusal_text, totals_text, clipped_text, Adds}
 
 -- "A line `F` with `t` or `n` may follow the `S` line; without it `t` holds" (M-100)
 abbrev pub rounding_of : Option Letter → Rounding
-rounding_of None = rounding.Truncate
-rounding_of (Some letter.First) = rounding.Truncate
-rounding_of (Some letter.Second) = rounding.Nearest
+rounding_of letter = chosen letter rounding.Truncate rounding.Nearest
 
 -- the text of a header's picture of these planes, by a rounding
 unfoldable pub painted : Rounding → Header → List Float → List ℕ
@@ -37,7 +36,7 @@ run_lines s totals c = totals_text c (iterations_at s c) (part totals (steps_bef
 -- "channel of the run's start (0 in joint mode)", "run after run": in joint mode the one run's lines, in separate mode each channel's
 unfoldable pub totals_lines : Sheet → List Float → List ℕ
 totals_lines s totals =
-    cond s.header.joint (totals_text 0 s.header.iterations0 totals) (join_upto (run_lines s totals) s.header.channels)
+    cond s.header.joint (totals_text 0 (iterations_at s 0) totals) (join_upto (run_lines s totals) s.header.channels)
 
 -- "a line `K`, channel, number, channels rising" (M-104): of n channels, f having each one's number
 unfoldable pub clipped_lines : ℕ → (ℕ → ℕ) → List ℕ
@@ -89,3 +88,7 @@ abbrev pub SixLong : Header → List Float → List Float → List Float → Lis
 SixLong h plane prior gradient across down saved =
     let n = h.channels * (h.width * h.height) in
     (length plane ≡ n) × (length prior ≡ n) × (length gradient ≡ n) × (length across ≡ n) × (length down ≡ n) × (length saved ≡ n)
+
+-- a text of at most `most` bytes, written whole into a lent output from its place on
+abbrev pub AddsTo : ℕ → Writer → List ℕ → Writer → Type 0
+AddsTo most before text after = Adds before text after × (after.at ≤ before.at + most)

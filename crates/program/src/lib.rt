@@ -11,12 +11,14 @@ ghost use Rattle.grammar.specs.Longest.{decisive};
 ghost use Rattle.sheet.specs.Reading.Outcome.{Gives};
 ghost use Rattle.contents.specs.Legal.{LegalHeader, LegalSheet};
 ghost use Rattle.solve.specs.Solve.{blend_count, number_in};
-ghost use Rattle.output.specs.Output.{Wrote};
-ghost use Rattle.program.specs.Printed.{limits, rounding_of, painted, run_lines, totals_lines, clipped_lines, sheet_text, printed, most_picture, most_totals, most_printed, printed_into, SixLong};
+ghost use Rattle.output.specs.Output.{Wrote, Adds, room};
+ghost use Rattle.program.specs.Printed.{limits, painted, run_lines, totals_lines, clipped_lines, sheet_text, printed, most_picture, most_totals, most_printed, printed_into, SixLong, AddsTo};
 
-use contents::{Header, Letter, Limits, Reader, Sheet};
+use contents::{Header, Limits, Reader, Sheet, chosen};
+use copying::Writer;
 use picture::Rounding;
 use record::Accepted;
+use record::lent::{Buffers, Given};
 use refusal::Refusal;
 use sheet::Lengths;
 use solve::counts::{blend_count, iterations_at, steps_before};
@@ -32,68 +34,46 @@ const LIMITS: Limits = Limits {
     iterations: 1000,
 };
 
-// How the letter of line F rounds; without it t holds.
-fn rounding_of(c: Option<Letter>) -> Rounding
-    ensures { result ≡ rounding_of c }
-{
-    match c {
-        None => Rounding::Truncate,
-        Some(Letter::First) => Rounding::Truncate,
-        Some(Letter::Second) => Rounding::Nearest,
-    }
-}
-
-// The lines `T` of the runs of separate mode at the front of `out`, and where they end.
-fn write_runs(s: Sheet, totals: &[f64], out: &mut [u8]) -> usize
-    requires { LegalHeader limits s.header × (s.header.joint ≡ false) × (length totals.now ≡ blend_count s * 2) × (most_printed ≤ length out.old) }
-    ensures { Wrote 0 (join_upto (run_lines s totals.now) s.header.channels) out.old result out.new × (result ≤ most_totals) }
+// The lines `T` of the runs of separate mode.
+fn write_runs(s: Sheet, totals: &[f64], to: &mut Writer)
+    requires { LegalHeader limits s.header × (s.header.joint ≡ false) × (length totals.now ≡ blend_count s * 2) × (most_totals ≤ room to.old) }
+    ensures { AddsTo most_totals to.old (join_upto (run_lines s totals.now) s.header.channels) to.new }
 {
     let h = s.header;
-    let mut at = 0;
     for c in 0..h.channels {
         let from = steps_before(s, c) * 2;
-        let to = steps_before(s, c + 1) * 2;
+        let end = steps_before(s, c + 1) * 2;
         let steps = iterations_at(s, c) as usize;
-        at = output::write_totals(c as usize, steps, &totals[from..to], out, at);
+        output::write_totals(c as usize, steps, &totals[from..end], to);
     }
-    at
 }
 
-// The lines `T` of all runs at the front of `out`, and where they end.
-fn write_sums(s: Sheet, totals: &[f64], out: &mut [u8]) -> usize
-    requires { LegalHeader limits s.header × (length totals.now ≡ blend_count s * 2) × (most_printed ≤ length out.old) }
-    ensures { Wrote 0 (totals_lines s totals.now) out.old result out.new × (result ≤ most_totals) }
+// The lines `T` of all runs.
+fn write_sums(s: Sheet, totals: &[f64], to: &mut Writer)
+    requires { LegalHeader limits s.header × (length totals.now ≡ blend_count s * 2) × (most_totals ≤ room to.old) }
+    ensures { AddsTo most_totals to.old (totals_lines s totals.now) to.new }
 {
     let h = s.header;
     if h.joint {
-        return output::write_totals(0, h.iterations0 as usize, totals, out, 0);
+        return output::write_totals(0, h.iterations[0] as usize, totals, to);
     }
-    write_runs(s, totals, out)
+    write_runs(s, totals, to)
 }
 
-// The lines `K` of n channels from place `from` on, and where they end.
-fn write_numbers(n: u32, clipped: [u32; 3], out: &mut [u8], from: usize) -> usize
-    requires { (n ≤ 3) × ((c : ℕ) → c < n → number_in clipped c ≤ 1024) × (from + (27 + most_picture) ≤ length out.old) }
-    ensures { Wrote from (clipped_lines n (number_in clipped)) out.old result out.new × (result ≤ from + 27) }
+// The lines `K` of n channels.
+fn write_numbers(n: u32, clipped: [u32; 3], to: &mut Writer)
+    requires { (n ≤ 3) × ((c : ℕ) → c < n → number_in clipped c ≤ 1024) × (27 + most_picture ≤ room to.old) }
+    ensures { AddsTo 27 to.old (clipped_lines n (number_in clipped)) to.new }
 {
-    let mut at = from;
     for c in 0..n as usize {
-        at = output::write_clipped(c, clipped[c] as usize, out, at);
+        output::write_clipped(c, clipped[c] as usize, to);
     }
-    at
 }
 
-// The text of the picture of solved planes, from place `at` on; rgb is room for its bytes.
-fn paint_with(
-    rounding: Rounding,
-    h: Header,
-    planes: &[f32],
-    rgb: &mut [u8],
-    out: &mut [u8],
-    at: usize,
-) -> usize
-    requires { LegalHeader limits h × (length planes.now ≡ h.channels * (h.width * h.height)) × (length rgb.old ≡ 3 * (h.picture_width * h.picture_height)) × (at + most_picture ≤ length out.old) }
-    ensures { Wrote at (painted rounding h planes.now) out.old result out.new }
+// The text of the picture of solved planes; rgb is room for its bytes.
+fn paint_with(rounding: Rounding, h: Header, planes: &[f32], rgb: &mut [u8], to: &mut Writer)
+    requires { LegalHeader limits h × (length planes.now ≡ h.channels * (h.width * h.height)) × (length rgb.old ≡ 3 * (h.picture_width * h.picture_height)) × (most_picture ≤ room to.old) }
+    ensures { Adds to.old (painted rounding h planes.now) to.new }
 {
     let width = h.picture_width;
     let height = h.picture_height;
@@ -101,21 +81,23 @@ fn paint_with(
         rounding, h.width, h.height, width, height, h.channels, planes, rgb,
     )
     .unwrap();
-    output::write_picture(width, height, rgb, out, at)
+    output::write_picture(width, height, rgb, to)
 }
 
 // The same, with room of its own.
-fn paint(rounding: Rounding, h: Header, planes: &[f32], out: &mut [u8], at: usize) -> usize
-    requires { LegalHeader limits h × (length planes.now ≡ h.channels * (h.width * h.height)) × (at + most_picture ≤ length out.old) }
-    ensures { Wrote at (painted rounding h planes.now) out.old result out.new }
+fn paint(rounding: Rounding, h: Header, planes: &[f32], to: &mut Writer)
+    requires { LegalHeader limits h × (length planes.now ≡ h.channels * (h.width * h.height)) × (most_picture ≤ room to.old) }
+    ensures { Adds to.old (painted rounding h planes.now) to.new }
 {
     let mut rgb = [0u8; 3072];
     let n = 3 * ((h.picture_width as usize) * (h.picture_height as usize));
-    paint_with(rounding, h, planes, &mut rgb[0..n], out, at)
+    paint_with(rounding, h, planes, &mut rgb[0..n], to)
 }
 
 // The text of a sheet that was read: its lines `T` and `K` and its picture, or 10. The six and the totals are room for its runs, so that solving
 // refuses nothing here.
+// Kept: `most_printed` is the room of an output that nothing is written to yet, here and in the four functions up to `smooth_text`. An array of `MOST_PRINTED` bytes
+// could say it, but then the three that write each make a `Writer` of it, and all five hand back how far it came; here one `Writer` goes through all.
 fn solved_with(
     s: Sheet,
     lows: &[i16],
@@ -128,29 +110,41 @@ fn solved_with(
     down: &mut [f32],
     saved: &mut [f32],
     totals: &mut [f64],
-    out: &mut [u8],
-) -> usize
+    to: &mut Writer,
+)
     requires { LegalSheet limits s (lent lows.now highs.now tables.now) × SixLong s.header plane.old prior.old gradient.old across.old down.old saved.old
-        × (length totals.old ≡ blend_count s * 2) × (most_printed ≤ length out.old) }
-    ensures { Wrote 0 (sheet_text s (pairs lows.now highs.now) tables.now) out.old result out.new }
+        × (length totals.old ≡ blend_count s * 2) × (most_printed ≤ room to.old) }
+    ensures { Adds to.old (sheet_text s (pairs lows.now highs.now) tables.now) to.new }
 {
     let h = s.header;
-    let rounding = rounding_of(s.settings.rounding);
-    let t = solve(
-        s, lows, highs, tables, plane, prior, gradient, across, down, saved, totals,
-    );
-    let Accepted::Done = t.answer.unwrap() else {
-        return output::write_refusal(Refusal::Blown.number(), 0, out);
+    // Line F's letter; without it t holds.
+    let rounding = chosen(s.settings.rounding, Rounding::Truncate, Rounding::Nearest);
+    let given = Given {
+        lows,
+        highs,
+        tables,
     };
-    let from = write_sums(s, totals, out);
-    let at = write_numbers(h.channels, t.clipped, out, from);
-    paint(rounding, h, plane, out, at)
+    let mut lent = Buffers {
+        plane,
+        prior,
+        gradient,
+        across,
+        down,
+        saved,
+    };
+    let t = solve(s, given, &mut lent, totals);
+    let Accepted::Done = t.answer.unwrap() else {
+        return output::write_refusal(Refusal::Blown.number(), 0, to);
+    };
+    write_sums(s, totals, to);
+    write_numbers(h.channels, t.clipped, to);
+    paint(rounding, h, lent.plane, to)
 }
 
 // The same, with room of its own.
-fn solved(s: Sheet, lows: &[i16], highs: &[i16], tables: &[u16], out: &mut [u8]) -> usize
-    requires { LegalSheet limits s (lent lows.now highs.now tables.now) × (most_printed ≤ length out.old) }
-    ensures { Wrote 0 (sheet_text s (pairs lows.now highs.now) tables.now) out.old result out.new }
+fn solved(s: Sheet, lows: &[i16], highs: &[i16], tables: &[u16], to: &mut Writer)
+    requires { LegalSheet limits s (lent lows.now highs.now tables.now) × (most_printed ≤ room to.old) }
+    ensures { Adds to.old (sheet_text s (pairs lows.now highs.now) tables.now) to.new }
 {
     let mut plane = [0.0f32; 3072];
     let mut prior = [0.0f32; 3072];
@@ -174,31 +168,25 @@ fn solved(s: Sheet, lows: &[i16], highs: &[i16], tables: &[u16], out: &mut [u8])
         &mut down[0..n],
         &mut saved[0..n],
         &mut totals[0..m],
-        out,
+        to,
     )
 }
 
 // The text of a sheet, read as staff: lines N change nothing. Lows, highs and tables are room for its levels and tables.
-fn read_with(
-    text: &[u8],
-    lows: &mut [i16],
-    highs: &mut [i16],
-    tables: &mut [u16],
-    out: &mut [u8],
-) -> usize
-    requires { (measuring limits text.now ≡ Gives (record { levels = length lows.old; tables = length tables.old })) × (length highs.old ≡ length lows.old) × (most_printed ≤ length out.old) }
-    ensures { Wrote 0 (printed text.now) out.old result out.new }
+fn read_with(text: &[u8], lows: &mut [i16], highs: &mut [i16], tables: &mut [u16], to: &mut Writer)
+    requires { (measuring limits text.now ≡ Gives (record { levels = length lows.old; tables = length tables.old })) × (length highs.old ≡ length lows.old) × (most_printed ≤ room to.old) }
+    ensures { Adds to.old (printed text.now) to.new }
 {
     match sheet::read(text, LIMITS, Reader::Staff, lows, highs, tables) {
-        Ok(s) => solved(s, lows, highs, tables, out),
-        Err(e) => output::write_refusal(e.refusal.number(), e.line, out),
+        Ok(s) => solved(s, lows, highs, tables, to),
+        Err(e) => output::write_refusal(e.refusal.number(), e.line, to),
     }
 }
 
 // The same, with room of its own for the levels and quantisers.
-fn read_and_solve(text: &[u8], lengths: Lengths, out: &mut [u8]) -> usize
-    requires { (measuring limits text.now ≡ Gives lengths) × (most_printed ≤ length out.old) }
-    ensures { Wrote 0 (printed text.now) out.old result out.new }
+fn read_and_solve(text: &[u8], lengths: Lengths, to: &mut Writer)
+    requires { (measuring limits text.now ≡ Gives lengths) × (most_printed ≤ room to.old) }
+    ensures { Adds to.old (printed text.now) to.new }
 {
     let mut lows = [0i16; 3072];
     let mut highs = [0i16; 3072];
@@ -210,18 +198,18 @@ fn read_and_solve(text: &[u8], lengths: Lengths, out: &mut [u8]) -> usize
         &mut lows[0..n],
         &mut highs[0..n],
         &mut tables[0..m],
-        out,
+        to,
     )
 }
 
 // The text of a refusal, or of a sheet. What is read is short enough that a line's number has few digits.
-fn answer(text: &[u8], out: &mut [u8]) -> usize
-    requires { (length text.now ≤ decisive 32) × (most_printed ≤ length out.old) }
-    ensures { Wrote 0 (printed text.now) out.old result out.new }
+fn answer(text: &[u8], to: &mut Writer)
+    requires { (length text.now ≤ decisive 32) × (most_printed ≤ room to.old) }
+    ensures { Adds to.old (printed text.now) to.new }
 {
     match sheet::measure(text, LIMITS) {
-        Ok(lengths) => read_and_solve(text, lengths, out),
-        Err(e) => output::write_refusal(e.refusal.number(), e.line, out),
+        Ok(lengths) => read_and_solve(text, lengths, to),
+        Err(e) => output::write_refusal(e.refusal.number(), e.line, to),
     }
 }
 
@@ -234,8 +222,7 @@ pub fn smooth_text(text: &[u8], out: &mut [u8]) -> usize
     if out.len() < MOST_PRINTED {
         return 0;
     }
-    if DECISIVE < text.len() {
-        return answer(&text[0..DECISIVE], out);
-    }
-    answer(text, out)
+    let mut to = Writer::new(out);
+    answer(&text[..DECISIVE.min(text.len())], &mut to);
+    to.at
 }

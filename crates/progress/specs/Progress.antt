@@ -1,5 +1,5 @@
 -- What was read so far of a sheet: the tag that the next line is read by, and what a good line adds.
-use Rattle.std.specs.Prelude.{ℕ, ◌+◌, ◌-◌, ◌*◌, ◌/◌, List, [], Bool, true, false, not, cond, ◌&&◌, get_or, eqb, leb, ltb, is_none, Some, Ok, Err, Result}
+use Rattle.std.specs.Prelude.{ℕ, ◌+◌, ◌-◌, ◌*◌, ◌/◌, List, [], ◌∷◌, Bool, true, false, not, cond, ◌&&◌, get_or, set, eqb, leb, ltb, is_none, Some, Ok, Err, Result}
 use Rattle.refusal.specs.declared.Refusal.{Refusal}
 use Rattle.refusal.specs.declared.Refusal.TheVariants as refusal
 use Rattle.text.specs.Fields.{letter}
@@ -20,7 +20,7 @@ use Rattle.contents.specs.Sheets.{no_header, no_settings, no_channel}
 
 -- a header, no setting or channel yet
 abbrev pub headed : Header → Sheet
-headed h = record { header = h; settings = no_settings; first = no_channel; second = no_channel; third = no_channel }
+headed h = record { header = h; settings = no_settings; channels = no_channel ∷ no_channel ∷ no_channel ∷ [] }
 
 -- Nothing read yet
 unfoldable pub blank : State
@@ -75,18 +75,11 @@ with_setting x (setting.Hold h) = record { rounding = x.rounding; start = x.star
 
 -- a sheet with these settings
 abbrev pub settled : Sheet → Settings → Sheet
-settled s x = record { header = s.header; settings = x; first = s.first; second = s.second; third = s.third }
+settled s x = record { header = s.header; settings = x; channels = s.channels }
 
 -- channel j
 abbrev pub placed : Sheet → ℕ → Channel → Sheet
-placed s j c =
-    record {
-      header = s.header;
-      settings = s.settings;
-      first = cond (eqb j 0) c s.first;
-      second = cond (eqb j 1) c s.second;
-      third = cond (eqb j 2) c s.third;
-    }
+placed s j c = record { header = s.header; settings = s.settings; channels = set s.channels j c }
 
 -- the next channel, with its blocks still to come
 abbrev pub opened : State → Channel → State

@@ -14,9 +14,10 @@ use refusal::Refusal;
 use text::field;
 
 // The sheet so far: whether the header was read, how many channels were, and how many blocks of the last are still to come.
-// Kept: an Option of the sheet is no plainer, since all that comes after the header would have to open it again.
 #[derive(Clone, Copy, Debug, PartialEq, Eq)]
 pub struct State {
+    // Kept: with an Option of the rest in the place of it, a setting, a channel, a block and a mark each need an answer for no header, which can't come,
+    // and the tests of what is due a `match` in the place of a field.
     pub begun: bool,
     pub sheet: Sheet,
     pub read: u32,
@@ -45,15 +46,9 @@ fn no_header() -> Header
         picture_height: 0,
         channels: 0,
         joint: false,
-        iterations0: 0,
-        iterations1: 0,
-        iterations2: 0,
-        smoothing0: none,
-        smoothing1: none,
-        smoothing2: none,
-        data0: none,
-        data1: none,
-        data2: none,
+        iterations: [0; 3],
+        smoothing: [none; 3],
+        data_weights: [none; 3],
     }
 }
 
@@ -68,9 +63,7 @@ fn no_channels(header: Header) -> Sheet
             start: None,
             hold: None,
         },
-        first: no_channel(),
-        second: no_channel(),
-        third: no_channel(),
+        channels: [no_channel(); 3],
     }
 }
 
@@ -181,12 +174,11 @@ fn set_one(settings: Settings, x: Setting) -> Settings
 fn place(sheet: Sheet, j: u32, c: Channel) -> Sheet
     ensures { result ≡ placed sheet j c }
 {
-    match j {
-        0 => Sheet { first: c, ..sheet },
-        1 => Sheet { second: c, ..sheet },
-        2 => Sheet { third: c, ..sheet },
-        _ => sheet,
+    let mut channels = sheet.channels;
+    if j < 3 {
+        channels[j as usize] = c;
     }
+    Sheet { channels, ..sheet }
 }
 
 // The next channel's line. Blocks and cover are products of 64 bits, which hold every product of two u32.
@@ -219,37 +211,32 @@ fn is_block(s: Sheet, m: Mark) -> bool
     has_block(s, m) && block_of(s, m) < 12288
 }
 
-// Marks a block in the map of all blocks. Was it marked before?
-#[tactic(auto, using(crate::proofs::StateLaws::exists_within))]
-fn mark_one(s: Sheet, m: Mark, bits: &mut [u8]) -> bool
+// A mark, whose block is one of the sheet and wasn't marked before. The block is marked in the map of all blocks.
+#[tactic(auto, unfolding(crate::specs::Progress::taken_if), using(crate::proofs::StateLaws::exists_within))]
+fn take_mark(s: State, m: Mark, bits: &mut [u8]) -> Result<State, Refusal>
     requires { length bits.old ≡ most_blocks }
-    ensures { (result ≡ twice_in s (Record.Mark m) bits.old) × (bits.new ≡ marked_in s (Record.Mark m) bits.old) }
+    ensures state { result ≡ taken_if s (twice_in s.sheet (Record.Mark m) bits.old) (Record.Mark m) }
+    ensures bits { bits.new ≡ marked_in s.sheet (Record.Mark m) bits.old }
 {
-    if !is_block(s, m) {
-        return false;
+    if !is_block(s.sheet, m) {
+        return Err(Refusal::Mark);
     }
-    let b = block_of(s, m) as usize;
+    let b = block_of(s.sheet, m) as usize;
     let before = bits[b];
     bits[b] = 1;
-    before != 0
-}
-
-// Marks the block of a line N. Was it marked before?
-pub fn mark_block(s: Sheet, rec: Record, bits: &mut [u8]) -> bool
-    requires { length bits.old ≡ most_blocks }
-    ensures { (result ≡ twice_in s rec bits.old) × (bits.new ≡ marked_in s rec bits.old) }
-{
-    match rec {
-        Record::Mark(m) => mark_one(s, m, bits),
-        Record::Header(_) | Record::Setting(_) | Record::Channel(_) | Record::Block => false,
+    if before != 0 {
+        return Err(Refusal::Mark);
     }
+    Ok(s)
 }
 
-// The state after a good line, or its refusal. For a mark it is known whether its block was marked before.
+// The state after a good line, or its refusal. The block of a mark is marked in the map of all blocks.
 #[tactic(auto, unfolding(crate::specs::Progress::taken_if))]
-pub fn take_record(s: State, twice: bool, rec: Record) -> Result<State, Refusal>
-    requires { Due s rec }
-    ensures { result ≡ taken_if s twice rec }
+pub fn take_record(s: State, rec: Record, bits: &mut [u8]) -> Result<State, Refusal>
+    requires due { Due s rec }
+    requires bits { length bits.old ≡ most_blocks }
+    ensures state { result ≡ taken_if s (twice_in s.sheet rec bits.old) rec }
+    ensures bits { bits.new ≡ marked_in s.sheet rec bits.old }
 {
     match rec {
         Record::Header(h) => Ok(State {
@@ -270,12 +257,6 @@ pub fn take_record(s: State, twice: bool, rec: Record) -> Result<State, Refusal>
             left: s.left - 1,
             ..s
         }),
-        Record::Mark(m) => {
-            if is_block(s.sheet, m) && !twice {
-                Ok(s)
-            } else {
-                Err(Refusal::Mark)
-            }
-        }
+        Record::Mark(m) => take_mark(s, m, bits),
     }
 }

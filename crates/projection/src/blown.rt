@@ -3,12 +3,14 @@ ghost use Rattle.std.specs.Prelude.{◌≡◌, ◌≤◌, length};
 ghost use Rattle.projection.specs.Blown.{bad, any_bad, is_blown};
 
 // NaN or infinite.
+#[tactic(auto, using(crate::proofs::Bad::bad_is))]
 fn bad(x: f32) -> bool
     ensures { result ≡ bad x }
 {
     !x.is_finite()
 }
 
+// Kept: one call of std's `any`, as others are of its `all`; a function over both would be longer than the call.
 fn any_bad(xs: &[f32]) -> bool
     ensures { result ≡ any_bad xs.now }
 {
@@ -17,6 +19,7 @@ fn any_bad(xs: &[f32]) -> bool
 
 // Whether a plane value or one of the n saved coefficients is NaN or infinite.
 // Rules out: a test of the plane alone, and a test for NaN alone.
+#[tactic(auto, unfolding(crate::specs::Blown::is_blown))]
 pub fn is_blown(plane: &[f32], saved: &[f32], n: usize) -> bool
     requires { n ≤ length saved.now }
     ensures { result ≡ is_blown n plane.now saved.now }

@@ -11,7 +11,7 @@ use lib.Seq.{get_or-take, length-take-le}
 use lib.Dec.{T, eqb, eqb→eq}
 use lib.Ieee.Fits.{and_l, and_r}
 use borrow.Author.Tests.{eq-eqb}
-use Rattle.calls.specs.Run.{Sheet, own, own_ok, Place, fresh, place, place_ok, blends_in, every, among, header_ok}
+use Rattle.calls.specs.Run.{Sheet, own, own_ok, Place, fresh, place, place_ok, blends_in, every, header_ok}
 use Rattle.record.specs.Model.{own_of, place_of, sheet_of, places_of, channel_ok, no_channel}
 use Rattle.record.specs.declared.Run.{Run}
 use Rattle.record.specs.declared.Channel.{Channel}
@@ -24,9 +24,6 @@ length_parts X Y f l n e = sym (length-map l f) ∙ e
 
 pub every_more : (k : ℕ) (f : ℕ → Bool) → every (k + 1) f ≡ (every k f && f k)
 every_more k f = ap (λ (n : ℕ). every n f) (add-one k)
-
-pub among_more : (k : ℕ) (f : ℕ → Bool) → among (k + 1) f ≡ (among k f || f k)
-among_more k f = ap (λ (n : ℕ). among n f) (add-one k)
 
 -- ---- channel c
 

@@ -29,11 +29,6 @@ or_assoc true b c = refl
 or_assoc false b c = refl
 
 module _ {A : Type 0} (f : A → Bool) where
-  -- std's test of every value is the model's
-  pub all_is : (xs : List A) → list_all f xs ≡ all f xs
-  all_is [] = refl
-  all_is (x ∷ xs) = ap (λ (b : Bool). f x && b) (all_is xs)
-
   module _ (d : A) where
     one_more : (xs : List A) (k : ℕ) → k < length xs → list_any f (take (suc k) xs) ≡ (list_any f (take k xs) || f (get_or xs k d))
     one_more [] k h = absurd (not-suc-le-zero h)
@@ -42,7 +37,7 @@ module _ {A : Type 0} (f : A → Bool) where
 
     -- of the first n values
     pub all_first : (xs : List A) (n : ℕ) → n ≤ length xs → list_all f (take n xs) ≡ every n (λ c. f (get_or xs c d))
-    all_first xs n h = all_is (take n xs) ∙ sym (go n h)
+    all_first xs n h = sym (go n h)
       where
         go : (n : ℕ) → n ≤ length xs → every n (λ c. f (get_or xs c d)) ≡ all f (take n xs)
         go zero h = refl

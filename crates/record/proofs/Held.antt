@@ -2,23 +2,14 @@
 use mathlib.Core.Path.{◌≡◌, sym}
 use mathlib.Core.Bool.{Bool, false, ◌&&◌}
 use mathlib.Core.List.{[], ◌∷◌}
-use Prim.Native.Nat.{ℕ, zero, suc, ◌/◌, ◌≤◌, ◌<◌}
+use Prim.Native.Nat.{ℕ, zero, suc, ◌≤◌}
 use native.Mathlib.Omega.{arith}
 use lib.Dec.{leb}
 use lib.ListN.{get_or}
-use borrow.Author.Tests.{lt-ltb, le-ltb}
-use Rattle.calls.specs.Run.{own, place, held}
-use Rattle.record.specs.Model.{ChannelIs, sheet_of, places_of}
+use borrow.Author.Tests.{le-ltb}
+use Rattle.calls.specs.Run.{own, held}
+use Rattle.record.specs.Model.{sheet_of}
 use Rattle.record.specs.declared.Run.{Run}
-use Rattle.record.specs.declared.Channel.{Channel}
-
--- in its next job
-pub held_next : (r : Run) (c : ℕ) (x : Channel) → ChannelIs r c x → c < r.count → leb x.held (x.position / 5) ≡ held (sheet_of r) c ((place (places_of r) c).position / 5)
-held_next r c x is h = λ i. sym (lt-ltb c r.count h) i && leb (is.its_own i).held ((is.its_place i).position / 5)
-
--- in a step
-pub held_here : (r : Run) (c step : ℕ) (x : Channel) → ChannelIs r c x → c < r.count → leb x.held step ≡ held (sheet_of r) c step
-held_here r c step x is h = λ i. sym (lt-ltb c r.count h) i && leb (is.its_own i).held step
 
 pub held_absent : (r : Run) (c step : ℕ) → r.count ≤ c → false ≡ held (sheet_of r) c step
 held_absent r c step h = λ i. sym (le-ltb c r.count h) i && leb (own (sheet_of r) c).held step

@@ -86,10 +86,6 @@ pub placed_at : (r : Run) (c : ℕ) (p : Place) {x : Channel} → c < r.count �
     → with_channels r (set r.channels c x) ≡ placed r (set (places_of r) c p)
 placed_at r c p h e = ap (λ (y : Channel). with_channels r (set r.channels c y)) e ∙ ap (with_channels r) (sym (one r.count r.channels c p h))
 
--- a channel x with its place changed by g, x being y and its place p
-pub on_place : (g : Place → Place) {x y z : Channel} {p : Place} → z ≡ with_place x (g (place_of x)) → x ≡ y → place_of x ≡ p → z ≡ with_place y (g p)
-on_place g h e q = h ∙ (λ i. with_place (e i) (g (q i)))
-
 -- a change of each place, channel by channel: one more, at the code's `k + 1`, and all of them
 module _ (r : Run) (long : r.count ≤ length r.channels) (g : Place → Place) where
   -- channel c with its place changed

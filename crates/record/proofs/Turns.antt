@@ -1,33 +1,16 @@
 -- The tests by turn, of the struct's own channels.
 use mathlib.Core.Path.{◌≡◌, sym, ap, ◌∙◌}
-use Prim.Native.Nat.{ℕ, ◌*◌, ◌%◌, ◌≤◌, ◌<◌}
+use Prim.Native.Nat.{ℕ, ◌*◌, ◌%◌, ◌≤◌}
 use native.Mathlib.Omega.{arith}
-use mathlib.Core.Bool.{Bool, not}
-use mathlib.Core.List.{List, [], ◌∷◌}
 use lib.Dec.{eqb}
 use lib.ListN.{length, take}
-use borrow.Author.Tests.{lt-ltb}
 use Rattle.std.specs.List.{list_all, list_any}
-use Rattle.calls.specs.Run.{Place, place, every, among}
-use Rattle.calls.specs.Jobs.{Job, on, turn}
-use Rattle.calls.specs.Calls.{first, test, turn_tests}
-use Rattle.record.specs.Model.{Legal, sheet_of, place_of, places_of, no_channel}
+use Rattle.calls.specs.Run.{place, every, among}
+use Rattle.record.specs.Model.{Legal, places_of, no_channel}
 use Rattle.record.specs.declared.Run.{Run}
-use Rattle.record.specs.declared.Channel.{Channel}
 use Rattle.record.proofs.Channels.{at_mark, at_position}
 use Rattle.record.proofs.Sizes.{count_3}
 use Rattle.record.proofs.Firsts.{all_first, any_first, every_same, among_same}
-
--- 10, 11 and 9 of a channel of the record
-pub turn-at : (r : Run) (j : Job) (c : ℕ) (x : Channel) → c < r.count → place_of x ≡ place (places_of r) c
-    → first (test 10 x.mark ∷ test 11 (eqb x.position (5 * r.n)) ∷ test 9 (not (eqb (x.position % 5) (turn j))) ∷ [])
-    ≡ first (turn_tests (sheet_of r) (places_of r) (on j c))
-turn-at r j c x below e =
-    ap (λ (p : Place). first (by_place p)) e
-    ∙ ap (λ (b : Bool). first (test 12 (not b) ∷ by_place (place (places_of r) c))) (sym (lt-ltb c r.count below))
-  where
-    by_place : Place → List ℕ
-    by_place p = test 10 p.mark ∷ test 11 (eqb p.position (5 * r.n)) ∷ test 9 (not (eqb (p.position % 5) (turn j))) ∷ []
 
 -- blend's tests of every channel
 module _ (r : Run) (ok : Legal r) (three : length r.channels ≡ 3) where

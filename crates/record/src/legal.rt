@@ -1,7 +1,7 @@
 // Legal records: refusal 13 is for any other.
-ghost use Rattle.std.specs.Prelude.{◌≡◌, ◌&&◌, ◌≤◌, eqb};
+ghost use Rattle.std.specs.Prelude.{◌≡◌, ◌&&◌, ◌<◌, ◌≤◌, eqb};
 ghost use Rattle.calls.specs.Run.{legal, side, full_side, factor, weight, own_ok, kept_ok, place_ok, header_ok, every, blends_in};
-ghost use Rattle.record.specs.Model.{own_of, place_of, sheet_of, places_of, channel_ok};
+ghost use Rattle.record.specs.Model.{Legal, own_of, place_of, sheet_of, places_of, channel_ok};
 
 use crate::{Channel, Run};
 
@@ -33,6 +33,7 @@ fn weight_ok(x: f32) -> bool
 }
 
 // A channel's own numbers: its sides, factors, cover, data weight and held count.
+#[tactic(auto, unfolding(calls::specs::Run::own_ok))]
 fn own_ok(run: Run, x: Channel) -> bool
     ensures { result ≡ own_ok (sheet_of run) (own_of x) }
 {
@@ -55,6 +56,7 @@ fn kept_ok(x: Channel) -> bool
 }
 
 // A position from 0 to 5N, a mark only at a positive multiple of 5, and a kept number that may be.
+#[tactic(auto, unfolding(calls::specs::Run::place_ok))]
 fn place_ok(run: Run, x: Channel) -> bool
     ensures { result ≡ place_ok (sheet_of run) (own_of x) (place_of x) }
 {
@@ -102,4 +104,19 @@ pub fn legal(run: Run) -> bool
     ensures { result ≡ legal (sheet_of run) (places_of run) }
 {
     header_ok(run) && channels_ok(run)
+}
+
+// A legal record: what every call goes on, once it has looked at the record.
+#[derive(Clone, Copy)]
+pub struct LegalRun {
+    pub run: Run,
+    pub ghost holds: { Legal run },
+}
+
+// A legal record and the number of one of its channels: what a job of one channel goes on.
+#[derive(Clone, Copy)]
+pub struct Turn {
+    pub legal: LegalRun,
+    pub c: u32,
+    pub ghost below: { c < legal.run.count },
 }

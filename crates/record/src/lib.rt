@@ -2,6 +2,7 @@
 #![tactic(auto)]
 
 pub mod legal;
+pub mod lent;
 pub mod places;
 pub mod refusals;
 pub mod scans;
@@ -24,6 +25,7 @@ pub struct Channel {
     pub weight: f32,
     pub held: u32,
     pub position: u32,
+    // Kept: the mark is a value of document 01's record, in the struct that C lends, and says nothing of another field.
     pub mark: bool,
     pub clipped: u32,
 }
@@ -97,6 +99,7 @@ impl TryFrom<u8> for Job {
 }
 
 // What an accepted call answers: done; done, and the channel is now marked blown; a blend done, with both its totals.
+// Kept: these are three answers of a call that is not refused, as the model's `Answer` has them; a refusal is the `Err` of a `Result` around it.
 #[derive(Clone, Copy)]
 pub enum Accepted {
     Done,
@@ -107,6 +110,7 @@ pub enum Accepted {
 // What a job tells of its channel: whether any plane value or saved coefficient is then NaN or infinite, and how many coefficients it clipped.
 #[derive(Clone, Copy)]
 pub struct Seen {
+    // Kept: this is the channel's next mark itself; the number clipped is told and kept whether the channel is blown or not.
     pub blown: bool,
     pub clipped: u32,
 }

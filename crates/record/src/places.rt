@@ -1,28 +1,11 @@
 // A channel's part of the lent buffers, and the record with new positions, marks and kept numbers.
 ghost use Rattle.std.specs.Prelude.{◌≡◌, map, ℕ, ◌+◌, ◌*◌, ◌/◌, ◌<◌, ◌≤◌, false, get_or, set};
-ghost use Rattle.calls.specs.Run.{Place, fresh, place, coefs, held};
+ghost use Rattle.calls.specs.Run.{Place, fresh, place, coefs, levels_before, held};
 ghost use Rattle.calls.specs.Calls.{onward, marked};
-ghost use Rattle.record.specs.Model.{Legal, ChannelIs, sheet_of, place_of, places_of, placed, with_channels, with_place, no_channel, seen_of, clipped_of};
+ghost use Rattle.record.specs.Model.{ChannelIs, sheet_of, place_of, places_of, placed, with_channels, with_place, no_channel, seen_of, clipped_of};
 
-use crate::refusals::area;
+use crate::legal::{LegalRun, Turn};
 use crate::{Channel, Run, Seen};
-
-// Channel c of the record.
-pub fn channel_of(run: Run, c: u32) -> Channel
-    requires { Legal run × (c < run.count) }
-    ensures { ChannelIs run c result }
-{
-    run.channels[c as usize]
-}
-
-// Channel c's coefficients, w × h of them.
-pub fn coefs_of(run: Run, c: u32) -> usize
-    requires { Legal run × (c < run.count) }
-    ensures { result ≡ coefs (sheet_of run) c }
-{
-    let x = channel_of(run, c);
-    (x.width as usize) * (x.height as usize)
-}
 
 // The number that channel c keeps; 0 for a channel that the record has not.
 pub fn clipped_of(run: Run, c: u32) -> u32
@@ -36,7 +19,7 @@ pub fn clipped_of(run: Run, c: u32) -> u32
     }
 }
 
-// Where channel c's values begin and end in a lent buffer, and the step that its next job belongs to.
+// Where a channel's values begin and end in a lent buffer, and the step that its next job belongs to.
 #[derive(Clone, Copy)]
 pub struct Span {
     pub from: usize,
@@ -44,49 +27,70 @@ pub struct Span {
     pub step: u32,
 }
 
-pub fn span_of(run: Run, c: u32) -> Span
-    requires { Legal run × (c < run.count) }
-    ensures { (result.from ≡ c * (run.w * run.h)) × (result.to ≡ c * (run.w * run.h) + run.w * run.h) × (result.step ≡ (place (places_of run) c).position / 5)
-        × (result.to ≤ run.count * (run.w * run.h)) × (result.to ≤ 786432) }
-{
-    let n = area(run);
-    let from = (c as usize) * n;
-    let x = channel_of(run, c);
-    Span {
-        from,
-        to: from + n,
-        step: x.position / 5,
+impl Turn {
+    // The channel.
+    pub fn channel(self) -> Channel
+        ensures { ChannelIs self.legal.run self.c result }
+    {
+        self.legal.run.channels[self.c as usize]
     }
-}
 
-// Whether channel c is held in its next job (M-108). Rules out: held one step late, and a position taken for a step.
-pub fn held_of(run: Run, c: u32) -> bool
-    requires { Legal run × (c < run.count) }
-    ensures { result ≡ held (sheet_of run) c ((place (places_of run) c).position / 5) }
-{
-    let x = channel_of(run, c);
-    x.held <= x.position / 5
-}
+    // Its coefficients, w × h of them.
+    pub fn coefs(self) -> usize
+        ensures { result ≡ coefs (sheet_of self.legal.run) self.c }
+    {
+        let x = self.channel();
+        (x.width as usize) * (x.height as usize)
+    }
 
-// Whether channel c is held in a step. A channel that the record does not have is not.
-fn held_in(run: Run, c: u32, step: u32) -> bool
-    requires { Legal run }
-    ensures { result ≡ held (sheet_of run) c step }
-{
-    c < run.count && channel_of(run, c).held <= step
-}
+    // Where its part of a lent buffer is, and its step.
+    pub fn span(self) -> Span
+        ensures { (result.from ≡ self.c * (self.legal.run.w * self.legal.run.h))
+            × (result.to ≡ self.c * (self.legal.run.w * self.legal.run.h) + self.legal.run.w * self.legal.run.h)
+            × (result.step ≡ (place (places_of self.legal.run) self.c).position / 5)
+            × (result.to ≤ self.legal.run.count * (self.legal.run.w * self.legal.run.h)) × (result.to ≤ 786432) }
+    {
+        let n = self.legal.area();
+        let from = (self.c as usize) * n;
+        let x = self.channel();
+        Span {
+            from,
+            to: from + n,
+            step: x.position / 5,
+        }
+    }
 
-// Which channels are held in the step of the next blend, which is that of channel 0's position.
-pub fn held_flags(run: Run) -> [bool; 3]
-    requires { Legal run }
-    ensures { (c : ℕ) → get_or result c false ≡ held (sheet_of run) c ((place (places_of run) 0).position / 5) }
-{
-    let step = span_of(run, 0).step;
-    [
-        held_in(run, 0, step),
-        held_in(run, 1, step),
-        held_in(run, 2, step),
-    ]
+    // Whether it is held in its next job (M-108). Rules out: held one step late, and a position taken for a step.
+    pub fn held(self) -> bool
+        ensures { result ≡ held (sheet_of self.legal.run) self.c ((place (places_of self.legal.run) self.c).position / 5) }
+    {
+        let x = self.channel();
+        x.held <= x.position / 5
+    }
+
+    // The record with the channel, x, at another place.
+    fn replaced(self, x: Channel) -> Run
+        ensures { (p : Place) → x ≡ with_place (get_or self.legal.run.channels self.c no_channel) p
+            → result ≡ placed self.legal.run (set (places_of self.legal.run) self.c p) }
+    {
+        let mut next = self.legal.run;
+        next.channels[self.c as usize] = x;
+        next
+    }
+
+    // The record after an accepted job of the channel, but for project.
+    pub fn advanced(self) -> Run
+        ensures { result ≡ placed self.legal.run (set (places_of self.legal.run) self.c (onward (place (places_of self.legal.run) self.c))) }
+    {
+        self.replaced(onward(self.channel()))
+    }
+
+    // The record after an accepted project of the channel.
+    pub fn projected(self, seen: Seen) -> Run
+        ensures { result ≡ placed self.legal.run (set (places_of self.legal.run) self.c (marked (seen_of seen) (place (places_of self.legal.run) self.c))) }
+    {
+        self.replaced(marked(self.channel(), seen))
+    }
 }
 
 // A channel after an accepted job.
@@ -125,58 +129,78 @@ fn fresh(x: Channel) -> Channel
     }
 }
 
-// The record with channel c, x, at another place.
-fn replaced(run: Run, c: u32, x: Channel) -> Run
-    requires { Legal run × (c < run.count) }
-    ensures { (p : Place) → x ≡ with_place (get_or run.channels c no_channel) p → result ≡ placed run (set (places_of run) c p) }
-{
-    let mut next = run;
-    next.channels[c as usize] = x;
-    next
-}
-
-// The record after an accepted job of channel c, but for project.
-pub fn advanced(run: Run, c: u32) -> Run
-    requires { Legal run × (c < run.count) }
-    ensures { result ≡ placed run (set (places_of run) c (onward (place (places_of run) c))) }
-{
-    replaced(run, c, onward(channel_of(run, c)))
-}
-
-// The record after an accepted project of channel c.
-pub fn projected(run: Run, c: u32, seen: Seen) -> Run
-    requires { Legal run × (c < run.count) }
-    ensures { result ≡ placed run (set (places_of run) c (marked (seen_of seen) (place (places_of run) c))) }
-{
-    replaced(run, c, marked(channel_of(run, c), seen))
-}
-
-// The record with every channel moved to its next place.
-fn next_places<F: Fn(Channel) -> Channel>(run: Run, next_place: F) -> Run
-    requires legal { Legal run }
-    requires callable { (x : Channel) → x.position < 4294967295 → F.pre next_place x }
-    ensures { (g : Place → Place) → ((x y : Channel) → F.post next_place x y → y ≡ with_place x (g (place_of x))) → result ≡ placed run (map g (places_of run)) }
-{
-    let mut next = run;
-    // Kept: after a loop over `iter_mut` a proof knows no element, so the places are written by index.
-    for c in 0..run.count as usize {
-        next.channels[c] = next_place(run.channels[c]);
+impl LegalRun {
+    // W × H, the values of a channel in a lent buffer.
+    pub fn area(self) -> usize
+        ensures { result ≡ self.run.w * self.run.h }
+    {
+        (self.run.w as usize) * (self.run.h as usize)
     }
-    next
-}
 
-// The record after an accepted blend.
-pub fn blended(run: Run) -> Run
-    requires { Legal run }
-    ensures { result ≡ placed run (map onward (places_of run)) }
-{
-    next_places(run, onward)
-}
+    // channels × W × H, the values of a lent buffer.
+    #[tactic(auto, using(crate::proofs::Sizes::all_small))]
+    pub fn total(self) -> usize
+        ensures { result ≡ self.run.count * (self.run.w * self.run.h) }
+    {
+        (self.run.count as usize) * self.area()
+    }
 
-// The record of a fresh run.
-pub fn cleared(run: Run) -> Run
-    requires { Legal run }
-    ensures { result ≡ placed run (map (λ p. fresh) (places_of run)) }
-{
-    next_places(run, fresh)
+    // The place of channel c's first level: those of the channels before it come first.
+    pub fn levels_before(self, c: u32) -> usize
+        requires { c ≤ self.run.count }
+        ensures { result ≡ levels_before (sheet_of self.run) c }
+    {
+        let mut sum = 0;
+        for x in &self.run.channels[..c as usize] {
+            sum += (x.width as usize) * (x.height as usize);
+        }
+        sum
+    }
+
+    // Whether channel c is held in a step. A channel that the record does not have is not.
+    fn held_in(self, c: u32, step: u32) -> bool
+        ensures { result ≡ held (sheet_of self.run) c step }
+    {
+        c < self.run.count && (Turn { legal: self, c }).channel().held <= step
+    }
+
+    // Which channels are held in the step of the next blend, which is that of channel 0's position.
+    pub fn held_flags(self) -> [bool; 3]
+        ensures { (c : ℕ) → get_or result c false ≡ held (sheet_of self.run) c ((place (places_of self.run) 0).position / 5) }
+    {
+        let step = (Turn { legal: self, c: 0 }).span().step;
+        [
+            self.held_in(0, step),
+            self.held_in(1, step),
+            self.held_in(2, step),
+        ]
+    }
+
+    // The record with every channel moved to its next place.
+    fn next_places<F: Fn(Channel) -> Channel>(self, next_place: F) -> Run
+        requires { (x : Channel) → x.position < 4294967295 → F.pre next_place x }
+        ensures { (g : Place → Place) → ((x y : Channel) → F.post next_place x y → y ≡ with_place x (g (place_of x))) → result ≡ placed self.run (map g (places_of self.run)) }
+    {
+        let mut next = self.run;
+        // Kept: tried with `iter_mut().enumerate()`. Over the first `count` channels the proof didn't close, as nothing is known of the record after the loop; over all three each
+        // turn has to ask whether the record has the channel, which is no plainer.
+        for c in 0..self.run.count as usize {
+            next.channels[c] = next_place(self.run.channels[c]);
+        }
+        next
+    }
+
+    // The record after an accepted blend.
+    pub fn blended(self) -> Run
+        ensures { result ≡ placed self.run (map onward (places_of self.run)) }
+    {
+        self.next_places(onward)
+    }
+
+    // The record of a fresh run.
+    pub fn cleared(self) -> Run
+        ensures { result ≡ placed self.run (map (λ p. fresh) (places_of self.run)) }
+    {
+        self.next_places(fresh)
+    }
 }

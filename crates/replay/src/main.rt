@@ -7,7 +7,7 @@ mod sheets;
 mod transforms;
 
 use std::io;
-use words::{count, word};
+use words::{replay, word};
 
 // Whether the line has the answer that the proved code gives. The first word tells the operation.
 fn same_line(line: &[u8]) -> bool {
@@ -22,6 +22,5 @@ fn same_line(line: &[u8]) -> bool {
 }
 
 fn main(rt: HostRuntime) -> io::Result<()> {
-    let tally = count(&mut rt.stdin(), same_line)?;
-    println!(rt; "{tally}")
+    replay(rt, same_line)
 }

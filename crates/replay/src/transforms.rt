@@ -3,19 +3,24 @@
 ghost use Rattle.std.specs.Prelude.{◌*◌, ◌<◌, ◌≤◌};
 
 use float::bits::{from_bits, to_bits};
+use utils::blocks::{Order, move_blocks};
+use utils::dct::{Transform, transform8x8};
 use words::{from_word, number_at, read, same_values, word};
 
 // Whether the words from word k on are the bits of the values.
+// Kept: the values are compared with words of the line, so that no derived equality does it.
 fn same_bits(line: &[u8], k: usize, xs: &[f32]) -> bool {
     same_values(from_word(line, k), xs, |x, n| to_bits(x) == n)
 }
 
+// Whether the line has the 64 values that its transform gives.
+// Kept: as `same_bits`, which it ends with.
 pub fn same_transform(line: &[u8]) -> bool {
     let mut a = [0.0f32; 64];
     read(from_word(line, 1), &mut a, from_bits);
     match word(line, 0) {
-        b"idct" => utils::dct::idct8x8(&mut a),
-        _ => utils::dct::dct8x8(&mut a),
+        b"idct" => transform8x8(&mut a, Transform::Inverse),
+        _ => transform8x8(&mut a, Transform::Forward),
     }
     same_bits(line, 65, &a)
 }
@@ -54,6 +59,8 @@ fn area(w: usize, h: usize) -> usize
     w * 8 * (h * 8)
 }
 
+// Whether the line has the values that its reordering gives.
+// Kept: as `same_bits`, which it ends with.
 pub fn same_order(line: &[u8]) -> bool {
     let bw = blocks(line, 1);
     let bh = blocks(line, 2);
@@ -61,12 +68,13 @@ pub fn same_order(line: &[u8]) -> bool {
     let image = count_up();
     let mut out = [0.0f32; 576];
     match word(line, 0) {
-        b"from" => utils::blocks::from_blocks(&image, &mut out, bw * 8, bh * 8, bw, bh),
-        _ => utils::blocks::to_blocks(&image, &mut out, bw * 8, bh * 8, bw, bh),
+        b"from" => move_blocks(&image, &mut out, bw * 8, bh * 8, bw, bh, Order::Raster),
+        _ => move_blocks(&image, &mut out, bw * 8, bh * 8, bw, bh, Order::Blocks),
     }
     same_bits(line, 3, &out[..n])
 }
 
+// Whether the line has the values that the upsampling gives.
 pub fn same_up(line: &[u8]) -> bool {
     let w = blocks(line, 1);
     let h = blocks(line, 2);

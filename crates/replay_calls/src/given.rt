@@ -4,6 +4,7 @@ ghost use Rattle.std.specs.Prelude.{◌≤◌};
 
 use crate::served;
 use float::bits::from_bits;
+use record::lent::{Buffers, Given};
 use record::{Channel, Run};
 use start::coef::Reorder;
 use words::{from_word, low_half, number_at, read};
@@ -22,11 +23,6 @@ fn length_of(line: &[u8], k: usize, most: usize) -> usize
     ensures { result ≤ most }
 {
     most.min(number_at(line, k) as usize)
-}
-
-// The letter of line A by its number.
-fn reorder_of(n: u32) -> Reorder {
-    if n == 1 { Reorder::Once } else { Reorder::Each }
 }
 
 // The channel whose nine numbers these words are.
@@ -53,22 +49,14 @@ fn read_run(line: &[u8]) -> Run {
         h: number_at(line, 16),
         n: number_at(line, 17),
         smoothing: from_bits(number_at(line, 18)),
-        reorder: reorder_of(number_at(line, 19)),
+        reorder: Reorder::from(number_at(line, 19)),
         count: number_at(line, 20),
         channels: [a, b, c],
     }
 }
 
 // The digest that the proved calls give for the line's six buffers, all their values being word 2.
-fn digest_of(
-    line: &[u8],
-    jobs: &[u8],
-    channels: &[u32],
-    answers: &mut [u8],
-    lows: &[i16],
-    highs: &[i16],
-    tables: &[u16],
-) -> u32 {
+fn digest_of(line: &[u8], jobs: &[u8], channels: &[u32], answers: &mut [u8], given: Given) -> u32 {
     let x = from_bits(number_at(line, 2));
     let mut plane = [x; 3072];
     let mut prior = [x; 3072];
@@ -82,25 +70,19 @@ fn digest_of(
     let d = length_of(line, 6, 3072);
     let e = length_of(line, 7, 3072);
     let f = length_of(line, 8, 3072);
-    served::digest(
-        read_run(line),
-        jobs,
-        channels,
-        answers,
-        lows,
-        highs,
-        tables,
-        &mut plane[..a],
-        &mut prior[..b],
-        &mut gradient[..c],
-        &mut across[..d],
-        &mut down[..e],
-        &mut saved[..f],
-    )
+    let mut lent = Buffers {
+        plane: &mut plane[..a],
+        prior: &mut prior[..b],
+        gradient: &mut gradient[..c],
+        across: &mut across[..d],
+        down: &mut down[..e],
+        saved: &mut saved[..f],
+    };
+    served::digest(read_run(line), jobs, channels, answers, given, &mut lent)
 }
 
 // Reads the lists of jobs and of channels, which `words` begins with, and makes the calls.
-fn same_calls(line: &[u8], words: &[u8], lows: &[i16], highs: &[i16], tables: &[u16]) -> bool {
+fn same_calls(line: &[u8], words: &[u8], given: Given) -> bool {
     let mut jobs = [0u8; 256];
     let mut channels = [0u32; 256];
     let mut answers = [77u8; 256];
@@ -109,15 +91,7 @@ fn same_calls(line: &[u8], words: &[u8], lows: &[i16], highs: &[i16], tables: &[
     let k = length_of(line, 14, 256);
     let rest = read(words, &mut jobs[..n], byte);
     read(rest, &mut channels[..m], |n| n);
-    let digest = digest_of(
-        line,
-        &jobs[..n],
-        &channels[..m],
-        &mut answers[..k],
-        lows,
-        highs,
-        tables,
-    );
+    let digest = digest_of(line, &jobs[..n], &channels[..m], &mut answers[..k], given);
     number_at(line, 1) == digest
 }
 
@@ -132,5 +106,10 @@ pub fn same_line(line: &[u8]) -> bool {
     let after_lows = read(from_word(line, 48), &mut lows[..n], level);
     let after_highs = read(after_lows, &mut highs[..o], level);
     let rest = read(after_highs, &mut tables[..m], low_half);
-    same_calls(line, rest, &lows[..n], &highs[..o], &tables[..m])
+    let given = Given {
+        lows: &lows[..n],
+        highs: &highs[..o],
+        tables: &tables[..m],
+    };
+    same_calls(line, rest, given)
 }

@@ -7,9 +7,8 @@ mod given;
 mod served;
 
 use std::io;
-use words::count;
+use words::replay;
 
 fn main(rt: HostRuntime) -> io::Result<()> {
-    let tally = count(&mut rt.stdin(), given::same_line)?;
-    println!(rt; "{tally}")
+    replay(rt, given::same_line)
 }

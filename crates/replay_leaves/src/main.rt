@@ -6,14 +6,8 @@ mod segments;
 mod stitches;
 mod tapes;
 
-use refusal::Refusal;
 use std::io;
-use words::{count, word};
-
-// An answer's number: 0 for done, else the refusal's.
-fn answer_number(answer: Result<(), Refusal>) -> u32 {
-    answer.map_or_else(u32::from, |()| 0)
-}
+use words::{replay, word};
 
 // Whether the line has what the proved code gives. The first word tells the call.
 fn same_line(line: &[u8]) -> bool {
@@ -28,6 +22,5 @@ fn same_line(line: &[u8]) -> bool {
 }
 
 fn main(rt: HostRuntime) -> io::Result<()> {
-    let tally = count(&mut rt.stdin(), same_line)?;
-    println!(rt; "{tally}")
+    replay(rt, same_line)
 }

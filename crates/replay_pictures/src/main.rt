@@ -2,30 +2,20 @@
 // oracle's answers.
 #![tactic(auto)]
 
-ghost use Rattle.std.specs.Prelude.{◌≡◌, ◌≤◌, length};
+ghost use Rattle.std.specs.Prelude.{◌≤◌, length};
 
 use filling::read_full;
 use std::io;
 use std::io::{Read, Write};
 
-fn digit(b: u8) -> usize
-    ensures { result ≤ 9 }
-{
-    (b % 16 % 10) as usize
-}
-
 // What five digits say; 0 for more than 65,536.
-fn length_of(d: &[u8]) -> usize
-    requires { length d.now ≡ 5 }
+fn length_of(digits: &[u8; 5]) -> usize
     ensures { result ≤ 65536 }
 {
-    let high = digit(d[0]) * 10000 + digit(d[1]) * 1000;
-    let low = digit(d[2]) * 100 + digit(d[3]) * 10 + digit(d[4]);
-    let n = high + low;
-    if n > 65536 {
-        return 0;
-    }
-    n
+    let n = digits.iter().fold(0usize, |n, &b| {
+        n.wrapping_mul(10).wrapping_add(usize::from(b % 16 % 10))
+    });
+    if n > 65536 { 0 } else { n }
 }
 
 // The next text of standard input, and what is printed for it. Whether there was one.

@@ -2,12 +2,13 @@
 #![tactic(auto)]
 
 ghost use Rattle.std.specs.Prelude.{◌≡◌, [], ◌∷◌, ◌+◌, ◌*◌, ◌≤◌, length, Ok};
-ghost use Rattle.start.specs.Coef.{pairs};
+ghost use Rattle.record.specs.Lent.{levels_in, six_of, SameSix};
 ghost use Rattle.record.specs.Model.{given_of, answer_of, clipped_of, turn_of};
-ghost use Rattle.rounds.specs.Whole.{six, loan, run_of, Ends, RunIs};
+ghost use Rattle.rounds.specs.Whole.{loan, run_of, Ends, RunIs};
 ghost use Rattle.rounds.specs.Rounds.{turns, RoundAsks, RoundIs, with_pair, RunAsks};
 
 use numbered::job_value;
+use record::lent::{Buffers, Given};
 use record::{Accepted, Job, Run};
 use refusal::Refusal;
 use run::values::start;
@@ -23,28 +24,14 @@ fn turns_of(job: Job, count: u32) -> u32
 }
 
 // The job that is next at position p, for every channel. It stops at a channel that is blown.
-fn round(
-    run: &mut Run,
-    p: u32,
-    lows: &[i16],
-    highs: &[i16],
-    tables: &[u16],
-    plane: &mut [f32],
-    prior: &mut [f32],
-    gradient: &mut [f32],
-    across: &mut [f32],
-    down: &mut [f32],
-    saved: &mut [f32],
-) -> Result<Accepted, Refusal>
-    requires { RoundAsks run.old p (pairs lows.now highs.now) tables.now (six plane.old prior.old gradient.old across.old down.old saved.old) }
-    ensures { RoundIs (given_of run.old (pairs lows.now highs.now) tables.now) p result run.new
-        (six plane.new prior.new gradient.new across.new down.new saved.new) }
+fn round(run: &mut Run, p: u32, given: Given, lent: &mut Buffers) -> Result<Accepted, Refusal>
+    requires { RoundAsks run.old p (levels_in given) given.tables.now (six_of lent.old) }
+    ensures is { RoundIs (given_of run.old (levels_in given.entry) given.entry.tables.now) p result run.new (six_of lent.new) }
+    ensures same { SameSix lent.old lent.new }
 {
     let job = Job::try_from((p % 5) as u8).unwrap();
     for c in 0..turns_of(job, run.count) {
-        let answer = job_value(
-            run, job, c, lows, highs, tables, plane, prior, gradient, across, down, saved,
-        )?;
+        let answer = job_value(run, job, c, given, lent)?;
         let Accepted::Done = answer else {
             return Ok(answer);
         };
@@ -75,26 +62,18 @@ fn put_pair(answer: Accepted, k: usize, totals: &mut [f64])
 // All rounds of a run that stands at its start: 5N of them. Both totals of each blend are stored, step after step. Leaves the record as it is after them.
 fn all_rounds(
     run: &mut Run,
-    lows: &[i16],
-    highs: &[i16],
-    tables: &[u16],
-    plane: &mut [f32],
-    prior: &mut [f32],
-    gradient: &mut [f32],
-    across: &mut [f32],
-    down: &mut [f32],
-    saved: &mut [f32],
+    given: Given,
+    lent: &mut Buffers,
     totals: &mut [f64],
 ) -> Result<Accepted, Refusal>
-    requires { RunAsks run.old (pairs lows.now highs.now) tables.now (six plane.old prior.old gradient.old across.old down.old saved.old) totals.old }
-    ensures { Ends 0 (run_of (given_of run.old (pairs lows.now highs.now) tables.now))
-        (loan (six plane.old prior.old gradient.old across.old down.old saved.old) totals.old) (answer_of result) (clipped_of run.new)
-        (loan (six plane.new prior.new gradient.new across.new down.new saved.new) totals.new) }
+    requires { RunAsks run.old (levels_in given) given.tables.now (six_of lent.old) totals.old }
+    ensures is { Ends 0 (run_of (given_of run.old (levels_in given.entry) given.entry.tables.now))
+        (loan (six_of lent.old) totals.old) (answer_of result) (clipped_of run.new)
+        (loan (six_of lent.new) totals.new) }
+    ensures same { SameSix lent.old lent.new }
 {
     for p in 0..5 * run.n {
-        let answer = round(
-            run, p, lows, highs, tables, plane, prior, gradient, across, down, saved,
-        )?;
+        let answer = round(run, p, given, lent)?;
         if let Accepted::Blown = answer {
             return Ok(Accepted::Blown);
         }
@@ -109,26 +88,15 @@ fn all_rounds(
 // number that the last one clipped; the totals of the planes after a step for those of the planes that its blend was lent.
 pub fn run_value(
     run: &mut Run,
-    lows: &[i16],
-    highs: &[i16],
-    tables: &[u16],
-    plane: &mut [f32],
-    prior: &mut [f32],
-    gradient: &mut [f32],
-    across: &mut [f32],
-    down: &mut [f32],
-    saved: &mut [f32],
+    given: Given,
+    lent: &mut Buffers,
     totals: &mut [f64],
 ) -> Result<Accepted, Refusal>
     requires { length totals.old ≡ run.old.n * 2 }
-    ensures { RunIs run.old (pairs lows.now highs.now) tables.now
-        (loan (six plane.old prior.old gradient.old across.old down.old saved.old) totals.old) result run.new
-        (loan (six plane.new prior.new gradient.new across.new down.new saved.new) totals.new) }
+    ensures is { RunIs run.old (levels_in given.entry) given.entry.tables.now (loan (six_of lent.old) totals.old) result run.new
+        (loan (six_of lent.new) totals.new) }
+    ensures same { SameSix lent.old lent.new }
 {
-    start(
-        run, lows, highs, tables, plane, prior, gradient, across, down, saved,
-    )?;
-    all_rounds(
-        run, lows, highs, tables, plane, prior, gradient, across, down, saved, totals,
-    )
+    start(run, given, lent)?;
+    all_rounds(run, given, lent, totals)
 }

@@ -3,3 +3,5 @@ pub mod Places
 pub mod Commute
 pub mod RowLaws
 pub mod Filled
+pub mod Lent
+pub mod Summed

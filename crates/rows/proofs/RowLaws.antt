@@ -1,12 +1,11 @@
 -- Rows of a buffer: what a loop over one leaves, and the loops of changes with their edges.
 use mathlib.Core.Path.{◌≡◌, refl, ap, ap₂, ◌∙◌, sym}
-use mathlib.Core.Bool.{Bool, true, false, ◌||◌}
+use mathlib.Core.Bool.{Bool, true, false, ◌||◌, true≢false}
 use mathlib.Core.List.{List}
 use Prim.Native.Nat.{ℕ, ◌+◌, ◌-◌, ◌≤◌, ◌<◌}
 use native.Mathlib.Nat.{zero-add, le_refl}
 use native.Mathlib.Omega.{arith}
-use borrow.Author.Tests.{le-leb, lt-leb, ne_eqb, ltb-true, ltb-false, not-false}
-use lib.Dec.{ltb}
+use borrow.Author.Tests.{le-leb, lt-leb, ne_eqb}
 use lib.ListN.{length, set, length-set}
 use lib.Seq.{get_or-set_same, get_or-set_other}
 use lib.Ieee.{Float, nan, eq, ne}
@@ -18,6 +17,8 @@ use Rattle.gradients.specs.Tv.{px_idx, right_edge, bottom_edge}
 use Rattle.gradients.specs.Tgv.{left_edge, top_edge}
 use Rattle.rows.specs.Rows.{Row, Idle, store_from, hit, hit_at, own_row, right_row, left_row, below_row, above_row, above_right_row, below_left_row}
 use Rattle.rows.proofs.Commute.{upto_idle, upto_last, upto_first, hit_edge, hit_off}
+use Rattle.std.specs.List.{list_any}
+use Rattle.std.proofs.lemmas.List.Folds.{list_any_at}
 
 -- xs[x] = F x xs[x]
 abbrev pub change_row : (ℕ → Float → Float) → ℕ → List Float → List Float
@@ -42,9 +43,6 @@ stored_from at v t w h x l =
 pub stored_row : (v : ℕ → Float) (t : List Float) (w : ℕ) → w ≤ length t → Row w (upto (store_from 0 v) w t) v
 stored_row v t w h x l = ap (val (upto (store_from 0 v) w t)) (sym (zero-add x)) ∙ stored_from 0 v t w (rw (zero-add w) h) x l
 
-pub cleared : (t : List Float) (w : ℕ) → w ≤ length t → Row w (upto (store_from 0 (λ j. f0)) w t) (λ x. f0)
-cleared t w h x l = ap (val (upto (store_from 0 (λ j. f0)) w t)) (sym (zero-add x)) ∙ stored_from 0 (λ j. f0) t w (rw (zero-add w) h) x l
-
 pub at_px : (W H c y at x : ℕ) → at ≡ px_idx W H c y 0 → at + x ≡ px_idx W H c y x
 at_px W H c y at x e = omega arith
 
@@ -63,25 +61,13 @@ pub hits_idle : (e : ℕ → Bool) (p : ℕ → ℕ) (alpha : Float) (W : ℕ) (
     → upto (λ x. hit (e x) alpha (ns x) (qs x) (p x)) W g ≡ g
 hits_idle e p alpha W ns qs g h = upto_idle (λ x. hit (e x) alpha (ns x) (qs x) (p x)) W (λ x l t. hit_off (e x) alpha (ns x) (qs x) (p x) t (h x l)) g
 
-pub idle_none : (ns : List Float) → Idle 0 ns
-idle_none ns x l = absurd (never x l)
-  where
-    never : (x : ℕ) → x < 0 → ⊥
-    never x l = omega arith
-
-pub idle_more : (w : ℕ) (ns : List Float) → Idle w ns → ne (val ns w) f0 ≡ false → Idle (w + 1) ns
+pub idle_of : (ns : List Float) → list_any (λ m. ne m f0) ns ≡ false → Idle (length ns) ns
 unfolding ne
-idle_more w ns h e x l = go (ltb x w) refl
+idle_of ns h x l = go (eq (val ns x) f0) refl
   where
-    last : w ≤ x → x < w + 1 → x ≡ w
-    last p q = omega arith
-
-    go : (b : Bool) → ltb x w ≡ b → eq (val ns x) f0 ≡ true
-    go true i = h x (ltb-true x w i)
-    go false i = ap (λ (k : ℕ). eq (val ns k) f0) (last (ltb-false x w i) l) ∙ not-false (eq (val ns w) f0) e
-
-pub idle_end : (k w : ℕ) (ns : List Float) → Idle k ns → k ≡ w → Idle w ns
-idle_end k w ns h e x l = h x (omega arith)
+    go : (b : Bool) → eq (val ns x) f0 ≡ b → eq (val ns x) f0 ≡ true
+    go true i = i
+    go false i = absurd (true≢false (sym (list_any_at (λ m. ne m f0) ns x nan l (rw i)) ∙ h))
 
 -- one loop after another
 pub hits_then : (e : ℕ → Bool) (p : ℕ → ℕ) (alpha : Float) (W : ℕ) (ns ms qs ps : ℕ → Float) (g h i : List Float) → i ≡ upto (λ x. hit (e x) alpha (ns x) (qs x) (p x)) W g → g ≡ h

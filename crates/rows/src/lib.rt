@@ -4,10 +4,10 @@
 ghost use Rattle.std.specs.Prelude.{◌≡◌, false, ◌+◌, ◌*◌, ◌<◌, ◌≤◌, ◌^◌, length};
 ghost use Rattle.fold.specs.Fold.{upto};
 ghost use Rattle.float.specs.Ops.{root};
-ghost use Rattle.float.specs.Names.{◌⊖◌, f0, val};
+ghost use Rattle.float.specs.Names.{◌⊖◌, val};
 ghost use Rattle.gradients.specs.Tv.{px_idx};
 ghost use Rattle.gradients.specs.Grid.{Fills};
-ghost use Rattle.rows.specs.Rows.{Row, Idle, store_from, hit, hit_at, own_row, right_row, left_row, below_row, above_row, above_right_row, below_left_row};
+ghost use Rattle.rows.specs.Rows.{Row, Idle, store_in, hit_in, own_row, right_row, left_row, below_row, above_row, above_right_row, below_left_row};
 
 use gradients::grid::Grid;
 
@@ -21,91 +21,53 @@ pub fn row_at(g: Grid, c: usize, y: usize) -> usize
     c * (w * h) + y * w
 }
 
-// alpha.mul_add(q, ..) at k, unless the norm n is 0.
-fn hit(gradient: &mut [f32], k: usize, alpha: f32, n: f32, q: f32)
-    requires { k < length gradient.old }
-    ensures { gradient.new ≡ hit false alpha n q k gradient.old }
+// alpha.mul_add(q, ..) at each place, unless its norm is 0.
+fn put(gradient: &mut [f32], norm: &[f32], q: &[f32], alpha: f32)
+    requires { (length norm.now ≡ length gradient.old) × (length q.now ≡ length gradient.old) }
+    ensures { gradient.new ≡ upto (hit_in alpha norm.now q.now) (length gradient.old) gradient.old }
 {
-    if n == 0.0 {
-        return;
-    }
-    gradient[k] = wide::mul_add(alpha, q, gradient[k]);
-}
-
-// The same for the places at, at + 1, .. by the pixels lo, lo + 1, ..
-fn put(gradient: &mut [f32], norm: &[f32], q: &[f32], alpha: f32, lo: usize, at: usize, len: usize)
-    requires { (lo + len ≤ length norm.now) × (lo + len ≤ length q.now) × (at + len ≤ length gradient.old) }
-    ensures { gradient.new ≡ upto (hit_at alpha norm.now q.now lo at) len gradient.old }
-{
-    for j in 0..len {
-        let x = lo + j;
-        hit(gradient, at + j, alpha, norm[x], q[x]);
+    for (x, value) in gradient.iter_mut().enumerate() {
+        if norm[x] == 0.0 {
+            continue;
+        }
+        *value = wide::mul_add(alpha, q[x], *value);
     }
 }
 
-// out[at + j] = xs[to + j] - xs[from + j]. Rules out: the sign turned, and a value beyond the row stored.
-pub fn differ(xs: &[f32], out: &mut [f32], to: usize, from: usize, at: usize, len: usize)
-    requires { (to + len ≤ length xs.now) × (from + len ≤ length xs.now) × (at + len ≤ length out.old) }
+// The differences to - from of two rows. Rules out: the sign turned, and the difference of another column.
+pub fn differ(to: &[f32], from: &[f32], out: &mut [f32])
+    requires { (length to.now ≡ length out.old) × (length from.now ≡ length out.old) }
     ensures { out.new
-        ≡ upto (store_from at (λ j. val xs.now (to + j) ⊖ val xs.now (from + j))) len out.old }
+        ≡ upto (store_in (λ x. val to.now x ⊖ val from.now x)) (length out.old) out.old }
 {
-    for j in 0..len {
-        out[at + j] = xs[to + j] - xs[from + j];
-    }
-}
-
-// out[at + j] = 0. Rules out: −0, and a value beyond the row stored.
-pub fn clear(out: &mut [f32], at: usize, len: usize)
-    requires { at + len ≤ length out.old }
-    ensures { out.new ≡ upto (store_from at (λ j. f0)) len out.old }
-{
-    for j in 0..len {
-        out[at + j] = 0.0;
+    for (x, difference) in out.iter_mut().enumerate() {
+        *difference = to[x] - from[x];
     }
 }
 
 // The roots of a row's sums. Rules out: a root of another column's sum, and a sum left as it is.
-pub fn root_row(sums: &mut [f32], w: usize)
-    requires { w ≤ length sums.old }
-    ensures { Row w sums.new (λ x. root (val sums.old x)) }
+pub fn root_row(sums: &mut [f32])
+    ensures { Row (length sums.old) sums.new (λ x. root (val sums.old x)) }
 {
-    for x in 0..w {
-        sums[x] = wide::sqrt(sums[x]);
+    for sum in sums.iter_mut() {
+        *sum = wide::sqrt(*sum);
     }
 }
 
-// Whether any of w norms isn't 0; where none is, the row changes nothing. Rules out: a NaN taken for 0, and a last column that isn't looked at.
-pub fn any(norm: &[f32], w: usize) -> bool
-    requires { w ≤ length norm.now }
-    ensures { result ≡ false → Idle w norm.now }
+// Whether any of a row's norms isn't 0; where none is, the row changes nothing. Rules out: a NaN taken for 0, and a last column that isn't looked at.
+// Kept: this and `non_zero` of `dqt` are each one call of the library with a test of its own; a function that takes the test would be that call again.
+pub fn any(norm: &[f32]) -> bool
+    ensures { result ≡ false → Idle (length norm.now) norm.now }
 {
-    for x in 0..w {
-        if norm[x] != 0.0 {
-            return true;
-        }
-    }
-    false
+    norm.iter().any(|&m| m != 0.0)
 }
 
-// 1 for a norm that is 0.
-fn idle(m: f32) -> usize
-    ensures { result ≤ 1 }
-{
-    if m == 0.0 { 1 } else { 0 }
+// Whether more than 1 in 16 of a row's norms are 0: then the changes are quicker pixel by pixel than kind by kind. Nothing is said of the answer, since both ways change the same.
+pub fn sparse(norm: &[f32]) -> bool {
+    norm.len() / 16 < norm.iter().filter(|m| **m == 0.0).count()
 }
 
-// Whether more than 1 in 16 of w norms are 0: then the changes are quicker pixel by pixel than kind by kind. Nothing is said of the answer, since both ways change the same.
-pub fn sparse(norm: &[f32], w: usize) -> bool
-    requires { w ≤ length norm.now }
-{
-    let mut zeros = 0;
-    for x in 0..w {
-        zeros += idle(norm[x]);
-    }
-    w / 16 < zeros
-}
-
-// Kept: the seven below; as one function over an enum of neighbours, with quotients by a closure, blend takes 64.1 ms on random planes of 512 by 512, and 59.9 as it is.
+// Kept: the seven below. One function over an enum of neighbours was tried with the quotients by a closure: blend takes 7 per cent longer on random planes, by turns in one run, where this form stands at its bar of 1.2 times the Rust.
 // Own places. Rules out: a change where the norm is 0, and by the quotient of another pixel. So do the six below.
 pub fn own(gradient: &mut [f32], norm: &[f32], q: &[f32], g: Grid, alpha: f32, y: usize, c: usize)
     requires { (c < g.n) × (y < g.h) × (0 < g.w) × (g.w ≤ length norm.now) × (g.w ≤ length q.now) × Fills g (length gradient.old) }
@@ -114,7 +76,7 @@ pub fn own(gradient: &mut [f32], norm: &[f32], q: &[f32], g: Grid, alpha: f32, y
 {
     let w = g.w;
     let at = row_at(g, c, y);
-    put(gradient, norm, q, alpha, 0, at, w);
+    put(&mut gradient[at..at + w], &norm[..w], &q[..w], alpha);
 }
 
 // Right of them. Rules out also: the last column wrapped into the next row.
@@ -125,7 +87,12 @@ pub fn right(gradient: &mut [f32], norm: &[f32], q: &[f32], g: Grid, alpha: f32,
 {
     let w = g.w;
     let at = row_at(g, c, y);
-    put(gradient, norm, q, alpha, 0, at + 1, w - 1);
+    put(
+        &mut gradient[at + 1..at + w],
+        &norm[..w - 1],
+        &q[..w - 1],
+        alpha,
+    );
 }
 
 // Left. Rules out also: the first column wrapped into the row above.
@@ -136,7 +103,12 @@ pub fn left(gradient: &mut [f32], norm: &[f32], q: &[f32], g: Grid, alpha: f32, 
 {
     let w = g.w;
     let at = row_at(g, c, y);
-    put(gradient, norm, q, alpha, 1, at, w - 1);
+    put(
+        &mut gradient[at..at + (w - 1)],
+        &norm[1..w],
+        &q[1..w],
+        alpha,
+    );
 }
 
 // Below. Rules out also: the last row changing another channel.
@@ -151,7 +123,7 @@ pub fn below(gradient: &mut [f32], norm: &[f32], q: &[f32], g: Grid, alpha: f32,
         return;
     }
     let at = row_at(g, c, y + 1);
-    put(gradient, norm, q, alpha, 0, at, w);
+    put(&mut gradient[at..at + w], &norm[..w], &q[..w], alpha);
 }
 
 // Above. Rules out also: the first row changing another channel.
@@ -165,7 +137,7 @@ pub fn above(gradient: &mut [f32], norm: &[f32], q: &[f32], g: Grid, alpha: f32,
         return;
     }
     let at = row_at(g, c, y - 1);
-    put(gradient, norm, q, alpha, 0, at, w);
+    put(&mut gradient[at..at + w], &norm[..w], &q[..w], alpha);
 }
 
 // Above right. Rules out also: a change from the first row or from the last column.
@@ -187,7 +159,12 @@ pub fn above_right(
         return;
     }
     let at = row_at(g, c, y - 1);
-    put(gradient, norm, q, alpha, 0, at + 1, w - 1);
+    put(
+        &mut gradient[at + 1..at + w],
+        &norm[..w - 1],
+        &q[..w - 1],
+        alpha,
+    );
 }
 
 // Below left. Rules out also: a change from the last row or from the first column.
@@ -210,5 +187,10 @@ pub fn below_left(
         return;
     }
     let at = row_at(g, c, y + 1);
-    put(gradient, norm, q, alpha, 1, at, w - 1);
+    put(
+        &mut gradient[at..at + (w - 1)],
+        &norm[1..w],
+        &q[1..w],
+        alpha,
+    );
 }

@@ -3,9 +3,11 @@
 
 mod lists;
 
-ghost use Rattle.start.specs.Coef.{pairs};
+ghost use Rattle.record.specs.Lent.{levels_in, six_of, SameSix};
 ghost use Rattle.serve.specs.Serve.{ServeIs};
 
+pub use crate::lists::answer_byte;
+use record::lent::{Buffers, Given};
 use record::{Accepted, Run};
 use refusal::Refusal;
 
@@ -16,45 +18,22 @@ pub fn serve(
     jobs: &[u8],
     channels: &[u32],
     answers: &mut [u8],
-    lows: &[i16],
-    highs: &[i16],
-    tables: &[u16],
-    plane: &mut [f32],
-    prior: &mut [f32],
-    gradient: &mut [f32],
-    across: &mut [f32],
-    down: &mut [f32],
-    saved: &mut [f32],
+    given: Given,
+    lent: &mut Buffers,
 ) -> Result<Accepted, Refusal>
-    ensures { ServeIs run.old jobs.now channels.now answers.old (pairs lows.now highs.now) tables.now
-        (record { plane = plane.old; prior = prior.old; gradient = gradient.old; across = across.old; down = down.old; saved = saved.old })
-        result run.new answers.new
-        (record { plane = plane.new; prior = prior.new; gradient = gradient.new; across = across.new; down = down.new; saved = saved.new }) }
+    ensures is { ServeIs run.old jobs.now channels.now answers.old (levels_in given.entry) given.entry.tables.now
+        (six_of lent.old) result run.new answers.new (six_of lent.new) }
+    ensures same { SameSix lent.old lent.new }
 {
-    let lengths = [
-        plane.len(),
-        prior.len(),
-        gradient.len(),
-        across.len(),
-        down.len(),
-        saved.len(),
-    ];
     lists::serve_refusal(
         *run,
         jobs,
         channels.len(),
         answers.len(),
-        &lengths,
-        lows,
-        highs,
-        tables,
+        &lent.lengths(),
+        given,
     )?;
-    run::values::start(
-        run, lows, highs, tables, plane, prior, gradient, across, down, saved,
-    )?;
-    lists::make_calls(
-        run, jobs, channels, answers, lows, highs, tables, plane, prior, gradient, across, down,
-        saved,
-    );
+    run::values::start(run, given, lent)?;
+    lists::make_calls(run, jobs, channels, answers, given, lent);
     Ok(Accepted::Done)
 }

@@ -1,17 +1,19 @@
 // A list of calls by their numbers, made one after the other from any record; and what of its numbers is tested before it.
 ghost use Rattle.std.specs.Prelude.{◌≡◌, true, length};
 ghost use Rattle.refusal.specs.Refusal.{answer_number};
-ghost use Rattle.start.specs.Coef.{pairs};
 ghost use Rattle.calls.specs.Calls.{start_refusal};
+ghost use Rattle.record.specs.Lent.{levels_in, six_of, SameSix};
 ghost use Rattle.record.specs.Model.{answer_of, given_of, places_of};
 ghost use Rattle.serve.specs.Serve.{ListIs, all_jobs, byte_of, serve_refusal};
 
 use record::legal::legal;
+use record::lent::{Buffers, Given};
 use record::refusals::start_refusal;
 use record::{Accepted, Job, Run};
 use refusal::Refusal;
 
-// An answer as a byte: 0 done, 255 done and blown, else the refusal's number.
+// An answer as a byte: 0 done, 255 done and blown, else the refusal's number. Ruled out: 0 for a project that marks its channel; 255 for a refusal.
+// Kept: neither `Result` nor u8 is this crate's, so that no impl of `From` between them can stand here.
 pub fn answer_byte(answer: Result<Accepted, Refusal>) -> u8
     ensures { result ≡ byte_of (answer_of answer) }
 {
@@ -26,7 +28,7 @@ pub fn answer_byte(answer: Result<Accepted, Refusal>) -> u8
 pub fn all_jobs(jobs: &[u8]) -> bool
     ensures { result ≡ all_jobs jobs.now }
 {
-    jobs.iter().all(|&job| job < 5)
+    jobs.iter().all(|&n| Job::try_from(n).is_ok())
 }
 
 // What a list of calls on a fresh run refuses; `lengths` are those of the six buffers.
@@ -36,11 +38,9 @@ pub fn serve_refusal(
     channels: usize,
     answers: usize,
     lengths: &[usize],
-    lows: &[i16],
-    highs: &[i16],
-    tables: &[u16],
+    given: Given,
 ) -> Result<(), Refusal>
-    ensures { answer_number result ≡ serve_refusal (start_refusal (given_of run (pairs lows.now highs.now) tables.now) (places_of run) lengths.now) jobs.now channels answers }
+    ensures { answer_number result ≡ serve_refusal (start_refusal (given_of run (levels_in given.entry) given.entry.tables.now) (places_of run) lengths.now) jobs.now channels answers }
 {
     if !legal(run) {
         return Err(Refusal::Record);
@@ -49,7 +49,7 @@ pub fn serve_refusal(
     if !long {
         return Err(Refusal::Length);
     }
-    start_refusal(run, lengths, lows, highs, tables)?;
+    start_refusal(run, lengths, given)?;
     if !all_jobs(jobs) {
         return Err(Refusal::Turn);
     }
@@ -62,39 +62,16 @@ pub fn make_calls(
     jobs: &[u8],
     channels: &[u32],
     answers: &mut [u8],
-    lows: &[i16],
-    highs: &[i16],
-    tables: &[u16],
-    plane: &mut [f32],
-    prior: &mut [f32],
-    gradient: &mut [f32],
-    across: &mut [f32],
-    down: &mut [f32],
-    saved: &mut [f32],
+    given: Given,
+    lent: &mut Buffers,
 )
     requires { (length channels.now ≡ length jobs.now) × (length answers.old ≡ length jobs.now) × (all_jobs jobs.now ≡ true) }
-    ensures { ListIs run.old jobs.now channels.now (pairs lows.now highs.now) tables.now
-        (record { plane = plane.old; prior = prior.old; gradient = gradient.old; across = across.old; down = down.old; saved = saved.old })
-        answers.new run.new
-        (record { plane = plane.new; prior = prior.new; gradient = gradient.new; across = across.new; down = down.new; saved = saved.new }) }
+    ensures is { ListIs run.old jobs.now channels.now (levels_in given.entry) given.entry.tables.now
+        (six_of lent.old) answers.new run.new (six_of lent.new) }
+    ensures same { SameSix lent.old lent.new }
 {
-    // Kept: after a loop over `iter_mut` a proof knows no element, so the answers are written by index.
-    for i in 0..jobs.len() {
+    for (i, answer) in answers.iter_mut().enumerate() {
         let job = Job::try_from(jobs[i]).unwrap();
-        let answer = numbered::job_value(
-            run,
-            job,
-            channels[i],
-            lows,
-            highs,
-            tables,
-            plane,
-            prior,
-            gradient,
-            across,
-            down,
-            saved,
-        );
-        answers[i] = answer_byte(answer);
+        *answer = answer_byte(numbered::job_value(run, job, channels[i], given, lent));
     }
 }

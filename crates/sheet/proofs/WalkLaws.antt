@@ -1,17 +1,18 @@
 -- A walk over a text: what is left to read, read after what was read, gives the whole answer.
-use Rattle.std.proofs.Common.{Some, None, Ok, Err, Result}
+use Rattle.std.proofs.Common.{Some, None, Ok, Err, Result, MatchResult}
+use Rattle.std.specs.Result.{IsErrAnd}
 use Rattle.refusal.specs.declared.Refusal.{Refusal}
 use Rattle.refusal.specs.declared.Refusal.TheVariants as refusal
 use Rattle.refusal.specs.Refusal as table
 use Prim.Native.Nat.{ℕ, zero, suc, ◌+◌, ◌-◌, ◌^◌, ◌<◌, ◌≤◌}
-use mathlib.Core.Path.{◌≡◌, refl, sym, ap, ◌∙◌}
+use mathlib.Core.Path.{◌≡◌, refl, sym, ap, ◌∙◌, subst}
 use mathlib.Core.List.{List, [], ◌∷◌, ◌++◌, append-nil}
 use mathlib.Core.Bool.{Bool, true, false, not, cond, ◌&&◌, ◌||◌}
 use native.Mathlib.Numerals.{add-one}
 use native.Mathlib.Nat.{zero-add}
 use native.Mathlib.Omega.{arith}
 use lib.ListN.{length, get_or, drop, take, set, replicate, length-replicate, length-set, length-append, length-drop, drop_of_length-le}
-use lib.Seq.{drop-cons, drop-drop, sets, length-sets, get_or-set_same, get_or-set_other}
+use lib.Seq.{drop-cons, sets, get_or-set_same, get_or-set_other}
 use lib.Dec.{eqb}
 use lib.IntN.{ℤ}
 use borrow.Author.Tests.{eq-eqb, ne_eqb, lt-ltb, le-ltb, eqb-true, eqb-false}
@@ -23,7 +24,7 @@ use Rattle.text.specs.declared.pieces.Line.{Line}
 use Rattle.text.specs.Pieces.{split, before, onto}
 use Rattle.text.specs.Cursor.{AtField, IsLine}
 use Rattle.text.specs.Fields.{field_of, lows_in, highs_in, tables_in}
-use Rattle.text.proofs.PieceLaws.{at_start, at_here, at_next, at-end, before_le, before_take, split_cut, split_whole, split_first, split_some, split_length}
+use Rattle.text.proofs.PieceLaws.{at_start, at_here, at_next, at-end, before_le, before_take, rest_whole, split_cut, split_whole, split_first, split_some, split_length}
 use Rattle.contents.specs.declared.Limits.{Limits}
 use Rattle.contents.specs.declared.Header.{Header}
 use Rattle.contents.specs.declared.Channel.{Channel}
@@ -72,9 +73,6 @@ storing_more {l = l} {n = n} vs left s d =
 
 storing_end : {A : Type 0} {l₀ : List A} {n₀ : ℕ} {l : List A} {n : ℕ} {all : List A} → Storing l₀ n₀ l n [] all → Stored l₀ l n₀ n all
 storing_end s = record { next = omega (arith, s.place); last = s.value }
-
-storing_length : {A : Type 0} {l₀ : List A} {n₀ : ℕ} {l : List A} {n : ℕ} {left all : List A} → Storing l₀ n₀ l n left all → length l ≡ length l₀
-storing_length {l₀ = l₀} {n₀} {l} {n} {left} {all} s = sym (length-sets l n left) ∙ ap length s.value ∙ length-sets l₀ n₀ all
 
 stored_both : {A : Type 0} {l₀ l l' : List A} {n n' : ℕ} {us vs : List A} → Stored l₀ l 0 n us → Stored l l' n n' vs → Stored l₀ l' 0 n' (us ++ vs)
 stored_both {l₀ = l₀} {us = us} {vs} d e =
@@ -182,18 +180,20 @@ few_tables (Ok field.Good) = omega arith
 
 module _ {rs : List Rule} {row : List ℕ} {count : ℕ} {into : Lent} {from : Places} {after : Lent} {next : Places} {i a : ℕ} {last : Field}
     (s : Checking rs row count into from after next i a last) where
-  pub check_lows : length after.lows ≡ length into.lows
-  check_lows = storing_length s.lows
-
-  pub check_highs : length after.highs ≡ length into.highs
-  check_highs = storing_length s.highs
-
-  pub check_tables : length after.tables ≡ length into.tables
-  check_tables = storing_length s.tables
-
   module _ (h : i < count) where
     pub check_at : a ≤ length row
     check_at = (s.field h).inside
+
+    -- the field as a slice
+    module _ {x : List ℕ} (p : x ≡ before 9 (take (length row - a) (drop a row))) where
+      whole : x ≡ before 9 (drop a row)
+      whole = p ∙ ap (before 9) (rest_whole a row)
+
+      pub field_end : a + length x ≡ a + length (before 9 (drop a row))
+      field_end = ap (λ (l : List ℕ). a + length l) whole
+
+      pub field_read : (r : Rule) {f : Result Field Refusal} → f ≡ field_of r x → f ≡ field_of r (take ((a + length x) - a) (drop a row))
+      field_read r d = let w : (a + length x) - a ≡ length (before 9 (drop a row)) = omega (arith, field_end) in rw w (d ∙ ap (field_of r) (whole ∙ sym (before_take 9 (drop a row))))
 
     module _ {e : ℕ} (p : e ≡ a + length (before 9 (drop a row))) where
       pub check_in : e ≤ length row
@@ -437,26 +437,24 @@ marked_exists s t tag fs u e q = taken_exists s t (mark_of fs) u (rw q at e)
 
 -- The text up to a line
 
-pub record Reading (limits : Limits) (text : List ℕ) (into after : Lent) (bits₀ bits : List ℕ) (s : State) (at k : ℕ) (next : Places) : Type 0 where
+pub record Reading (limits : Limits) (text : List ℕ) (into after : Lent) (bits₀ bits : List ℕ) (s : State) (rest : List ℕ) (k : ℕ) (next : Places) : Type 0 where
   so_far : Held
-  pub inside : at ≤ length text
-  pub lines : k ≤ at + 1
-  pub low_room : next.lows ≤ at
-  pub high_room : next.highs ≤ at
-  pub space : next.tables ≤ at
+  pub lines : k + length rest ≤ length text + 1
+  pub low_room : next.lows + length rest ≤ length text
+  pub high_room : next.highs + length rest ≤ length text
+  pub space : next.tables + length rest ≤ length text
   lows : Stored into.lows after.lows 0 next.lows so_far.lent.lows
   highs : Stored into.highs after.highs 0 next.highs so_far.lent.highs
   tables : Stored into.tables after.tables 0 next.tables so_far.lent.tables
   mapped : Bits so_far.marks bits
   pub kept : length bits ≡ length bits₀
-  rest : read_from limits s so_far k (split 10 (drop at text)) ≡ read_text limits text
+  whole : read_from limits s so_far k (split 10 rest) ≡ read_text limits text
 
-pub read_begin : (limits : Limits) (text : List ℕ) (into : Lent) (bits : List ℕ) (s : State) → allowed limits ≡ true → s ≡ blank → bits ≡ replicate most_blocks 0 → Reading limits text into into bits bits s 0 1 (places 0 0 0)
+pub read_begin : (limits : Limits) (text : List ℕ) (into : Lent) (bits : List ℕ) (s : State) → allowed limits ≡ true → s ≡ blank → bits ≡ replicate most_blocks 0 → Reading limits text into into bits bits s text 1 (places 0 0 0)
 unfolding read_text
 read_begin limits text into bits s h e q =
     record {
       so_far = nothing;
-      inside = omega arith;
       lines = omega arith;
       low_room = omega arith;
       high_room = omega arith;
@@ -466,8 +464,14 @@ read_begin limits text into bits s h e q =
       tables = record { next = refl; last = refl };
       mapped = rw q no_bits;
       kept = refl;
-      rest = rw (e, h);
+      whole = rw (e, h);
     }
+
+-- what `map_err` made a refusal of
+pub was_err : {X : Type 0} (r : Result X Refusal) (q : Result X walk.Refused) (F : Refusal → walk.Refused → Type 0) (e : walk.Refused)
+    → MatchResult r (λ x. q ≡ Ok x) (λ k. IsErrAnd q (F k)) → q ≡ Err e → (k : Refusal) × (r ≡ Err k) × F k e
+was_err (Ok x) q F e m n = absurd cc
+was_err (Err k) q F e m n = (k, refl, subst (λ q. IsErrAnd q (F k)) n m)
 
 -- the answer of a refusal at a line
 abbrev pub at_line : Refusal → ℕ → Result Walked walk.Refused
@@ -480,150 +484,130 @@ pub walk_limit : (limits : Limits) (text : List ℕ) (into : Lent) (bits : List 
 unfolding read_text
 walk_limit limits text into bits h = refused limits text into into bits refusal.Size 0 (rw h)
 
--- an ended line of at most 1,024 bytes from at to e, where a tag is due
-pub record OnLine (text : List ℕ) (s : State) (at e tag count : ℕ) : Type 0 where
-  pub ordered : at ≤ e
-  pub ended : e + 1 ≤ length text
-  short : length (take (e - at) (drop at text)) ≤ 1024
-  pub size : length (take (e - at) (drop at text)) ≡ e - at
-  first : before 10 (drop at text) ≡ take (e - at) (drop at text)
-  cut : split 10 (drop at text) ≡ take (e - at) (drop at text) ∷ split 10 (drop (e + 1) text)
-  due : tag ≡ line_tag s (split 9 (take (e - at) (drop at text)))
+-- an ended line of at most 1,024 bytes, the first n of what is left, where a tag is due
+pub record OnLine (rest : List ℕ) (s : State) (n tag count : ℕ) : Type 0 where
+  pub ended : n + 1 ≤ length rest
+  short : length (take n rest) ≤ 1024
+  pub size : length (take n rest) ≡ n
+  first : before 10 rest ≡ take n rest
+  cut : split 10 rest ≡ take n rest ∷ split 10 (drop (n + 1) rest)
+  due : tag ≡ line_tag s (split 9 (take n rest))
   counted : count ≡ field_count tag
 
-module _ {limits : Limits} {text : List ℕ} {into after : Lent} {bits₀ bits : List ℕ} {s : State} {at k : ℕ} {next : Places} (r : Reading limits text into after bits₀ bits s at k next) where
-  pub same_lows : length after.lows ≡ length into.lows
-  same_lows = ap length r.lows.last ∙ length-sets into.lows 0 r.so_far.lent.lows
-
-  pub same_highs : length after.highs ≡ length into.highs
-  same_highs = ap length r.highs.last ∙ length-sets into.highs 0 r.so_far.lent.highs
-
-  pub same-tables : length after.tables ≡ length into.tables
-  same-tables = ap length r.tables.last ∙ length-sets into.tables 0 r.so_far.lent.tables
-
+module _ {limits : Limits} {text : List ℕ} {into after : Lent} {bits₀ bits : List ℕ} {s : State} {rest : List ℕ} {k : ℕ} {next : Places} (r : Reading limits text into after bits₀ bits s rest k next) where
   pub bits_long : length bits ≡ most_blocks
   bits_long = r.mapped.long
 
-  pub kept_marked : (d : Record) {t : Bool} {bits' : List ℕ} → (t ≡ twice_in s.sheet d bits) × (bits' ≡ marked_in s.sheet d bits) → length bits' ≡ length bits₀
-  kept_marked d m = ap length m.1 ∙ marked_length s.sheet d bits ∙ r.kept
+  module _ {g : Line} (q : IsLine rest g) where
+    end_inside : g.length ≤ length rest
+    end_inside = omega (arith, q.long, before_le 10 rest)
 
-  module _ {g : Line} (q : IsLine text at g) where
-    pub end_inside : g.end ≤ length text
-    end_inside = omega (arith, q.end, before_le 10 (drop at text), length-drop at text, r.inside)
+    row_is : before 10 rest ≡ take g.length rest
+    row_is = sym (rw q.long (before_take 10 rest))
 
-    row_is : before 10 (drop at text) ≡ take (g.end - at) (drop at text)
-    row_is =
-        let b = length (before 10 (drop at text)) in
-        let w : (at + b) - at ≡ b = omega arith in
-        sym (rw (q.end, w) (before_take 10 (drop at text)))
+    pub row_size : length (take g.length rest) ≡ g.length
+    row_size = ap length (sym row_is) ∙ sym q.long
 
-    pub walk_long : 1024 < g.end - at → Walks limits text into after bits (at_line refusal.Form k)
+    pub walk_long : 1024 < g.length → Walks limits text into after bits (at_line refusal.Form k)
     walk_long h =
         refused limits text into after bits refusal.Form k
-        (line_long limits s r.so_far k (before 10 (drop at text)) (drop 1 (split 10 (drop at text))) (read_text limits text)
-        (rw (split_head 10 (drop at text)) at r.rest) (omega (arith, q.end)))
+        (line_long limits s r.so_far k (before 10 rest) (drop 1 (split 10 rest)) (read_text limits text)
+        (rw (split_head 10 rest) at r.whole) (omega (arith, q.long)))
 
-    pub walk_cut : g.end - at ≤ 1024 → g.end ≡ length text → Walks limits text into after bits (at_line refusal.Cut k)
+    pub walk_cut : g.length ≤ 1024 → g.length ≡ length rest → Walks limits text into after bits (at_line refusal.Cut k)
     walk_cut h z =
         refused limits text into after bits refusal.Cut k
-        (line_last limits s r.so_far k (drop at text) [] (read_text limits text)
-        (rw (split_whole 10 (drop at text) (omega (arith, q.end, length-drop at text))) at r.rest) (omega (arith, length-drop at text)) refl)
+        (line_last limits s r.so_far k rest [] (read_text limits text)
+        (rw (split_whole 10 rest (omega (arith, q.long))) at r.whole) (omega arith) refl)
 
-    pub on-line : g.end - at ≤ 1024 → (g.end ≡ length text → ⊥) → {tag count : ℕ} → tag ≡ line_tag s (split 9 (take (g.end - at) (drop at text))) → count ≡ field_count tag → OnLine text s at g.end tag count
+    pub on-line : g.length ≤ 1024 → (g.length ≡ length rest → ⊥) → {tag count : ℕ} → tag ≡ line_tag s (split 9 (take g.length rest)) → count ≡ field_count tag → OnLine rest s g.length tag count
     on-line h z d c =
-        let b = length (before 10 (drop at text)) in
-        let w : at + (b + 1) ≡ g.end + 1 = omega (arith, q.end) in
-        let size : length (take (g.end - at) (drop at text)) ≡ g.end - at = ap length (sym row_is) ∙ omega (arith, q.end) in
         record {
-          ordered = omega (arith, q.end);
           ended = omega (arith, end_inside);
-          short = omega arith;
-          size = size;
+          short = omega (arith, row_size);
+          size = row_size;
           first = row_is;
-          cut =
-              split_cut 10 (drop at text) (omega (arith, end_inside, q.end, length-drop at text))
-              ∙ rw (drop-drop (b + 1) at text, w, row_is);
+          cut = split_cut 10 rest (omega (arith, end_inside, q.long)) ∙ rw (← q.long, row_is);
           due = d;
           counted = c;
         }
 
-  module _ {e tag count : ℕ} (o : OnLine text s at e tag count) where
-    this_line : read_from limits s r.so_far k (take (e - at) (drop at text) ∷ split 10 (drop (e + 1) text)) ≡ read_text limits text
-    this_line = rw o.cut at r.rest
+  module _ {n tag count : ℕ} (o : OnLine rest s n tag count) where
+    this_line : read_from limits s r.so_far k (take n rest ∷ split 10 (drop (n + 1) rest)) ≡ read_text limits text
+    this_line = rw o.cut at r.whole
 
-    pub walk_count : {g : Line} → IsLine text at g → (g.fields ≡ count → ⊥) → Walks limits text into after bits (at_line refusal.Form k)
+    pub walk_count : {g : Line} → IsLine rest g → (g.fields ≡ count → ⊥) → Walks limits text into after bits (at_line refusal.Form k)
     walk_count q z =
         refused limits text into after bits refusal.Form k
-        (line_count limits s r.so_far k (take (e - at) (drop at text)) (split 10 (drop (e + 1) text)) (read_text limits text) this_line
-        tag o.due o.short (not_last 10 (drop (e + 1) text)) (λ c. z (q.fields ∙ ap (λ (x : List ℕ). length (split 9 x)) o.first ∙ c ∙ sym o.counted)))
+        (line_count limits s r.so_far k (take n rest) (split 10 (drop (n + 1) rest)) (read_text limits text) this_line
+        tag o.due o.short (not_last 10 (drop (n + 1) rest)) (λ c. z (q.fields ∙ ap (λ (x : List ℕ). length (split 9 x)) o.first ∙ c ∙ sym o.counted)))
 
-    pub row_count : {g : Line} → IsLine text at g → g.fields ≡ count → length (split 9 (take (e - at) (drop at text))) ≡ count
+    pub row_count : {g : Line} → IsLine rest g → g.fields ≡ count → length (split 9 (take n rest)) ≡ count
     row_count q z = ap (λ (x : List ℕ). length (split 9 x)) (sym o.first) ∙ sym q.fields ∙ z
 
-    pub rules_count : length (rules_of tag limits s.sheet.header (split 9 (take (e - at) (drop at text)))) ≡ count
-    rules_count = rules_length tag limits s.sheet.header (split 9 (take (e - at) (drop at text))) ∙ sym o.counted
+    pub rules_count : length (rules_of tag limits s.sheet.header (split 9 (take n rest))) ≡ count
+    rules_count = rules_length tag limits s.sheet.header (split 9 (take n rest)) ∙ sym o.counted
 
-    module _ (y : length (split 9 (take (e - at) (drop at text))) ≡ count) where
+    module _ (y : length (split 9 (take n rest)) ≡ count) where
       -- the next place of each buffer is a number of 64 bits
       pub low_place : length text < 2 ^ 64 → {i n' : ℕ} → i < count → n' ≤ next.lows + i → n' + 1 < 2 ^ 64
-      low_place z h q = omega (arith, r.low_room, split_length 9 (take (e - at) (drop at text)), o.size, o.ordered, o.ended)
+      low_place z h q = omega (arith, r.low_room, split_length 9 (take n rest), o.size, o.ended)
 
       pub high_place : length text < 2 ^ 64 → {i n' : ℕ} → i < count → n' ≤ next.highs + i → n' + 1 < 2 ^ 64
-      high_place z h q = omega (arith, r.high_room, split_length 9 (take (e - at) (drop at text)), o.size, o.ordered, o.ended)
+      high_place z h q = omega (arith, r.high_room, split_length 9 (take n rest), o.size, o.ended)
 
       pub table_room : length text < 2 ^ 64 → {i m' : ℕ} → i < count → m' ≤ next.tables + i → m' + 1 < 2 ^ 64
-      table_room z h q = omega (arith, r.space, split_length 9 (take (e - at) (drop at text)), o.size, o.ordered, o.ended)
+      table_room z h q = omega (arith, r.space, split_length 9 (take n rest), o.size, o.ended)
 
-      pub walk_fault : {v : Refusal} {stored : Lent} → first_fault (rules_of tag limits s.sheet.header (split 9 (take (e - at) (drop at text)))) (split 9 (take (e - at) (drop at text))) ≡ Some (table.number_of v)
+      pub walk_fault : {v : Refusal} {stored : Lent} → first_fault (rules_of tag limits s.sheet.header (split 9 (take n rest))) (split 9 (take n rest)) ≡ Some (table.number_of v)
           → Walks limits text into stored bits (at_line v k)
       walk_fault {v} {stored} f =
           refused limits text into stored bits v k
-          (line-fault limits s r.so_far k (take (e - at) (drop at text)) (split 10 (drop (e + 1) text)) (read_text limits text) this_line
-          tag o.due o.short (not_last 10 (drop (e + 1) text)) (y ∙ o.counted) (table.number_of v) f)
+          (line-fault limits s r.so_far k (take n rest) (split 10 (drop (n + 1) rest)) (read_text limits text) this_line
+          tag o.due o.short (not_last 10 (drop (n + 1) rest)) (y ∙ o.counted) (table.number_of v) f)
 
       module _ {stored : Lent} {filled : Places} {i a : ℕ} {last : Field}
-          (c : Checking (rules_of tag limits s.sheet.header (split 9 (take (e - at) (drop at text)))) (take (e - at) (drop at text)) count after next stored filled i a last) (h : count ≤ i) where
-        pub walk_end : tag ≡ 69 → e + 1 ≡ length text → Walks limits text into stored bits (Ok (record { sheet = s.sheet; lows = filled.lows; highs = filled.highs; tables = filled.tables }))
+          (c : Checking (rules_of tag limits s.sheet.header (split 9 (take n rest))) (take n rest) count after next stored filled i a last) (h : count ≤ i) where
+        pub walk_end : tag ≡ 69 → n + 1 ≡ length rest → Walks limits text into stored bits (Ok (record { sheet = s.sheet; lows = filled.lows; highs = filled.highs; tables = filled.tables }))
         walk_end x z =
             let w : read_text limits text ≡ contents s.sheet r.so_far =
-            line_end limits s r.so_far k (take (e - at) (drop at text)) (split 10 (drop (e + 1) text)) (read_text limits text) this_line
-            tag o.due o.short (not_last 10 (drop (e + 1) text)) (y ∙ o.counted) (check_good c rules_count h) x
-            (nothing_after 10 (drop (e + 1) text) (omega (arith, length-drop (e + 1) text))) in
-            let u = stored_end r.lows (rw (end_lows tag limits s.sheet.header (split 9 (take (e - at) (drop at text))) x) at (check_low c rules_count h)) in
-            let q = stored_end r.highs (rw (end_highs tag limits s.sheet.header (split 9 (take (e - at) (drop at text))) x) at (check_high c rules_count h)) in
-            let v = stored_end r.tables (rw (end_tables tag limits s.sheet.header (split 9 (take (e - at) (drop at text))) x) at (check_listed c rules_count h)) in
+            line_end limits s r.so_far k (take n rest) (split 10 (drop (n + 1) rest)) (read_text limits text) this_line
+            tag o.due o.short (not_last 10 (drop (n + 1) rest)) (y ∙ o.counted) (check_good c rules_count h) x
+            (nothing_after 10 (drop (n + 1) rest) (omega (arith, length-drop (n + 1) rest))) in
+            let u = stored_end r.lows (rw (end_lows tag limits s.sheet.header (split 9 (take n rest)) x) at (check_low c rules_count h)) in
+            let q = stored_end r.highs (rw (end_highs tag limits s.sheet.header (split 9 (take n rest)) x) at (check_high c rules_count h)) in
+            let v = stored_end r.tables (rw (end_tables tag limits s.sheet.header (split 9 (take n rest)) x) at (check_listed c rules_count h)) in
             record { answer = rw (w, ← zero-add (length r.so_far.lent.lows), ← u.next, ← zero-add (length r.so_far.lent.highs), ← q.next, ← zero-add (length r.so_far.lent.tables), ← v.next); stored = rw w (u.last, q.last, v.last); mapped = rw w r.mapped }
 
-        pub walk_after : tag ≡ 69 → (e + 1 ≡ length text → ⊥) → Walks limits text into stored bits (at_line refusal.Cut (k + 1))
+        pub walk_after : tag ≡ 69 → (n + 1 ≡ length rest → ⊥) → Walks limits text into stored bits (at_line refusal.Cut (k + 1))
         walk_after x z =
             refused limits text into stored bits refusal.Cut (k + 1)
-            (line_after limits s r.so_far k (take (e - at) (drop at text)) (split 10 (drop (e + 1) text)) (read_text limits text) this_line
-            tag o.due o.short (not_last 10 (drop (e + 1) text)) (y ∙ o.counted) (check_good c rules_count h) x
-            (some_after 10 (drop (e + 1) text) (omega (arith, length-drop (e + 1) text, o.ended))))
+            (line_after limits s r.so_far k (take n rest) (split 10 (drop (n + 1) rest)) (read_text limits text) this_line
+            tag o.due o.short (not_last 10 (drop (n + 1) rest)) (y ∙ o.counted) (check_good c rules_count h) x
+            (some_after 10 (drop (n + 1) rest) (omega (arith, length-drop (n + 1) rest, o.ended))))
 
-        module _ (x : tag ≡ 69 → ⊥) {d : Record} {t : Bool} {bits' : List ℕ} {w : Result State Refusal} (u : d ≡ record_of tag (split 9 (take (e - at) (drop at text))))
+        module _ (x : tag ≡ 69 → ⊥) {d : Record} {t : Bool} {bits' : List ℕ} {w : Result State Refusal} (u : d ≡ record_of tag (split 9 (take n rest)))
             (m : (t ≡ twice_in s.sheet d bits) × (bits' ≡ marked_in s.sheet d bits)) (v : w ≡ taken_if s t d) where
-          taken_is : taken_of s r.so_far.marks (record_of tag (split 9 (take (e - at) (drop at text)))) ≡ w
+          taken_is : taken_of s r.so_far.marks (record_of tag (split 9 (take n rest))) ≡ w
           taken_is =
               ap (taken_of s r.so_far.marks) (sym u) ∙ sym (taken_alike r.so_far.marks bits r.mapped s d) ∙ ap (λ (b : Bool). taken_if s b d) (sym m.0) ∙ sym v
 
           pub walk_bad : {p : Refusal} → w ≡ Err p → Walks limits text into stored bits' (at_line p k)
           walk_bad {p} z =
               refused limits text into stored bits' p k
-              (line_bad limits s r.so_far k (take (e - at) (drop at text)) (split 10 (drop (e + 1) text)) (read_text limits text) this_line
-              tag o.due o.short (not_last 10 (drop (e + 1) text)) (y ∙ o.counted) (check_good c rules_count h) x p
+              (line_bad limits s r.so_far k (take n rest) (split 10 (drop (n + 1) rest)) (read_text limits text) this_line
+              tag o.due o.short (not_last 10 (drop (n + 1) rest)) (y ∙ o.counted) (check_good c rules_count h) x p
               (taken_is ∙ z))
 
-          pub walk_next : {s' : State} → w ≡ Ok s' → Reading limits text into stored bits₀ bits' s' (e + 1) (k + 1) filled
+          pub walk_next : {s' : State} → w ≡ Ok s' → Reading limits text into stored bits₀ bits' s' (drop (n + 1) rest) (k + 1) filled
           walk_next {s'} z =
-              let row = take (e - at) (drop at text) in
+              let row = take n rest in
               record {
                 so_far = holding r.so_far s.sheet tag (rules_of tag limits s.sheet.header (split 9 row)) (split 9 row);
-                inside = o.ended;
-                lines = omega (arith, r.lines, o.ordered);
-                low_room = omega (arith, c.low_most, c.upto, r.low_room, split_length 9 row, o.size, o.ordered);
-                high_room = omega (arith, c.high_most, c.upto, r.high_room, split_length 9 row, o.size, o.ordered);
-                space = omega (arith, c.listed_most, c.upto, r.space, split_length 9 row, o.size, o.ordered);
+                lines = omega (arith, r.lines, o.ended, length-drop (n + 1) rest);
+                low_room = omega (arith, c.low_most, c.upto, r.low_room, split_length 9 row, o.size, o.ended, length-drop (n + 1) rest);
+                high_room = omega (arith, c.high_most, c.upto, r.high_room, split_length 9 row, o.size, o.ended, length-drop (n + 1) rest);
+                space = omega (arith, c.listed_most, c.upto, r.space, split_length 9 row, o.size, o.ended, length-drop (n + 1) rest);
                 lows = stored_both r.lows (check_low c rules_count h);
                 highs = stored_both r.highs (check_high c rules_count h);
                 tables = stored_both r.tables (check_listed c rules_count h);
@@ -632,8 +616,8 @@ module _ {limits : Limits} {text : List ℕ} {into after : Lent} {bits₀ bits :
                     (next_bits r.so_far.marks bits r.mapped s.sheet tag (split 9 row)
                     (marked_exists s t tag (split 9 row) s' (ap (taken_if s t) (sym u) ∙ sym v ∙ z)));
                 kept = ap length m.1 ∙ marked_length s.sheet d bits ∙ r.kept;
-                rest =
-                    line_next limits s r.so_far k row (split 10 (drop (e + 1) text)) (read_text limits text) this_line
-                    tag o.due o.short (not_last 10 (drop (e + 1) text)) (y ∙ o.counted) (check_good c rules_count h) x s'
+                whole =
+                    line_next limits s r.so_far k row (split 10 (drop (n + 1) rest)) (read_text limits text) this_line
+                    tag o.due o.short (not_last 10 (drop (n + 1) rest)) (y ∙ o.counted) (check_good c rules_count h) x s'
                     (taken_is ∙ z);
               }

@@ -1,5 +1,5 @@
 // Reading line by line and field by field.
-ghost use Rattle.std.specs.Prelude.{◌≡◌, eqb, replicate};
+ghost use Rattle.std.specs.Prelude.{◌≡◌, eqb, length};
 ghost use Rattle.contents.specs.Sheets.{lent};
 ghost use Rattle.lines.specs.Lines.{letter_of};
 ghost use Rattle.progress.specs.Progress.{most_blocks};
@@ -64,7 +64,7 @@ pub fn walk(
     tables: &mut [u16],
     bits: &mut [u8],
 ) -> Result<Walked, Refused>
-    requires { bits.old ≡ replicate most_blocks 0 }
+    requires { length bits.old ≡ most_blocks }
     ensures { Walks limits text.now (lent lows.old highs.old tables.old) (lent lows.new highs.new tables.new) bits.new result }
 {
     if !are_allowed(limits) {
@@ -73,30 +73,30 @@ pub fn walk(
             line: 0,
         });
     }
+    bits.fill(0);
     let mut state = progress::nothing();
-    let mut at: usize = 0;
+    let mut rest = text;
     let mut line: usize = 1;
     let mut low: usize = 0;
     let mut high: usize = 0;
     let mut listed: usize = 0;
-    // Kept: a loop of places, since where a line ends is known only once it is scanned, and each line is read by what the lines before it said.
+    // Kept: a loop over what is left of the text, since each turn ends with a refusal, the sheet, or one more line; a `for` over lines would need an answer behind it that never comes.
     'lines: loop {
         // the line's length, then its end, then tag and field count
-        let l = pieces::line_at(text, at);
-        let end = l.end;
-        if 1024 < end - at {
+        let l = pieces::first_line(rest);
+        if 1024 < l.length {
             return Err(Refused {
                 refusal: Refusal::Form,
                 line,
             });
         }
-        if end == text.len() {
+        if l.length == rest.len() {
             return Err(Refused {
                 refusal: Refusal::Cut,
                 line,
             });
         }
-        let row = &text[at..end];
+        let row = &rest[..l.length];
         let tag = progress::expected(state, row);
         let count = lines::field_count(tag);
         if l.fields != count {
@@ -111,21 +111,18 @@ pub fn walk(
         let mut a: usize = 0;
         let mut last = Field::Good;
         for i in 0..count {
-            let e = pieces::field_end(row, a);
+            let f = pieces::first_field(&row[a..]);
             let rule = lines::rule_at(tag, i, limits, header, last, row);
-            let f = match field::read_field(rule, &row[a..e]) {
-                Ok(f) => f,
-                Err(refusal) => return Err(Refused { refusal, line }),
-            };
-            low = storing::put_low(f, lows, low);
-            high = storing::put_high(f, highs, high);
-            listed = storing::put_quantiser(f, tables, listed);
-            last = f;
-            a = e + 1;
+            last = field::read_field(rule, f).map_err(|refusal| Refused { refusal, line })?;
+            let (lowest, highest) = last.levels();
+            low = storing::put(lowest, lows, low);
+            high = storing::put(highest, highs, high);
+            listed = storing::put(last.quantiser(), tables, listed);
+            a = a + f.len() + 1;
         }
         // nothing after E; cover after a channel's fields, a mark's block after its line's form
         if is_end(tag) {
-            if end + 1 == text.len() {
+            if l.length + 1 == rest.len() {
                 return Ok(Walked {
                     sheet,
                     lows: low,
@@ -140,12 +137,11 @@ pub fn walk(
             });
         }
         let rec = lines::record_of(tag, row);
-        let twice = progress::mark_block(sheet, rec, bits);
-        state = match progress::take_record(state, twice, rec) {
-            Ok(next) => next,
-            Err(refusal) => return Err(Refused { refusal, line }),
-        };
-        at = end + 1;
+        state = progress::take_record(state, rec, bits).map_err(|refusal| Refused {
+            refusal,
+            line,
+        })?;
+        rest = &rest[l.length + 1..];
         line += 1;
     }
 }

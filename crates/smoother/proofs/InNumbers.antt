@@ -156,3 +156,12 @@ module _ (x : LentRun) (js cs bytes : List ℕ) (levels : Levels) (tables : List
         if_refused = λ g. let y = served.if_refused (λ z. g (s ∙ z)) in (e ∙ ap byte_of y.0 ∙ sym s, w ∙ ap lent_from y.1 ∙ lent_back x l, y.2, y.3);
         if_done = λ z. let y = served.if_done (sym s ∙ z) in (e ∙ ap byte_of y.0, (r', w, y.1));
       }
+
+-- with each of the six buffers as its owner has it
+pub serve_lent : {x : LentRun} {js cs bytes : List ℕ} {levels : Levels} {tables : List ℕ} {B : Buffers} {k : ℕ} {x' : LentRun} {bytes' : List ℕ} {B' : Buffers}
+    → ServeNumbers x js cs bytes levels tables B k x' bytes' B' → {plane prior gradient across down saved : List Float}
+    → plane ≡ B'.plane → prior ≡ B'.prior → gradient ≡ B'.gradient → across ≡ B'.across → down ≡ B'.down → saved ≡ B'.saved
+    → ServeNumbers x js cs bytes levels tables B k x' bytes' (record { plane = plane; prior = prior; gradient = gradient; across = across; down = down; saved = saved })
+serve_lent {x} {js} {cs} {bytes} {levels} {tables} {B} {k} {x'} {bytes'} h p q r s t u =
+    subst (λ (z : Buffers). ServeNumbers x js cs bytes levels tables B k x' bytes' z)
+    (λ i. record { plane = sym p i; prior = sym q i; gradient = sym r i; across = sym s i; down = sym t i; saved = sym u i }) h

@@ -9,11 +9,12 @@ pub mod stitches;
 pub mod tapes;
 
 ghost use Rattle.std.specs.Prelude.{◌≡◌, length};
+ghost use Rattle.contents.specs.Letters.{reader_from};
 ghost use Rattle.contents.specs.Sheets.{lent};
 ghost use Rattle.sheet.specs.Calls.{measuring, reading};
-ghost use Rattle.by_numbers.specs.Sheets.{Measures, ReadsNumbers, with_record, reader_from, by_reader};
+ghost use Rattle.by_numbers.specs.Sheets.{Measures, ReadsNumbers, with_record, by_reader};
 
-use contents::Limits;
+use contents::{Limits, Reader};
 use record::{Channel, Run};
 use refusal::Refusal;
 use start::coef::Reorder;
@@ -110,7 +111,9 @@ pub extern "C" fn smoother_measure(
 
 // Reads a text into the lent buffers: lows, highs, tables and the record's numbers. Partner is 0 for the staff and 1 for a partner, to whom all levels of a marked
 // block but the first are 0; another number is 2 at line 0, before the text is looked at. A refusal leaves all four as they are.
-// Ruled out: levels of a text whose last line is bad; highs in the lows; 8 for a text that is itself refused; a level of a marked block, but the first, for a partner.
+// Ruled out: levels of a text whose last line is bad; highs in the lows; 8 for a text that is itself refused; a level of a marked block, but the first, for a partner;
+// a partner's number read as staff; 1 at line 1 for a bad text where the reader's number is 2.
+// Kept: the reader is a number, as C has it.
 #[unsafe(no_mangle)]
 pub extern "C" fn smoother_read(
     text: &[u8],
@@ -126,8 +129,13 @@ pub extern "C" fn smoother_read(
     ensures { ReadsNumbers (reader_from partner) (by_reader partner (with_record (length header.old) (reading (record { side = side; iterations = iterations }) text.now (lent lows.old highs.old tables.old))))
         (lent lows.old highs.old tables.old) (lent lows.new highs.new tables.new) header.old header.new line.new result }
 {
+    if 1 < partner {
+        *line = 0;
+        return u32::from(Refusal::Size);
+    }
     let limits = Limits { side, iterations };
-    match by_numbers::reading::read(text, limits, partner, lows, highs, tables, header) {
+    let who = Reader::from(partner);
+    match by_numbers::reading::read(text, limits, who, lows, highs, tables, header) {
         Ok(()) => {
             *line = 0;
             0

@@ -3,28 +3,18 @@
 ghost use Rattle.std.specs.Prelude.{◌≡◌, length};
 ghost use Rattle.start.specs.Coef.{pairs};
 ghost use Rattle.record.specs.Model.{answer_of};
-ghost use Rattle.serve.specs.Serve.{byte_of};
 ghost use Rattle.smoother.specs.Numbers.{pair_in, room_refusal, NeverBlowsNumbers, StartNumbers, PushNumbers, DataNumbers, BlendNumbers, MoveNumbers, ProjectNumbers, ServeNumbers};
 ghost use Rattle.refusal.specs.Refusal.{number_of};
 
 use crate::LentRun;
 use record::legal::legal;
+use record::lent::{Buffers, Given};
 use record::{Accepted, Run};
 use refusal::Refusal;
-
-// An answer's number. Ruled out: 0 for a project that marks its channel; 255 for a refusal.
-pub fn answer_number(a: Result<Accepted, Refusal>) -> u32
-    ensures { result ≡ byte_of (answer_of a) }
-{
-    match a {
-        Ok(Accepted::Blown) => 255,
-        Ok(Accepted::Done) => 0,
-        Ok(Accepted::Blended { tv: _, tgv: _ }) => 0,
-        Err(e) => u32::from(e),
-    }
-}
+use serve::answer_byte;
 
 // Start. Ruled out: a record at positions that are not 0, or marked, afterwards; a prior that is not the plane; the start of m for a letter's number 2 (13).
+// Kept: the nine slices stand one by one, here, in `smoother_serve` and in `smoother_solve`: a C function takes no struct of slices.
 #[unsafe(no_mangle)]
 pub extern "C" fn smoother_start(
     run: &mut LentRun,
@@ -46,11 +36,22 @@ pub extern "C" fn smoother_start(
     let Ok(mut r) = Run::try_from(*run) else {
         return u32::from(Refusal::Record);
     };
-    let answer = run::values::start(
-        &mut r, lows, highs, tables, plane, prior, gradient, across, down, saved,
-    );
+    let given = Given {
+        lows,
+        highs,
+        tables,
+    };
+    let mut lent = Buffers {
+        plane,
+        prior,
+        gradient,
+        across,
+        down,
+        saved,
+    };
+    let answer = run::values::start(&mut r, given, &mut lent);
     *run = LentRun::from(r);
-    answer_number(answer)
+    u32::from(answer_byte(answer))
 }
 
 // 1 where no call on the record's run ever answers 255 or 10. Ruled out: 1 for 21 iterations or a third data weight of 2; 0 for 20 iterations and weights of
@@ -66,6 +67,8 @@ pub extern "C" fn smoother_never_blows(run: &mut LentRun) -> u32
 }
 
 // Push. Ruled out: the record's position counted up where the answer is a refusal; the plane of another channel written.
+// Kept: each call has the record in and out around it. Tried: one function that is handed the call as a closure; a proof then knows nothing of what the closure leaves in the
+// buffers that it borrows.
 #[unsafe(no_mangle)]
 pub extern "C" fn smoother_push(
     run: &mut LentRun,
@@ -80,7 +83,7 @@ pub extern "C" fn smoother_push(
     };
     let answer = run::values::push(&mut r, c, plane, prior);
     *run = LentRun::from(r);
-    answer_number(answer)
+    u32::from(answer_byte(answer))
 }
 
 // Data. Ruled out: 9 where the level of another channel is beyond its range (5); a gradient added to what stood there.
@@ -99,9 +102,14 @@ pub extern "C" fn smoother_data(
     let Ok(mut r) = Run::try_from(*run) else {
         return u32::from(Refusal::Record);
     };
-    let answer = run::values::data(&mut r, c, lows, highs, tables, gradient, saved);
+    let given = Given {
+        lows,
+        highs,
+        tables,
+    };
+    let answer = run::values::data(&mut r, c, given, gradient, saved);
     *run = LentRun::from(r);
-    answer_number(answer)
+    u32::from(answer_byte(answer))
 }
 
 // What blend refuses where not two places are lent for its totals.
@@ -147,10 +155,11 @@ pub extern "C" fn smoother_blend(
     let answer = run::values::blend(&mut r, plane, gradient, across, down);
     put_pair(answer, totals);
     *run = LentRun::from(r);
-    answer_number(answer)
+    u32::from(answer_byte(answer))
 }
 
 // Move. Ruled out: a plane moved twice by two calls in a row; 11 given before the last step's project.
+// Kept: as `smoother_push`.
 #[unsafe(no_mangle)]
 pub extern "C" fn smoother_move(
     run: &mut LentRun,
@@ -165,7 +174,7 @@ pub extern "C" fn smoother_move(
     };
     let answer = run::values::move_plane(&mut r, c, plane, gradient);
     *run = LentRun::from(r);
-    answer_number(answer)
+    u32::from(answer_byte(answer))
 }
 
 // Project. Ruled out: 255 for a plane that was blown before, in a step of another channel; a mark with the answer 0.
@@ -187,9 +196,14 @@ pub extern "C" fn smoother_project(
     let Ok(mut r) = Run::try_from(*run) else {
         return u32::from(Refusal::Record);
     };
-    let answer = run::values::project(&mut r, c, lows, highs, tables, plane, across, down, saved);
+    let given = Given {
+        lows,
+        highs,
+        tables,
+    };
+    let answer = run::values::project(&mut r, c, given, plane, across, down, saved);
     *run = LentRun::from(r);
-    answer_number(answer)
+    u32::from(answer_byte(answer))
 }
 
 // A fresh run, and then a list of calls, each by its job's number (0 push to 4 project) and a channel. Ruled out: all steps done in the first job;
@@ -218,10 +232,20 @@ pub extern "C" fn smoother_serve(
     let Ok(mut r) = Run::try_from(*run) else {
         return u32::from(Refusal::Record);
     };
-    let answer = serve::serve(
-        &mut r, jobs, channels, answers, lows, highs, tables, plane, prior, gradient, across, down,
+    let given = Given {
+        lows,
+        highs,
+        tables,
+    };
+    let mut lent = Buffers {
+        plane,
+        prior,
+        gradient,
+        across,
+        down,
         saved,
-    );
+    };
+    let answer = serve::serve(&mut r, jobs, channels, answers, given, &mut lent);
     *run = LentRun::from(r);
-    answer_number(answer)
+    u32::from(answer_byte(answer))
 }

@@ -1,22 +1,54 @@
 // The whole run of a sheet and its picture as C functions. Both answer 0 for done, or the table's number.
-ghost use Rattle.std.specs.Prelude.{◌≡◌, length};
+ghost use Rattle.std.specs.Prelude.{◌≡◌};
 ghost use Rattle.start.specs.Coef.{pairs};
+ghost use Rattle.record.specs.Lent.{levels_in};
 ghost use Rattle.rounds.specs.Whole.{six, loan};
-ghost use Rattle.by_numbers.specs.Sheets.{record_count};
+ghost use Rattle.solve.specs.Solve.{SolveIs};
 ghost use Rattle.by_numbers.specs.Whole.{letters_ok, SolveNumbers, FinishNumbers};
 
-use crate::runs::answer_number;
 use by_numbers::NUMBERS;
-use by_numbers::sheets::{put_clipped, rounding_from, sheet_of};
+use by_numbers::sheets::{put_clipped, sheet_of};
+use contents::Sheet;
+use picture::Rounding;
+use record::lent::{Buffers, Given};
 use refusal::Refusal;
+use serve::answer_byte;
+use solve::Solved;
 use solve::modes::all_legal;
 
 // The mode's and line A's letter are there.
-fn letters_ok(numbers: &[u32]) -> bool
-    requires { length numbers.now ≡ record_count }
+fn letters_ok(numbers: &[u32; NUMBERS]) -> bool
     ensures { result ≡ letters_ok numbers.now }
 {
     (numbers[5] <= 1) & (numbers[28] <= 1)
+}
+
+// The whole run of a sheet on the six, lent one by one.
+// Kept: tried with the struct in `smoother_solve` itself; the proof of what solve leaves in its slices didn't close there, and does here.
+fn solve_six(
+    s: Sheet,
+    given: Given,
+    plane: &mut [f32],
+    prior: &mut [f32],
+    gradient: &mut [f32],
+    across: &mut [f32],
+    down: &mut [f32],
+    saved: &mut [f32],
+    totals: &mut [f64],
+) -> Solved
+    ensures { SolveIs s (levels_in given.entry) given.entry.tables.now
+        (loan (six plane.old prior.old gradient.old across.old down.old saved.old) totals.old) result.answer result.clipped
+        (loan (six plane.new prior.new gradient.new across.new down.new saved.new) totals.new) }
+{
+    let mut lent = Buffers {
+        plane,
+        prior,
+        gradient,
+        across,
+        down,
+        saved,
+    };
+    solve::solve(s, given, &mut lent, totals)
 }
 
 // The whole run of a sheet, by the numbers that `smoother_read` lends out. 8 for another count of them, 13 for a mode or a letter of line A that is neither 0 nor 1, and
@@ -42,9 +74,9 @@ pub extern "C" fn smoother_solve(
         (loan (six plane.old prior.old gradient.old across.old down.old saved.old) totals.old) clipped.old result
         (loan (six plane.new prior.new gradient.new across.new down.new saved.new) totals.new) clipped.new }
 {
-    if numbers.len() != NUMBERS {
+    let Some(numbers) = numbers.as_array::<NUMBERS>() else {
         return u32::from(Refusal::Length);
-    }
+    };
     if !letters_ok(numbers) {
         return u32::from(Refusal::Record);
     }
@@ -55,10 +87,15 @@ pub extern "C" fn smoother_solve(
     if clipped.len() != s.header.channels as usize {
         return u32::from(Refusal::Length);
     }
-    let t = solve::solve(
-        s, lows, highs, tables, plane, prior, gradient, across, down, saved, totals,
+    let given = Given {
+        lows,
+        highs,
+        tables,
+    };
+    let t = solve_six(
+        s, given, plane, prior, gradient, across, down, saved, totals,
     );
-    let k = answer_number(t.answer);
+    let k = u32::from(answer_byte(t.answer));
     if k != 0 {
         return k;
     }
@@ -68,6 +105,7 @@ pub extern "C" fn smoother_solve(
 
 // The picture's bytes of solved planes, which are only read; rounding is 0 for t and 1 for n, else 13. Ruled out: the second row of a picture narrower than the planes taken from the end of the
 // first row's part; bytes changed where 8 or 13 is answered; the bytes of t for the rounding 2.
+// Kept: the rounding is a number, as C has it.
 #[unsafe(no_mangle)]
 pub extern "C" fn smoother_finish(
     rounding: u32,
@@ -85,7 +123,7 @@ pub extern "C" fn smoother_finish(
         return u32::from(Refusal::Record);
     }
     match picture::finish(
-        rounding_from(rounding),
+        Rounding::from(rounding),
         w,
         h,
         width,

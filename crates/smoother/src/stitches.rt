@@ -5,6 +5,7 @@ ghost use Rattle.stitch.specs.Calls.{stitching, sized};
 ghost use Rattle.by_numbers.specs.Stitches.{MeasuresStitched, StitchesNumbers};
 
 // The length of the text that both sheets make. Ruled out: 16 for a right text that is itself refused; the line of the left text with the right's number.
+// Kept: a C function of its own, one call long, as is `smoother_stitch`.
 #[unsafe(no_mangle)]
 pub extern "C" fn smoother_stitch_measure(
     left: &[u8],
@@ -19,6 +20,7 @@ pub extern "C" fn smoother_stitch_measure(
 }
 
 // That text in an output of exactly its length. Ruled out: 8 for texts that do not fit; an output of another length that is written in part.
+// Kept: as `smoother_stitch_measure`.
 #[unsafe(no_mangle)]
 pub extern "C" fn smoother_stitch(
     left: &[u8],

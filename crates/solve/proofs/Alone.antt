@@ -430,7 +430,7 @@ module _ (S : Sheet) (levels : Levels) (tables : List ℕ) (L₀ : Loan) (asks :
   first_room : length L₀.totals ≡ totals_from S S.header.channels
   first_room =
       totals_fit S levels tables L₀ z
-      ∙ ap (λ (b : Bool). cond b S.header.iterations0 (steps_before S S.header.channels) * 2) asks.apart
+      ∙ ap (λ (b : Bool). cond b (iterations_at S 0) (steps_before S S.header.channels) * 2) asks.apart
 
   pub begins : (ks : List ℕ) → length ks ≡ 3 → Parting S levels tables S.header.channels 0 L₀ L₀ ks
   begins ks three =
@@ -570,7 +570,7 @@ module _ (S : Sheet) (levels : Levels) (tables : List ℕ) (L : Loan) where
   pub joint_room : Taken S levels tables L → S.header.joint ≡ true → length L.totals ≡ (joint S).n * 2
   unfolding joint
   joint_room z j =
-      totals_fit S levels tables L z ∙ ap (λ (b : Bool). cond b S.header.iterations0 (steps_before S S.header.channels) * 2) j
+      totals_fit S levels tables L z ∙ ap (λ (b : Bool). cond b (iterations_at S 0) (steps_before S S.header.channels) * 2) j
 
 -- ---- the tests of both modes' records, and of the totals' room
 

@@ -6,7 +6,8 @@ use borrow.Author.Tests.{ne_eqb}
 use Rattle.contents.specs.declared.Sheet.{Sheet}
 use Rattle.contents.specs.declared.Header.{Header}
 use Rattle.std.specs.Prelude.{Option, Some, None, List}
-use Rattle.contents.specs.Hold.{of_three, measured, count_at, hold_at}
+use Rattle.contents.specs.Three.{of_three}
+use Rattle.contents.specs.Hold.{measured, count_at, hold_at}
 
 -- what the counts are measured against; every place past the second is the third
 pub three_measured : (h : Header) (c : ℕ) → of_three c (measured h 0) (measured h 1) (measured h 2) ≡ measured h c

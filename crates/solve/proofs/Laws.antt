@@ -13,7 +13,7 @@ use Rattle.fold.specs.Join.{join_upto}
 use Rattle.contents.specs.declared.Sheet.{Sheet}
 use Rattle.std.specs.Prelude.{Option, Some, None}
 use Rattle.contents.specs.Hold.{measured, count_at, hold_at}
-use Rattle.contents.specs.Sheets.{channel_at}
+use Rattle.contents.specs.Sheets.{channel_at, data_at}
 use Rattle.contents.specs.Weights.{value_of}
 use Rattle.calls.specs.Run.{Given, levels_before, levels_part, among}
 use Rattle.calls.specs.Buffers.{joined}
@@ -58,30 +58,7 @@ whole_channels S levels tables = go S.header.joint
 -- the sheet with the letter j (true) or s
 abbrev pub lettered : Bool → Sheet → Sheet
 lettered b S =
-    record {
-      header =
-          record {
-            width = S.header.width;
-            height = S.header.height;
-            picture_width = S.header.picture_width;
-            picture_height = S.header.picture_height;
-            channels = S.header.channels;
-            joint = b;
-            iterations0 = S.header.iterations0;
-            iterations1 = S.header.iterations1;
-            iterations2 = S.header.iterations2;
-            smoothing0 = S.header.smoothing0;
-            smoothing1 = S.header.smoothing1;
-            smoothing2 = S.header.smoothing2;
-            data0 = S.header.data0;
-            data1 = S.header.data1;
-            data2 = S.header.data2;
-          };
-      settings = S.settings;
-      first = S.first;
-      second = S.second;
-      third = S.third;
-    }
+    record S { header = record S.header { joint = b } }
 
 either_is : (b d : Bool) (k : ℕ) → cond b k k ≡ cond d k k
 either_is true true k = refl
@@ -95,7 +72,7 @@ unfolding hold_at measured
 held_alike S = go S.settings.hold
   where
     go : (x : Option (List ℕ)) → count_at x (lettered true S).header 0 ≡ count_at x (lettered false S).header 0
-    go None = either_is (eqb S.header.channels 3 && true) (eqb S.header.channels 3 && false) S.header.iterations0
+    go None = either_is (eqb S.header.channels 3 && true) (eqb S.header.channels 3 && false) (iterations_at S 0)
     go (Some l) = refl
 
 -- "With one channel the letters act alike": the runs of both modes are given the same, so what they leave is the same.
@@ -113,15 +90,15 @@ module _ (S : Sheet) (levels : Levels) (tables : List ℕ) (L : Loan) (accepted 
       record {
         W = S.header.width;
         H = S.header.height;
-        N = S.header.iterations0;
-        smoothing = value_of S.header.smoothing0;
+        N = iterations_at S 0;
+        smoothing = value_of (smoothing_at S 0);
         reorder = reorder_of S.settings.start;
         count = one i;
-        owns = map own_of (take (one i) (run_channel S.first S.header.data0 (held_alike S i) ∷ drop 1 (joint joined_sheet).channels));
+        owns = map own_of (take (one i) (run_channel (channel_at S 0) (data_at S.header 0) (held_alike S i) ∷ drop 1 (joint joined_sheet).channels));
       }
 
   -- the first channel's levels are all, whatever the letter
-  first_levels : (b : Bool) → levels_before (sheet_of (joint (lettered b S))) 1 ≡ 0 + S.first.width * S.first.height
+  first_levels : (b : Bool) → levels_before (sheet_of (joint (lettered b S))) 1 ≡ 0 + (channel_at S 0).width * (channel_at S 0).height
   unfolding joint
   first_levels b =
       ap
@@ -130,8 +107,8 @@ module _ (S : Sheet) (levels : Levels) (tables : List ℕ) (L : Loan) (accepted 
       (record {
         W = S.header.width;
         H = S.header.height;
-        N = S.header.iterations0;
-        smoothing = value_of S.header.smoothing0;
+        N = iterations_at S 0;
+        smoothing = value_of (smoothing_at S 0);
         reorder = reorder_of S.settings.start;
         count = n;
         owns = map own_of (take n (joint (lettered b S)).channels);
@@ -175,13 +152,7 @@ module _ (S : Sheet) (levels : Levels) (tables : List ℕ) (L : Loan) (accepted 
 -- the sheet with a line `H` of these counts
 abbrev pub saying : Sheet → ℕ → ℕ → ℕ → Sheet
 saying S k l m =
-    record {
-      header = S.header;
-      settings = record { rounding = S.settings.rounding; start = S.settings.start; hold = Some (k ∷ l ∷ m ∷ []) };
-      first = S.first;
-      second = S.second;
-      third = S.third;
-    }
+    record S { settings = record S.settings { hold = Some (k ∷ l ∷ m ∷ []) } }
 
 -- the sheet with what it is measured against
 abbrev pub spelled : Sheet → Sheet
@@ -196,25 +167,25 @@ module _ (S : Sheet) (unsaid : S.settings.hold ≡ None) where
   unfolding joint
   same_joint =
       let h = S.header in
-      let held : ℕ → ℕ → ℕ = λ c k. cond h.joint k h.iterations0 in
+      let held : ℕ → ℕ → ℕ = λ c k. cond h.joint k (iterations_at S 0) in
       λ i.
       record {
         w = h.width;
         h = h.height;
-        n = h.iterations0;
-        smoothing = value_of h.smoothing0;
+        n = iterations_at S 0;
+        smoothing = value_of (smoothing_at S 0);
         reorder = reorder_of S.settings.start;
         count = h.channels;
         channels =
-            run_channel S.first h.data0 (held 0 (held_same 0 i)) ∷ run_channel S.second h.data1 (held 1 (held_same 1 i))
-            ∷ run_channel S.third h.data2 (held 2 (held_same 2 i)) ∷ [];
+            run_channel (channel_at S 0) (data_at h 0) (held 0 (held_same 0 i)) ∷ run_channel (channel_at S 1) (data_at h 1) (held 1 (held_same 1 i))
+            ∷ run_channel (channel_at S 2) (data_at h 2) (held 2 (held_same 2 i)) ∷ [];
       }
 
   pub same_alone : (c : ℕ) → alone S c ≡ alone (spelled S) c
   unfolding alone
   same_alone c =
       λ i.
-      let x = run_channel (channel_at S c) S.header.data0 (cond (not S.header.joint) (held_same c i) (iterations_at S c)) in
+      let x = run_channel (channel_at S c) (data_at S.header 0) (cond (not S.header.joint) (held_same c i) (iterations_at S c)) in
       record {
         w = S.header.width;
         h = S.header.height;

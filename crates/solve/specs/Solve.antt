@@ -1,15 +1,16 @@
 -- The whole run (document 01, "Whole run and picture"): which runs a sheet has in each mode, the planes that they leave, the totals of their blends, and when they blow.
-use Rattle.std.specs.Prelude.{ℕ, zero, suc, ◌+◌, ◌*◌, Bool, false, ◌&&◌, not, cond, List, [], ◌∷◌, length, get_or, eqb, Float, Option, Some, None, Result}
+use Rattle.std.specs.Prelude.{ℕ, zero, suc, ◌+◌, ◌*◌, Bool, false, ◌&&◌, not, cond, List, [], ◌∷◌, length, get_or, eqb, Float, Option, Result}
 use Rattle.start.specs.Coef.{Levels}
 use Rattle.fold.specs.Join.{join_upto}
 use Rattle.fold.specs.Part.{part}
 use Rattle.contents.specs.declared.Weight.{Weight}
 use Rattle.contents.specs.Weights.{value_of}
 use Rattle.contents.specs.declared.Letter.{Letter}
-use Rattle.contents.specs.declared.Letter.TheVariants as letter
 use Rattle.contents.specs.declared.Sheet.{Sheet}
 use Rattle.contents.specs.declared.Channel as Line
-use Rattle.contents.specs.Sheets.{channel_at}
+use Rattle.contents.specs.Letters.{chosen}
+use Rattle.contents.specs.Sheets as Sheets
+use Rattle.contents.specs.Sheets.{channel_at, data_at}
 use Rattle.contents.specs.Hold as Hold
 use Rattle.contents.specs.Hold.{hold_at}
 use Rattle.start.specs.declared.coef.Reorder.{Reorder}
@@ -50,16 +51,14 @@ held_in made S c n = cond made (hold_at S c) n
 
 -- M-102's letter: "`m`, also the meaning when it is absent, is the start of document 01. `o` dequantises and transforms all blocks, then reorders once"
 abbrev pub reorder_of : Option Letter → Reorder
-reorder_of None = Each
-reorder_of (Some letter.First) = Each
-reorder_of (Some letter.Second) = Once
+reorder_of letter = chosen letter Each Once
 
 -- the channels of the joint run, each with its own data weight and held count
 abbrev pub joint_channels : Sheet → List Channel
 joint_channels S =
     let h = S.header in
-    let held : ℕ → ℕ = λ c. held_in h.joint S c h.iterations0 in
-    run_channel S.first h.data0 (held 0) ∷ run_channel S.second h.data1 (held 1) ∷ run_channel S.third h.data2 (held 2) ∷ []
+    let held : ℕ → ℕ = λ c. held_in h.joint S c (Hold.iterations_at h 0) in
+    run_channel (channel_at S 0) (data_at h 0) (held 0) ∷ run_channel (channel_at S 1) (data_at h 1) (held 1) ∷ run_channel (channel_at S 2) (data_at h 2) (held 2) ∷ []
 
 -- "Joint mode uses the first smoothing weight, the first iteration count and each channel's data weight."
 unfoldable pub joint : Sheet → Run
@@ -68,8 +67,8 @@ joint S =
     record {
       w = h.width;
       h = h.height;
-      n = h.iterations0;
-      smoothing = value_of h.smoothing0;
+      n = Hold.iterations_at h 0;
+      smoothing = value_of (Sheets.smoothing_at h 0);
       reorder = reorder_of S.settings.start;
       count = h.channels;
       channels = joint_channels S;
@@ -80,7 +79,7 @@ abbrev pub iterations_at : Sheet → ℕ → ℕ
 iterations_at S c = Hold.iterations_at S.header c
 
 abbrev pub smoothing_at : Sheet → ℕ → Weight
-smoothing_at S c = cond (eqb c 0) S.header.smoothing0 (cond (eqb c 1) S.header.smoothing1 S.header.smoothing2)
+smoothing_at S c = Sheets.smoothing_at S.header c
 
 -- How many steps the runs of the channels before c have in separate mode.
 unfoldable pub steps_before : Sheet → ℕ → ℕ
@@ -89,13 +88,13 @@ steps_before S (suc c) = steps_before S c + iterations_at S c
 
 -- How many blends all runs of a sheet make: one in each step of a run (document 02, M-103).
 abbrev pub blend_count : Sheet → ℕ
-blend_count S = cond S.header.joint S.header.iterations0 (steps_before S S.header.channels)
+blend_count S = cond S.header.joint (iterations_at S 0) (steps_before S S.header.channels)
 
 -- "Separate mode, as `solve_cpu`: channel c alone, with its own smoothing weight and iteration count, but always the first of the three data
 -- weights." A run of one channel, the first of three places; no call reads the other two. The letter is the sheet's in both modes.
 unfoldable pub alone : Sheet → ℕ → Run
 alone S c =
-    let x = run_channel (channel_at S c) S.header.data0 (held_in (not S.header.joint) S c (iterations_at S c)) in
+    let x = run_channel (channel_at S c) (data_at S.header 0) (held_in (not S.header.joint) S c (iterations_at S c)) in
     record {
       w = S.header.width;
       h = S.header.height;

@@ -21,6 +21,11 @@ own_fits o W H k =
     let b : o.height ≤ H = omega (arith, mul-le-mul_left o.height k.vertical_some) in
     mul-le-mul a b
 
+-- the own sample (cx, cy) has its place within the own plane, and so within the full one
+pub own_place : (o : Own) (W H : ℕ) → Covers o W H → (cy cx : ℕ) → cy < o.height → cx < o.width → (cy * o.width + cx < W * H) × (W * H ≤ 512 * 512)
+own_place o W H k cy cx p q =
+    (omega (arith, row_end cy o.height o.width p, mul_comm o.width o.height, own_fits o W H k), mul-le-mul k.width_most k.height_most)
+
 -- the samples of (cx, cy) lie within the full plane: their columns in its rows, and row cy * vertical + sy in its values
 abbrev pub Within : Own → ℕ → ℕ → ℕ → ℕ → ℕ → Type 0
 Within o W H cy cx sy =

@@ -1,5 +1,5 @@
 -- coef.rs: a channel's coefficients, the pixels that its conversion makes of them, and the saved coefficients at the start.
-use Rattle.std.specs.Prelude.{◌≡◌, List, ℕ, ◌+◌, ◌*◌, ◌/◌, ◌%◌, ◌<◌, ◌≤◌, ℤ, pos, nat_abs, length, get_or, set, replicate, Float}
+use Rattle.std.specs.Prelude.{◌≡◌, List, ℕ, ◌+◌, ◌*◌, ◌/◌, ◌%◌, ◌<◌, ◌≤◌, ℤ, pos, nat_abs, length, get_or, set, replicate, Float, cond, ◌==◌}
 use Rattle.fold.specs.Fold.{upto}
 use Rattle.float.specs.Names.{f0, val}
 use Rattle.utils.specs.Blocks.{from_blocks, on_block}
@@ -92,6 +92,10 @@ image_once C =
     let o = C.own in
     let x = upto (on_block idct8x8) (block_count o) (init_dct_target C (replicate (px_count o) f0)) in
     from_blocks o.width (block_w o) (block_h o) x x
+
+-- a letter as it is lent: 1 is once, any other number after each block
+abbrev pub reorder_from : ℕ → Reorder
+reorder_from n = cond (n == 1) Once Each
 
 -- the image that a channel starts with
 abbrev pub image_of : Reorder → Coef → List Float

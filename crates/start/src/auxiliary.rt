@@ -1,7 +1,6 @@
 // auxiliary.rs, `Aux::init`: a channel's buffers at the start.
-ghost use Rattle.std.specs.Prelude.{◌≡◌, ◌*◌, length, replicate};
-ghost use Rattle.float.specs.Names.{f0};
-ghost use Rattle.start.specs.Coef.{image_of, init_dct_target, px_count};
+ghost use Rattle.std.specs.Prelude.{◌≡◌, ◌*◌, length};
+ghost use Rattle.start.specs.Coef.{image_of, px_count};
 ghost use Rattle.start.specs.AsCoef.{as_coef};
 ghost use Rattle.start.specs.Auxiliary.{init_pixels, aux_init};
 
@@ -19,7 +18,7 @@ fn init_pixels(
     ensures { plane.new ≡ init_pixels (image_of reorder (as_coef coef.now)) coef.now.own coef.now.w coef.now.h }
 {
     let o = coef.own;
-    coef.image_of(image, scratch, reorder);
+    coef.scalar().image_of(image, scratch, reorder);
     plane.fill(0.0);
     utils::auxiliary::upsample_pixels(
         image,
@@ -33,37 +32,7 @@ fn init_pixels(
     );
 }
 
-// The saved coefficients: half sum × quantiser, and 0 past them.
-fn init_saved(saved: &mut [f32], coef: &Coef)
-    requires { length saved.old ≡ coef.now.w * coef.now.h }
-    ensures { saved.new ≡ init_dct_target (as_coef coef.now) (replicate (coef.now.w * coef.now.h) f0) }
-{
-    saved.fill(0.0);
-    coef.init_dct_target(saved);
-}
-
-// Plane and prior at the start. Across and down are scratch for the image before they are 0.
-fn init_planes(
-    plane: &mut [f32],
-    prior: &mut [f32],
-    across: &mut [f32],
-    down: &mut [f32],
-    coef: &Coef,
-    reorder: Reorder,
-)
-    requires { (length plane.old ≡ coef.now.w * coef.now.h) × (length prior.old ≡ coef.now.w * coef.now.h)
-        × (length across.old ≡ coef.now.w * coef.now.h) × (length down.old ≡ coef.now.w * coef.now.h) }
-    ensures { (plane.new ≡ init_pixels (image_of reorder (as_coef coef.now)) coef.now.own coef.now.w coef.now.h)
-        × (prior.new ≡ plane.new) × (across.new ≡ replicate (coef.now.w * coef.now.h) f0) × (down.new ≡ replicate (coef.now.w * coef.now.h) f0) }
-{
-    let n = coef.px_count();
-    init_pixels(plane, &mut across[..n], &mut down[..n], coef, reorder);
-    across.fill(0.0);
-    down.fill(0.0);
-    prior.copy_from_slice(plane);
-}
-
-// Start of one channel, on its part of each buffer.
+// Start of one channel, on its part of each buffer. Across and down are scratch for the image before they are 0.
 // Rules out: the other order of the image, and values left over in a buffer.
 pub fn start(
     plane: &mut [f32],
@@ -88,7 +57,12 @@ pub fn start(
     }
         ≡ aux_init reorder (as_coef coef.now) coef.now.w coef.now.h }
 {
-    init_saved(saved, coef);
+    let n = coef.px_count();
+    init_pixels(plane, &mut across[..n], &mut down[..n], coef, reorder);
+    prior.copy_from_slice(plane);
     gradient.fill(0.0);
-    init_planes(plane, prior, across, down, coef, reorder);
+    across.fill(0.0);
+    down.fill(0.0);
+    saved.fill(0.0);
+    coef.scalar().init_dct_target(saved);
 }

@@ -1,6 +1,9 @@
 // coef.rs: the pixels and the saved coefficients that a channel starts with.
 ghost use Rattle.std.specs.Prelude.{◌≡◌, ◌+◌, ◌*◌, ◌<◌, ◌≤◌, Float, length};
-ghost use Rattle.start.specs.Coef.{Covers, Lent, pairs};
+ghost use Rattle.start.specs.Coef.{Covers, Eights, Lent, pairs};
+
+use utils::blocks::{Order, move_blocks};
+use utils::dct::{Transform, transform_block, transform_blocks};
 
 // A channel's own sides and its factors.
 #[derive(Clone, Copy)]
@@ -18,7 +21,104 @@ pub enum Reorder {
     Once,
 }
 
-// ScalarCoef: a channel's own sides and factors, the full sides w and h that they cover, its levels and its quantisers.
+// The order of a letter's number: 1 is once, any other number after each block. Rules out: 2 for once, and 0 for once.
+impl From<u32> for Reorder {
+    ghost use Rattle.start.specs.Coef.{reorder_from};
+
+    ghost from_gives = { λ n r. r ≡ reorder_from n };
+
+    // Kept: two arms, as those of picture's `Rounding`; a trait or a macro over the enums of two would be longer than the impls.
+    fn from(n: u32) -> Reorder {
+        match n {
+            1 => Reorder::Once,
+            _ => Reorder::Each,
+        }
+    }
+}
+
+// ScalarCoef: a channel's own sides and factors, its levels and its quantisers.
+#[derive(Clone, Copy)]
+pub struct ScalarCoef<'a> {
+    pub own: Own,
+    pub lows: &'a [i16],
+    pub highs: &'a [i16],
+    pub table: &'a [u16],
+    pub ghost eights: { Eights own },
+    pub ghost lent: { Lent own (pairs lows.now highs.now) table.now },
+}
+
+impl ScalarCoef<'_> {
+    ghost use Rattle.start.specs.Coef.{block_count, block_h, block_w, dequantise, image_of, init_dct_target, px_count};
+    ghost use Rattle.start.specs.AsCoef.{scalar};
+    ghost use Rattle.utils.specs.Blocks.{from_blocks};
+
+    // The blocks of a channel: 64 values each, as many as its own plane has.
+    // Rules out: the blocks of the full plane, and the count of values.
+    #[tactic(auto, using(crate::proofs::Cover::blocks_fill))]
+    pub fn block_count(&self) -> usize
+        ensures { (result ≡ block_count self.now.own) × (result * 64 ≡ px_count self.now.own) }
+    {
+        self.own.width / 8 * (self.own.height / 8)
+    }
+
+    // The values of the levels of block i: half sum × quantiser.
+    fn dequantise(&self, out: &mut [f32], i: usize)
+        requires { (i * 64 + 64 ≤ px_count self.now.own) × (i * 64 + 64 ≤ length out.old) }
+        ensures { out.new ≡ dequantise (scalar self.now).middle self.now.table.now i out.old }
+    {
+        for (j, &q) in self.table.iter().enumerate() {
+            let k = i * 64 + j;
+            out[k] = interval::dequantised(self.lows[k], self.highs[k], q);
+        }
+    }
+
+    // The saved coefficients at the start: half sum × quantiser.
+    // Rules out: the inverse transform of those values, and a value changed past the channel's own.
+    pub fn init_dct_target(&self, out: &mut [f32])
+        requires { px_count self.now.own ≤ length out.old }
+        ensures { out.new ≡ init_dct_target (scalar self.now) out.old }
+    {
+        for i in 0..self.block_count() {
+            self.dequantise(out, i);
+        }
+    }
+
+    // The image from block order to raster order. The Rust's clone of the image goes to `scratch`.
+    fn reorder(&self, image: &mut [f32], scratch: &mut [f32])
+        requires { (length image.old ≡ px_count self.now.own) × (length scratch.old ≡ px_count self.now.own) }
+        ensures { image.new ≡ from_blocks self.now.own.width (block_w self.now.own) (block_h self.now.own) image.old image.old }
+    {
+        let w = self.own.width;
+        let h = self.own.height;
+        scratch.copy_from_slice(image);
+        move_blocks(scratch, image, w, h, w / 8, h / 8, Order::Raster);
+    }
+
+    // The channel's pixels in its own sides. Above width 8 an image that is reordered after each block is not the one that is reordered once, T.81's placement.
+    // Rules out: with `Once` a reordering after each block, none with `Each`, and values that `image` held before.
+    pub fn image_of(&self, image: &mut [f32], scratch: &mut [f32], reorder: Reorder)
+        requires { (length image.old ≡ px_count self.now.own) × (length scratch.old ≡ px_count self.now.own) }
+        ensures { image.new ≡ image_of reorder (scalar self.now) }
+    {
+        image.fill(0.0);
+        match reorder {
+            Reorder::Each => {
+                for i in 0..self.block_count() {
+                    self.dequantise(image, i);
+                    transform_block(image, i, Transform::Inverse);
+                    self.reorder(image, scratch);
+                }
+            }
+            Reorder::Once => {
+                self.init_dct_target(image);
+                transform_blocks(image, self.block_count(), Transform::Inverse);
+                self.reorder(image, scratch);
+            }
+        }
+    }
+}
+
+// A `ScalarCoef` with the full sides w and h that it covers.
 #[derive(Clone, Copy)]
 pub struct Coef<'a> {
     pub own: Own,
@@ -32,123 +132,72 @@ pub struct Coef<'a> {
 }
 
 impl Coef<'_> {
-    ghost use Rattle.start.specs.Coef.{block_count, block_h, block_w, change, dequantise, image_block, image_data, image_of, image_once, init_dct_target, px_count, spot};
-    ghost use Rattle.start.specs.AsCoef.{as_coef};
-    ghost use Rattle.utils.specs.Blocks.{from_blocks};
+    ghost use Rattle.start.specs.Coef.{px_count};
+    ghost use Rattle.start.specs.AsCoef.{as_coef, scalar};
 
-    // The blocks of a channel: 64 values each, as many as its own plane has.
-    // Rules out: the blocks of the full plane, and the count of values.
-    pub fn block_count(&self) -> usize
-        ensures { (result ≡ block_count self.now.own) × (result * 64 ≡ px_count self.now.own) }
+    // Without the full sides. Rules out: the lows in the highs' place, and other sides than the own ones.
+    pub fn scalar(&self) -> ScalarCoef<'_>
+        ensures { (scalar result ≡ as_coef self.now) × (result.own ≡ self.now.own) }
     {
-        self.own.width / 8 * (self.own.height / 8)
+        ScalarCoef {
+            own: self.own,
+            lows: self.lows,
+            highs: self.highs,
+            table: self.table,
+        }
     }
 
     // The values of the own plane, which are no more than those of the full plane.
     // Rules out: the full plane's count, and the count of blocks.
+    #[tactic(auto, using(crate::proofs::Cover::own_fits))]
     pub fn px_count(&self) -> usize
         ensures { (result ≡ px_count self.now.own) × (result ≤ self.now.w * self.now.h) }
     {
         self.own.width * self.own.height
     }
+}
 
-    // The place in the full plane of the subsample (sx, sy) of the own sample (cx, cy).
-    // Rules out: the factors exchanged, and rows as wide as the own plane's.
-    pub fn spot(&self, cy: usize, cx: usize, sy: usize, sx: usize) -> usize
-        requires { (cy < self.now.own.height) × (cx < self.now.own.width) × (sy < self.now.own.vertical) × (sx < self.now.own.horizontal) }
-        ensures { (result ≡ spot self.now.own self.now.w cy cx sy sx) × (result < self.now.w * self.now.h) }
+// The own sample (cx, cy) of a channel.
+#[derive(Clone, Copy)]
+pub struct Sample<'a, 'b> {
+    pub coef: &'a Coef<'b>,
+    pub cy: usize,
+    pub cx: usize,
+    pub ghost within: { (cy < coef.now.own.height) × (cx < coef.now.own.width) },
+}
+
+impl Sample<'_, '_> {
+    ghost use Rattle.start.specs.Coef.{change, spot};
+
+    // Its place in the own plane. Rules out: its place in the full plane, and columns for rows.
+    #[tactic(auto, using(crate::proofs::Cover::own_place))]
+    pub fn own_px(&self) -> usize
+        ensures { (result ≡ self.now.cy * self.now.coef.now.own.width + self.now.cx) × (result < self.now.coef.now.w * self.now.coef.now.h) }
     {
-        (cy * self.own.vertical + sy) * self.w + (cx * self.own.horizontal + sx)
+        self.cy * self.coef.own.width + self.cx
     }
 
-    // f done to each place of the own sample (cx, cy).
-    // Rules out: a place left out or taken twice, and f of another place's value.
-    pub fn change<F: Fn(f32) -> f32>(&self, plane: &mut [f32], cy: usize, cx: usize, f: F)
-        requires { F.IsAlwaysCallable f × (cy < self.now.own.height) × (cx < self.now.own.width) × (length plane.old ≡ self.now.w * self.now.h) }
-        ensures { (g : Float → Float) → ((x y : Float) → F.post f x y → y ≡ g x) → plane.new ≡ change g self.now.own self.now.w cy cx plane.old }
+    // The place in the full plane of its subsample (sx, sy). Rules out: the factors exchanged, and rows as wide as the own plane's.
+    #[tactic(auto, using(crate::proofs::Cover::within))]
+    pub fn spot(&self, sy: usize, sx: usize) -> usize
+        requires { (sy < self.now.coef.now.own.vertical) × (sx < self.now.coef.now.own.horizontal) }
+        ensures { (result ≡ spot self.now.coef.now.own self.now.coef.now.w self.now.cy self.now.cx sy sx) × (result < self.now.coef.now.w * self.now.coef.now.h) }
     {
-        for sy in 0..self.own.vertical {
-            for sx in 0..self.own.horizontal {
-                let k = self.spot(cy, cx, sy, sx);
+        (self.cy * self.coef.own.vertical + sy) * self.coef.w
+            + (self.cx * self.coef.own.horizontal + sx)
+    }
+
+    // f done to each of its places. Rules out: a place left out or taken twice, and f of another place's value.
+    pub fn change<F: Fn(f32) -> f32>(&self, plane: &mut [f32], f: F)
+        requires { F.IsAlwaysCallable f × (length plane.old ≡ self.now.coef.now.w * self.now.coef.now.h) }
+        ensures { (g : Float → Float) → ((x y : Float) → F.post f x y → y ≡ g x)
+            → plane.new ≡ change g self.now.coef.now.own self.now.coef.now.w self.now.cy self.now.cx plane.old }
+    {
+        for sy in 0..self.coef.own.vertical {
+            for sx in 0..self.coef.own.horizontal {
+                let k = self.spot(sy, sx);
                 plane[k] = f(plane[k]);
             }
-        }
-    }
-
-    // The values of the levels of block i: half sum × quantiser.
-    fn dequantise(&self, out: &mut [f32], i: usize)
-        requires { (i * 64 + 64 ≤ px_count self.now.own) × (i * 64 + 64 ≤ length out.old) }
-        ensures { out.new ≡ dequantise (as_coef self.now).middle self.now.table.now i out.old }
-    {
-        for (j, &q) in self.table.iter().enumerate() {
-            let k = i * 64 + j;
-            out[k] = interval::dequantised(self.lows[k], self.highs[k], q);
-        }
-    }
-
-    // The image from block order to raster order. The Rust's clone of the image goes to `scratch`.
-    fn reorder(&self, image: &mut [f32], scratch: &mut [f32])
-        requires { (length image.old ≡ px_count self.now.own) × (length scratch.old ≡ px_count self.now.own) }
-        ensures { image.new ≡ from_blocks self.now.own.width (block_w self.now.own) (block_h self.now.own) image.old image.old }
-    {
-        let w = self.own.width;
-        let h = self.own.height;
-        scratch.copy_from_slice(image);
-        utils::blocks::from_blocks(scratch, image, w, h, w / 8, h / 8);
-    }
-
-    // Block i of the image, and then the whole image reordered.
-    fn image_block(&self, image: &mut [f32], scratch: &mut [f32], i: usize)
-        requires { (i * 64 + 64 ≤ px_count self.now.own) × (length image.old ≡ px_count self.now.own) × (length scratch.old ≡ px_count self.now.own) }
-        ensures { image.new ≡ image_block (as_coef self.now) i image.old }
-    {
-        self.dequantise(image, i);
-        utils::dct::idct_block(image, i);
-        self.reorder(image, scratch);
-    }
-
-    // The channel's pixels in its own sides. Above width 8 the image is reordered after each block.
-    // Rules out: the image reordered once, after the last block, and values that `image` held before.
-    fn image_data(&self, image: &mut [f32], scratch: &mut [f32])
-        requires { (length image.old ≡ px_count self.now.own) × (length scratch.old ≡ px_count self.now.own) }
-        ensures { image.new ≡ image_data (as_coef self.now) }
-    {
-        image.fill(0.0);
-        for i in 0..self.block_count() {
-            self.image_block(image, scratch, i);
-        }
-    }
-
-    // The saved coefficients at the start: half sum × quantiser.
-    // Rules out: the inverse transform of those values, and a value changed past the channel's own.
-    pub fn init_dct_target(&self, out: &mut [f32])
-        requires { px_count self.now.own ≤ length out.old }
-        ensures { out.new ≡ init_dct_target (as_coef self.now) out.old }
-    {
-        for i in 0..self.block_count() {
-            self.dequantise(out, i);
-        }
-    }
-
-    // The channel's pixels in its own sides, reordered once: T.81's placement.
-    fn image_once(&self, image: &mut [f32], scratch: &mut [f32])
-        requires { (length image.old ≡ px_count self.now.own) × (length scratch.old ≡ px_count self.now.own) }
-        ensures { image.new ≡ image_once (as_coef self.now) }
-    {
-        image.fill(0.0);
-        self.init_dct_target(image);
-        utils::dct::idct_blocks(image, self.block_count());
-        self.reorder(image, scratch);
-    }
-
-    // Either image. Rules out: with `Once` a reordering after each block, and none with `Each`.
-    pub fn image_of(&self, image: &mut [f32], scratch: &mut [f32], reorder: Reorder)
-        requires { (length image.old ≡ px_count self.now.own) × (length scratch.old ≡ px_count self.now.own) }
-        ensures { image.new ≡ image_of reorder (as_coef self.now) }
-    {
-        match reorder {
-            Reorder::Each => self.image_data(image, scratch),
-            Reorder::Once => self.image_once(image, scratch),
         }
     }
 }

@@ -1,5 +1,6 @@
 -- What push and move do at each place, and that they keep lengths.
-use Rattle.std.proofs.Common.{◌≡◌, ℕ, zero, suc, ◌<◌, List, length, sym, refl, ap, ◌∙◌, not-suc-le-zero, arith, length-set, ext_get_or}
+use Rattle.std.proofs.Common.{◌≡◌, ℕ, zero, suc, ◌-◌, ◌<◌, ◌≤◌, List, ◌++◌, take, drop, length, length-append, length-take, length-drop, sym, refl, ap, ◌∙◌, not-suc-le-zero, arith, length-set, ext_get_or}
+use Rattle.std.proofs.lemmas.List.{get_or-take, get_or-drop, get_or_append_left, get_or-append_right}
 use lib.Ieee.{Float, nan, ne}
 use Rattle.fold.specs.Fold.{upto}
 use Rattle.fold.proofs.Loops.{upto-keeps}
@@ -61,3 +62,22 @@ module _ (factor : Float) (s : Planes) (h : length s.plane ≡ length s.prior) w
       ext_get_or nan t.prior (pushed factor s).prior (d.prior_length ∙ sym (push_prior_length factor s))
       (λ k l. let b : k < length s.prior = omega (arith, d.prior_length) in d.new-prior k (omega (arith, h, b)) ∙ sym (values_at (length s.prior) (new_prior s) k b)) in
       λ i. record { plane = plane i; prior = prior i }
+
+-- pushed on the first n places, with the others as they were
+pub pushed_front : (factor : Float) (plane prior xs ys : List Float) (n : ℕ) → n ≤ length plane
+    → PushedTo factor (record { plane = take n plane; prior = prior }) n (record { plane = xs; prior = ys })
+    → PushedTo factor (record { plane = plane; prior = prior }) n (record { plane = xs ++ drop n plane; prior = ys })
+pushed_front factor plane prior xs ys n h d =
+    let long : length xs ≡ n = omega (arith, d.plane_length, length-take {A = Float}) in
+    record {
+      new-plane = λ k l.
+          get_or_append_left xs (drop n plane) nan k (omega arith) ∙ d.new-plane k l
+          ∙ ap (λ (v : Float). mul_add factor (v ⊖ val prior k) v) (get_or-take n plane k nan l);
+      new-prior = λ k l. d.new-prior k l ∙ get_or-take n plane k nan l;
+      old_plane = λ k l.
+          get_or-append_right xs (drop n plane) n k nan long l ∙ get_or-drop n plane (k - n) nan
+          ∙ ap (λ (i : ℕ). val plane i) (omega arith);
+      old_prior = d.old_prior;
+      plane_length = omega (arith, length-append {A = Float}, length-drop {A = Float});
+      prior_length = d.prior_length;
+    }

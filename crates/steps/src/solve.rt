@@ -10,11 +10,12 @@ pub struct Constants {
     pub term: f32,
     pub factor: f32,
     pub step_size: f32,
-    // Kept: the weight of the second-order terms, as the Rust's comments call them: no field by its number.
+    // Kept: `second` numbers no field: it is the weight of the second-order terms, and the first-order ones have none, so that an array would be no plainer.
     pub second: f32,
 }
 
 // next_term = f32::midpoint(1.0, mul_add!(4.0, term.powi(2), 1.0).sqrt()).
+#[tactic(auto, unfolding(crate::specs::Solve::next_term))]
 fn next_term(term: f32) -> f32
     ensures { result ≡ next_term term }
 {
@@ -38,6 +39,7 @@ fn mark_before(step: u32) -> usize
 }
 
 // The term of a step, counted from 0: from the last mark on, as many turns as steps are left.
+#[tactic(auto, using(fold::proofs::Loops::upto_more, fold::proofs::Loops::upto_none, crate::proofs::Marks::mark_at), unfolding(crate::specs::Solve::term_of))]
 fn term_of(step: u32) -> f32
     ensures { result ≡ term_of step }
 {
@@ -58,6 +60,7 @@ pub fn root_of(n: u32) -> f32
 }
 
 // The constants of a step, from the sheet and the step's number alone. Rules out: a term carried one step too far, and a step size of the own sides.
+#[tactic(auto, unfolding(crate::specs::Solve::constants))]
 pub fn step_constants(w: u32, h: u32, iterations: u32, weight: f32, step: u32) -> Constants
     requires { (w ≤ 512) × (h ≤ 512) }
     ensures { result ≡ constants w h iterations weight step }
@@ -75,18 +78,16 @@ pub fn step_constants(w: u32, h: u32, iterations: u32, weight: f32, step: u32) -
 
 // The first n places of push, in one pass and with no further buffer: both values of a place are read once, then both are written once.
 // Rules out: a prior taken after the plane is written, and a plane made from a prior that lags by one place.
+#[tactic(auto, using(crate::proofs::Laws::pushed_front))]
 pub fn push_places(plane: &mut [f32], prior: &mut [f32], factor: f32, n: usize)
-    requires { (n ≤ length plane.old) × (length plane.old ≡ length prior.old) }
+    requires { (n ≤ length plane.old) × (n ≤ length prior.old) }
     ensures { PushedTo factor (record { plane = plane.old; prior = prior.old }) n
         (record { plane = plane.new; prior = prior.new }) }
 {
-    // Kept: tried with a `zip` of two `iter_mut`, and the proof didn't close: after it nothing is known of the values that were stored.
-    for i in 0..n {
-        let old_plane = plane[i];
-        let old_prior = prior[i];
-        let new_plane = float::mul_add_rounded(factor, old_plane - old_prior, old_plane);
-        plane[i] = new_plane;
-        prior[i] = old_plane;
+    for (i, x) in plane[..n].iter_mut().enumerate() {
+        let old = *x;
+        *x = float::mul_add_rounded(factor, old - prior[i], old);
+        prior[i] = old;
     }
 }
 

@@ -5,6 +5,7 @@ ghost use Rattle.steps.specs.Step.{data_alpha, gradient_norm, moved, moved_part}
 use crate::solve::Constants;
 
 // The data term's alpha: pweight * 2.0 * 255.0 * 2.0_f32.sqrt(). Rules out: the factors in another order, and one constant in their place.
+#[tactic(auto, unfolding(crate::specs::Step::data_alpha))]
 pub fn data_alpha(weight: f32) -> f32
     ensures { result ≡ data_alpha weight }
 {
@@ -12,6 +13,7 @@ pub fn data_alpha(weight: f32) -> f32
 }
 
 // The Euclidean norm of the objective gradient.
+#[tactic(auto, using(fold::proofs::Loops::upto_more, fold::proofs::Loops::upto_none), unfolding(crate::specs::Step::gradient_norm))]
 fn gradient_norm(gradient: &[f32]) -> f32
     ensures { result ≡ gradient_norm gradient.now }
 {
@@ -24,6 +26,7 @@ fn gradient_norm(gradient: &[f32]) -> f32
 
 // Job 4: plane = step_size.mul_add(-(gradient / norm), plane), if the norm isn't 0.
 // Rules out: a move up the gradient, and a NaN norm taken for 0.
+#[tactic(auto, using(fold::proofs::Loops::upto_more, fold::proofs::Loops::upto_none), unfolding(crate::specs::Step::moved, crate::specs::Step::moved_by))]
 pub fn move_plane(plane: &mut [f32], gradient: &[f32], k: Constants)
     requires { length plane.old ≡ length gradient.now }
     ensures { plane.new ≡ moved k.step_size gradient.now plane.old }

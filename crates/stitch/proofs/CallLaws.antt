@@ -3,19 +3,18 @@ use Prim.Native.Nat.{ℕ, ◌+◌, ◌^◌, ◌≤◌, ◌<◌}
 use mathlib.Core.Path.{◌≡◌, refl, sym, ap, ◌∙◌}
 use mathlib.Core.List.{List, [], ◌∷◌, ◌++◌, append-nil}
 use mathlib.Core.Bool.{Bool, true, false, cond, ◌&&◌}
-use mathlib.Core.Logic.{◌⊎◌, ⊎_elim}
+use mathlib.Core.Logic.{⊎_elim}
 use native.Mathlib.Omega.{arith}
 use lib.Dec.{eqb, leb}
 use lib.IntN.{ℤ}
-use lib.ListN.{length, take, drop, drop_of_length-le}
+use lib.ListN.{length, drop, drop_of_length-le}
 use lib.Seq.{sets, sets-eq}
 use borrow.Author.Tests.{eq-eqb, ne_eqb, leb-true}
 use Rattle.digits.specs.Written.{decimal}
 use Rattle.digits.proofs.Both.{both_left}
 use Rattle.std.specs.Prelude.{Result, Ok, Err, Some}
 use Rattle.contents.specs.declared.Sheet.{Sheet}
-use Rattle.contents.specs.Sheets.{lent, channels_of}
-use Rattle.contents.specs.Hold.{hold_at}
+use Rattle.contents.specs.Sheets.{lent}
 use Rattle.contents.specs.Legal.{LegalSheet, LegalBlocks, LegalMarks}
 use Rattle.refusal.specs.Refusal.{number_of}
 use Rattle.stitch.specs.declared.Side.{Side}
@@ -32,15 +31,14 @@ use Rattle.grammar.proofs.PrefixLaws.{at-most}
 use Rattle.stitch.specs.declared.Fit.{Fit}
 use Rattle.stitch.specs.declared.Refused as faults
 use Rattle.stitch.specs.Numbers.{Numbers, which_of, numbers}
-use Rattle.seam.specs.Seam.{same_header, same_letters, same_holds, same_channels, same_sheet, same_tables, seam}
+use Rattle.seam.specs.Seam.{same_sheet, same_numbers, seam}
 use Rattle.stitch.specs.Stitched.{stitched_sheet, stitched_held}
-use Rattle.seam.specs.Used.{used_of, holds_used, same_used}
 use Rattle.stitch.specs.Bytes.{stitch_text}
 use Rattle.stitch.specs.Calls.{whole, Stitch, output_of, joining, stitching, measuring, sized, answering, out_after, Stitches}
 use Rattle.stitch.specs.Calls.Stitch.{Text, Fault}
 use Rattle.stitch.specs.Judging.{Listed, Outlines, outlining, neither, judging, fit_of}
 use Rattle.stitch.proofs.TextLaws.{as_copied}
-use Rattle.stitch.proofs.LegalLaws.{Fits, header_fits, sheets_fit, used_is, pair, stitched_legal, stitched_blocks, stitched-marks}
+use Rattle.stitch.proofs.LegalLaws.{Fits, sheets_fit, pair, stitched_legal, stitched_blocks, stitched-marks}
 
 -- A text's outline
 
@@ -76,43 +74,21 @@ module _ (side : Side) (text : List ℕ) (l h a b : List ℤ) (before after bits
 
 -- Whether they fit
 
-holds_are : (n : ℕ) (s t : Sheet) → (n ≡ 1) ⊎ (n ≡ 3) → holds_used n s t ≡ same_holds n s t
-holds_are n s t x = ⊎_elim (λ e. rw e refl) (λ e. rw e (three (eqb (hold_at s 0) (hold_at t 0)) (eqb (hold_at s 1) (hold_at t 1)) (eqb (hold_at s 2) (hold_at t 2)))) x
-  where
-    three : (a b c : Bool) → (a && (b && c)) ≡ ((a && b) && c)
-    three true b c = refl
-    three false b c = refl
-
-used_same : (s t : Sheet) → (s.header.channels ≡ 1) ⊎ (s.header.channels ≡ 3) → same_used s t ≡ same_sheet s t
-used_same s t x = two (same_header s.header t.header) refl
-  where
-    two : (b : Bool) → same_header s.header t.header ≡ b
-        → (b && (same_letters s.settings t.settings
-        && (holds_used s.header.channels s t && same_channels s.header.width t.header.width (used_of s.header.channels s) (used_of s.header.channels t))))
-        ≡ (b && (same_letters s.settings t.settings && (same_holds s.header.channels s t && same_channels s.header.width t.header.width (channels_of s) (channels_of t))))
-    two false e = refl
-    two true e =
-        let n = header_fits s.header t.header e in
-        let a = holds_are s.header.channels s t x in
-        let b = used_is s.header.channels s x in
-        let c = used_is s.header.channels t x ∙ ap (λ (k : ℕ). take k (t.first ∷ t.second ∷ t.third ∷ [])) n in
-        λ i. same_letters s.settings t.settings && (a i && same_channels s.header.width t.header.width (b i) (c i))
-
 -- equal ends need no look
-itself : (xs : List ℕ) → same_tables xs xs ≡ true
+pub itself : (xs : List ℕ) → same_numbers xs xs ≡ true
 itself [] = refl
 itself (x ∷ xs) = rw (eq-eqb x x refl) (itself xs)
 
-tables_front : (xs ys zs : List ℕ) → length xs ≡ length ys → same_tables (xs ++ zs) (ys ++ zs) ≡ same_tables xs ys
+tables_front : (xs ys zs : List ℕ) → length xs ≡ length ys → same_numbers (xs ++ zs) (ys ++ zs) ≡ same_numbers xs ys
 tables_front [] [] zs e = itself zs
 tables_front [] (y ∷ ys) zs e = absurd (omega arith)
 tables_front (x ∷ xs) [] zs e = absurd (omega arith)
 tables_front (x ∷ xs) (y ∷ ys) zs e = ap (λ (b : Bool). eqb x y && b) (tables_front xs ys zs (omega arith))
 
-tables_are : (z xs ys : List ℕ) → length xs ≡ length ys → length xs ≤ length z → same_tables (sets z 0 xs) (sets z 0 ys) ≡ same_tables xs ys
+tables_are : (z xs ys : List ℕ) → length xs ≡ length ys → length xs ≤ length z → same_numbers (sets z 0 xs) (sets z 0 ys) ≡ same_numbers xs ys
 tables_are z xs ys e h =
-    (λ i. same_tables (sets-eq xs z 0 (omega arith) i) (sets-eq ys z 0 (omega arith) i))
-    ∙ ap (λ (n : ℕ). same_tables (xs ++ drop (0 + length xs) z) (ys ++ drop (0 + n) z)) (sym e)
+    (λ i. same_numbers (sets-eq xs z 0 (omega arith) i) (sets-eq ys z 0 (omega arith) i))
+    ∙ ap (λ (n : ℕ). same_numbers (xs ++ drop (0 + length xs) z) (ys ++ drop (0 + n) z)) (sym e)
     ∙ tables_front xs ys (drop (0 + length xs) z) e
 
 -- no legal text is nearly as long as a length may be
@@ -128,11 +104,8 @@ module _ (left right : List ℕ) (c d : Contents) (p : read_text whole left ≡ 
   legal_right : LegalSheet whole d.sheet d.held.lent
   legal_right = legal whole right d.sheet d.held q
 
-  used_seam : same_used c.sheet d.sheet ≡ same_sheet c.sheet d.sheet
-  used_seam = used_same c.sheet d.sheet legal_left.header.channels
-
   seam_tables : (z : List ℕ) → length z ≡ 192 → same_sheet c.sheet d.sheet ≡ true
-      → same_tables (sets z 0 c.held.lent.tables) (sets z 0 d.held.lent.tables) ≡ same_tables c.held.lent.tables d.held.lent.tables
+      → same_numbers (sets z 0 c.held.lent.tables) (sets z 0 d.held.lent.tables) ≡ same_numbers c.held.lent.tables d.held.lent.tables
   seam_tables z n e =
       let f = sheets_fit c.sheet d.sheet e in
       let a = legal_left.tables_count in
@@ -144,7 +117,7 @@ module _ (left right : List ℕ) (c d : Contents) (p : read_text whole left ≡ 
   module _ (e : seam c d ≡ true) (w : c.sheet.header.width + d.sheet.header.width ≤ 512) where
     pub fits : Fits c.sheet d.sheet
     unfolding seam
-    fits = sheets_fit c.sheet d.sheet (both_left (same_sheet c.sheet d.sheet) (same_tables c.held.lent.tables d.held.lent.tables) e)
+    fits = sheets_fit c.sheet d.sheet (both_left (same_sheet c.sheet d.sheet) (same_numbers c.held.lent.tables d.held.lent.tables) e)
 
     blocks_left : LegalBlocks c.held
     blocks_left = legal_blocks whole left c.sheet c.held p
@@ -270,9 +243,9 @@ module _ (left right z a b : List ℕ) (n : length z ≡ 192) (s t : Sheet) wher
       (λ (x : Bool). cond x (cond (leb (c.sheet.header.width + d.sheet.header.width) 512) (Ok (record { left = c.sheet; right = d.sheet })) (Err (neither 2))) (Err (neither 16)))
       seam_is
     where
-      by : (x : Bool) → same_sheet c.sheet d.sheet ≡ x → (same_used c.sheet d.sheet && same_tables a b) ≡ (same_sheet c.sheet d.sheet && same_tables c.held.lent.tables d.held.lent.tables)
-      by false e = rw (used_seam left right c d f g, e)
-      by true e = rw (used_seam left right c d f g, e) ((λ i. same_tables (y i) (u i)) ∙ seam_tables left right c d f g z n e)
+      by : (x : Bool) → same_sheet c.sheet d.sheet ≡ x → (same_sheet c.sheet d.sheet && same_numbers a b) ≡ (same_sheet c.sheet d.sheet && same_numbers c.held.lent.tables d.held.lent.tables)
+      by false e = rw e
+      by true e = rw e ((λ i. same_numbers (y i) (u i)) ∙ seam_tables left right c d f g z n e)
 
-      seam_is : (same_used c.sheet d.sheet && same_tables a b) ≡ seam c d
+      seam_is : (same_sheet c.sheet d.sheet && same_numbers a b) ≡ seam c d
       seam_is = by (same_sheet c.sheet d.sheet) refl

@@ -13,6 +13,7 @@ use borrow.Author.Tests.{eqb-true, ne_eqb, ltb-true, ltb-false}
 use Rattle.contents.specs.declared.Header.{Header}
 use Rattle.contents.specs.declared.Channel.{Channel}
 use Rattle.contents.specs.declared.Sheet.{Sheet}
+use Rattle.contents.proofs.ThreeLaws.{three_of}
 use Rattle.contents.specs.Sheets.{Lent, Marked, Held, no_channel, channel_at, levels_to, channels_of}
 use Rattle.contents.specs.Hold.{measured, LegalHold}
 use Rattle.std.specs.Prelude.{Option, Some, None}
@@ -22,10 +23,9 @@ use Rattle.grammar.specs.Written.{drop_held}
 use Rattle.grammar.proofs.LegalLaws.{blocks}
 use Rattle.grammar.proofs.MarkLaws.{Place}
 use Rattle.grammar.proofs.RoundTrip.{small_mark}
-use Rattle.seam.specs.Seam.{same_smoothing, same_data, same_counts, same_shape, same, same_header, same_letters, same_holds, same_channel, same_channels, same_sheet}
+use Rattle.seam.specs.Seam.{same_weights, same_numbers, same_shape, same, same_header, same_letters, same_holds, same_channel, same_channels, same_sheet}
 use Rattle.contents.specs.Marks.{blocks_in}
 use Rattle.stitch.specs.Stitched.{wider, besides, stitched_sheet, rows_in, columns_in, weave, woven, moved_by, stitched_held}
-use Rattle.seam.specs.Used.{used_of}
 use Rattle.stitch.specs.Calls.{whole}
 use Rattle.stitch.proofs.BlockLaws.{Good, good_woven}
 use Rattle.stitch.proofs.MarkTextLaws.{AllSmall, kept}
@@ -84,10 +84,11 @@ cells_all : (c : Channel) → Whole c → 64 * blocks_in c ≡ c.width * c.heigh
 cells_all c w = blocks c.width c.height w.width w.height
 
 abbrev three : Sheet → List Channel
-three s = s.first ∷ s.second ∷ s.third ∷ []
+three s = channel_at s 0 ∷ channel_at s 1 ∷ channel_at s 2 ∷ []
 
-pub used_is : (n : ℕ) (s : Sheet) → Number n → used_of n s ≡ take n (three s)
-used_is n s x = ⊎_elim (λ e. rw e refl) (λ e. rw e refl) x
+-- the channels in use, written out
+used_is : (s : Sheet) → length s.channels ≡ 3 → take s.header.channels (three s) ≡ channels_of s
+used_is s e = ap (take s.header.channels) (three_of no_channel s.channels e)
 
 pairs_are : (n : ℕ) (s t : Sheet) → Number n → take n (three (stitched_sheet s t)) ≡ pairs_of (take n (three s)) (take n (three t))
 pairs_are n s t x = ⊎_elim (λ e. rw e refl) (λ e. rw e refl) x
@@ -97,13 +98,13 @@ total_is n s x w =
     ⊎_elim (λ e. one (subst (λ (k : ℕ). (j : ℕ) → j < k → Whole (channel_at s j)) e w) e) (λ e. all (subst (λ (k : ℕ). (j : ℕ) → j < k → Whole (channel_at s j)) e w) e) x
   where
     one : ((j : ℕ) → j < 1 → Whole (channel_at s j)) → n ≡ 1 → 64 * total (take n (three s)) ≡ levels_to s n
-    one w e = let a = cells_all s.first (w 0 (omega arith)) in rw e (omega (arith, a))
+    one w e = let a = cells_all (channel_at s 0) (w 0 (omega arith)) in rw e (omega (arith, a))
 
     all : ((j : ℕ) → j < 3 → Whole (channel_at s j)) → n ≡ 3 → 64 * total (take n (three s)) ≡ levels_to s n
     all w e =
-        let a = cells_all s.first (w 0 (omega arith)) in
-        let b = cells_all s.second (w 1 (omega arith)) in
-        let c = cells_all s.third (w 2 (omega arith)) in
+        let a = cells_all (channel_at s 0) (w 0 (omega arith)) in
+        let b = cells_all (channel_at s 1) (w 1 (omega arith)) in
+        let c = cells_all (channel_at s 2) (w 2 (omega arith)) in
         rw e (omega (arith, a, b, c))
 
 -- What two sheets have in common that fit
@@ -148,7 +149,7 @@ pub record Fits (s t : Sheet) : Type 0 where
 
 pub header_fits : (h k : Header) → same_header h k ≡ true → h.channels ≡ k.channels
 header_fits h k e =
-    let q = both_left (same_shape h k) (same_counts h k && (same_smoothing h k && same_data h k)) e in
+    let q = both_left (same_shape h k) (same_numbers h.iterations k.iterations && (same_weights h.smoothing k.smoothing && same_weights h.data_weights k.data_weights)) e in
     let g = five (eqb h.height k.height) (eqb h.channels k.channels) (same h.joint k.joint) (eqb h.picture_height k.picture_height) (eqb h.picture_width h.width) q in
     eqb-true h.channels k.channels g.second
 
@@ -160,7 +161,7 @@ sheets_fit s t e =
     let A = same_holds h.channels s t in
     let B = same_letters s.settings t.settings in
     let o = both_left (same_header h k) (B && (A && C)) e in
-    let q = both_left (same_shape h k) (same_counts h k && (same_smoothing h k && same_data h k)) o in
+    let q = both_left (same_shape h k) (same_numbers h.iterations k.iterations && (same_weights h.smoothing k.smoothing && same_weights h.data_weights k.data_weights)) o in
     let g = five (eqb h.height k.height) (eqb h.channels k.channels) (same h.joint k.joint) (eqb h.picture_height k.picture_height) (eqb h.picture_width h.width) q in
     record {
       height = eqb-true h.height k.height g.first;
@@ -175,20 +176,20 @@ same_each w v n s t x e =
     ⊎_elim (λ q. one n q (subst (λ (k : ℕ). same_channels w v (take k (three s)) (take k (three t)) ≡ true) q e)) (λ q. all n q (subst (λ (k : ℕ). same_channels w v (take k (three s)) (take k (three t)) ≡ true) q e)) x
   where
     one : (n : ℕ) → n ≡ 1 → same_channels w v (take 1 (three s)) (take 1 (three t)) ≡ true → (j : ℕ) → j < n → Same w v (channel_at s j) (channel_at t j)
-    one n q e zero h = same_is w v s.first t.first (both_left (same_channel w v s.first t.first) true e)
+    one n q e zero h = same_is w v (channel_at s 0) (channel_at t 0) (both_left (same_channel w v (channel_at s 0) (channel_at t 0)) true e)
     one n q e (suc j) h = absurd (omega arith)
 
     all : (n : ℕ) → n ≡ 3 → same_channels w v (take 3 (three s)) (take 3 (three t)) ≡ true → (j : ℕ) → j < n → Same w v (channel_at s j) (channel_at t j)
-    all n q e zero h = same_is w v s.first t.first (both_left (same_channel w v s.first t.first) (same_channels w v (s.second ∷ s.third ∷ []) (t.second ∷ t.third ∷ [])) e)
+    all n q e zero h = same_is w v (channel_at s 0) (channel_at t 0) (both_left (same_channel w v (channel_at s 0) (channel_at t 0)) (same_channels w v ((channel_at s 1) ∷ (channel_at s 2) ∷ []) ((channel_at t 1) ∷ (channel_at t 2) ∷ [])) e)
     all n q e (suc zero) h =
-        same_is w v s.second t.second
-        (both_left (same_channel w v s.second t.second) (same_channels w v (s.third ∷ []) (t.third ∷ []))
-        (both_right (same_channel w v s.first t.first) (same_channels w v (s.second ∷ s.third ∷ []) (t.second ∷ t.third ∷ [])) e))
+        same_is w v (channel_at s 1) (channel_at t 1)
+        (both_left (same_channel w v (channel_at s 1) (channel_at t 1)) (same_channels w v ((channel_at s 2) ∷ []) ((channel_at t 2) ∷ []))
+        (both_right (same_channel w v (channel_at s 0) (channel_at t 0)) (same_channels w v ((channel_at s 1) ∷ (channel_at s 2) ∷ []) ((channel_at t 1) ∷ (channel_at t 2) ∷ [])) e))
     all n q e (suc (suc zero)) h =
-        same_is w v s.third t.third
-        (both_left (same_channel w v s.third t.third) true
-        (both_right (same_channel w v s.second t.second) (same_channels w v (s.third ∷ []) (t.third ∷ []))
-        (both_right (same_channel w v s.first t.first) (same_channels w v (s.second ∷ s.third ∷ []) (t.second ∷ t.third ∷ [])) e)))
+        same_is w v (channel_at s 2) (channel_at t 2)
+        (both_left (same_channel w v (channel_at s 2) (channel_at t 2)) true
+        (both_right (same_channel w v (channel_at s 1) (channel_at t 1)) (same_channels w v ((channel_at s 2) ∷ []) ((channel_at t 2) ∷ []))
+        (both_right (same_channel w v (channel_at s 0) (channel_at t 0)) (same_channels w v ((channel_at s 1) ∷ (channel_at s 2) ∷ []) ((channel_at t 1) ∷ (channel_at t 2) ∷ [])) e)))
     all n q e (suc (suc (suc j))) h = absurd (omega arith)
 
 beside_each : (n : ℕ) (s t : Sheet) → Number n → ((j : ℕ) → j < n → Beside (channel_at s j) (channel_at t j)) → AllBeside (take n (three s)) (take n (three t))
@@ -229,11 +230,11 @@ either_channel false a b c d = refl
 
 pub channel-at : (s t : Sheet) (j : ℕ) → channel_at (stitched_sheet s t) j ≡ besides (channel_at s j) (channel_at t j)
 channel-at s t j =
-    ap (λ (c : Channel). cond (eqb j 0) (besides s.first t.first) c) (either_channel (eqb j 1) s.second s.third t.second t.third)
-    ∙ either_channel (eqb j 0) s.first (cond (eqb j 1) s.second s.third) t.first (cond (eqb j 1) t.second t.third)
+    ap (λ (c : Channel). cond (eqb j 0) (besides (channel_at s 0) (channel_at t 0)) c) (either_channel (eqb j 1) (channel_at s 1) (channel_at s 2) (channel_at t 1) (channel_at t 2))
+    ∙ either_channel (eqb j 0) (channel_at s 0) (cond (eqb j 1) (channel_at s 1) (channel_at s 2)) (channel_at t 0) (cond (eqb j 1) (channel_at t 1) (channel_at t 2))
 
 -- a place is one of three channels
-third_at : (s : Sheet) (c : ℕ) → channel_at s (suc (suc c)) ≡ s.third
+third_at : (s : Sheet) (c : ℕ) → channel_at s (suc (suc c)) ≡ (channel_at s 2)
 third_at s c = rw (ne_eqb (suc (suc c)) 0 (λ e. omega arith), ne_eqb (suc (suc c)) 1 (λ e. omega arith))
 
 small_marks : (s : Sheet) (b : Lent) → LegalSheet whole s b → (before ms : List Marked) → LegalMarks s before ms → AllSmall ms
@@ -254,7 +255,7 @@ module _ (s : Sheet) (h : Held) (l : LegalSheet whole s h.lent) (b : LegalBlocks
   whole_at j p = record { width = (l.channel j p).width.whole; height = (l.channel j p).height.whole }
 
   held_all : HeldFor (channels_of s) h
-  held_all = held_for (channels_of s) h counted (omega (arith, total_is s.header.channels s number whole_at, l.lows_count, b.kinds_count))
+  held_all = held_for (channels_of s) h counted (omega (arith, ap (λ (cs : List Channel). 64 * total cs) (sym (used_is s l.three_channels)), total_is s.header.channels s number whole_at, l.lows_count, b.kinds_count))
 
 -- all channels of a sheet are whole blocks wide: those that are not there have no width
 whole_width : (s : Sheet) (b : Lent) → LegalSheet whole s b → (c : ℕ) → c < 3 → (channel_at s c).width % 8 ≡ 0
@@ -273,7 +274,13 @@ module _ (s t : Sheet) (h k : Held) (l : LegalSheet whole s h.lent) (b : LegalBl
   pub each_same : (j : ℕ) → j < s.header.channels → Same s.header.width t.header.width (channel_at s j) (channel_at t j)
   each_same =
       same_each s.header.width t.header.width s.header.channels s t (number s h l b)
-      (ap (λ (n : ℕ). same_channels s.header.width t.header.width (channels_of s) (take n (three t))) f.channels ∙ f.each)
+      (ap (λ (n : ℕ). same_channels s.header.width t.header.width (take s.header.channels (three s)) (take n (three t))) f.channels
+      ∙ (λ i. same_channels s.header.width t.header.width (used_is s l.three_channels i) (used_is t m.three_channels i))
+      ∙ f.each)
+
+  -- both lists of channels in use, written out
+  both_used : take s.header.channels (three t) ≡ channels_of t
+  both_used = ap (λ (n : ℕ). take n (three t)) f.channels ∙ used_is t m.three_channels
 
   there : (j : ℕ) → j < s.header.channels → j < t.header.channels
   there j p = omega (arith, f.channels)
@@ -289,10 +296,11 @@ module _ (s t : Sheet) (h k : Held) (l : LegalSheet whole s h.lent) (b : LegalBl
 
   all_beside : AllBeside (channels_of s) (channels_of t)
   all_beside =
-      subst (λ (n : ℕ). AllBeside (channels_of s) (take n (three t))) f.channels (beside_each s.header.channels s t (number s h l b) beside_at)
+      subst (λ (cs : List Channel). AllBeside cs (channels_of t)) (used_is s l.three_channels)
+      (subst (λ (ds : List Channel). AllBeside (take s.header.channels (three s)) ds) both_used (beside_each s.header.channels s t (number s h l b) beside_at))
 
   right_pairs : channels_of (stitched_sheet s t) ≡ pairs_of (channels_of s) (channels_of t)
-  right_pairs = pairs_are s.header.channels s t (number s h l b) ∙ ap (λ (n : ℕ). pairs_of (channels_of s) (take n (three t))) f.channels
+  right_pairs = pairs_are s.header.channels s t (number s h l b) ∙ (λ i. pairs_of (used_is s l.three_channels i) (both_used i))
 
   both_columns : (c : ℕ) → columns_in (channel_at (stitched_sheet s t) c) ≡ columns_in (channel_at s c) + columns_in (channel_at t c)
   both_columns c = ap columns_in (channel-at s t c) ∙ omega (arith, every_width s h.lent l c, every_width t k.lent m c)
@@ -300,8 +308,6 @@ module _ (s t : Sheet) (h k : Held) (l : LegalSheet whole s h.lent) (b : LegalBl
   pub pair : LegalMarks t [] k.marks → Pair s t h k
   pair n =
       record {
-        left = used_is s.header.channels s (number s h l b);
-        right = used_is s.header.channels t (number s h l b) ∙ ap (λ (n : ℕ). take n (three t)) f.channels;
         both = right_pairs;
         beside = all_beside;
         held_left = held_all s h l b;
@@ -342,17 +348,15 @@ module _ (s t : Sheet) (h k : Held) (l : LegalSheet whole s h.lent) (b : LegalBl
               shown_width = record { low = omega (arith, a.shown_width.low); top = omega (arith, a.shown_width.top, c.shown_width.top) };
               shown_height = a.shown_height;
               channels = a.channels;
-              iterations0 = a.iterations0;
-              iterations1 = a.iterations1;
-              iterations2 = a.iterations2;
-              smoothing0 = a.smoothing0;
-              smoothing1 = a.smoothing1;
-              smoothing2 = a.smoothing2;
-              data0 = a.data0;
-              data1 = a.data1;
-              data2 = a.data2;
+              three_iterations = a.three_iterations;
+              three_smoothing = a.three_smoothing;
+              three_data = a.three_data;
+              iterations = a.iterations;
+              smoothing = a.smoothing;
+              data_weights = a.data_weights;
             };
         hold = legal_hold s.header t.header s.settings.hold l.hold;
+        three_channels = refl;
         channel = legal_at;
         spare = none;
         lows_count = o.low_count ∙ levels_all;

@@ -2,37 +2,34 @@
 use Prim.Native.Nat.{ℕ, zero, suc, ◌+◌, ◌<◌, ◌≤◌}
 use mathlib.Core.Path.{◌≡◌, refl, sym, ap, ◌∙◌}
 use mathlib.Core.List.{List, [], ◌∷◌, ◌++◌, append-nil, append_assoc}
+use mathlib.Core.Logic.{◌⊎◌, ⊎_elim}
 use native.Mathlib.Omega.{arith}
 use lib.ListN.{length, take, length-append, length-take}
-use borrow.Author.Tests.{eq-eqb, ne_eqb}
 use Rattle.text.specs.declared.pieces.Line.{Line}
 use Rattle.text.specs.Pieces.{split, before}
 use Rattle.text.specs.Cursor.{IsLine}
-use Rattle.text.specs.Numbers.{number_at}
 use Rattle.text.proofs.PieceLaws.{before_le, before_take}
 use Rattle.lines.specs.Lines.{mark_of}
+use Rattle.contents.specs.declared.Channel.{Channel}
 use Rattle.contents.specs.declared.Sheet.{Sheet}
 use Rattle.digits.specs.Written.{decimal}
 use Rattle.copying.specs.Parts.{up_to, past}
 use Rattle.stitch.specs.Stitched.{moved_by}
-use Rattle.stitch.specs.Bytes.{front_mark, moved_line, moved_lines, head_left, said_lines, last_text, pair_text, pair_left, pair_right, pairs_text, open_text, stitch_text}
-use Rattle.seam.specs.Used.{used_of}
+use Rattle.stitch.specs.Bytes.{front_mark, moved_line, moved_lines, head_left, said_lines, last_text, pairs_text, open_text, stitch_text}
+use Rattle.contents.specs.Sheets.{channels_of}
 
 -- The mark of a text's first line
 
-module _ (text : List ℕ) (line : Line) (l : IsLine text 0 line) where
-  pub line_inside : line.end ≡ length (take line.end text)
-  line_inside = omega (arith, l.end, before_le 10 text, length-take {A = ℕ} line.end text)
+module _ (text : List ℕ) (line : Line) (l : IsLine text line) where
+  pub line_inside : line.length ≡ length (take line.length text)
+  line_inside = omega (arith, l.long, before_le 10 text, length-take {A = ℕ} line.length text)
 
-  line_row : take line.end text ≡ before 10 text
-  line_row = let e : line.end ≡ length (before 10 text) = omega (arith, l.end) in ap (λ (k : ℕ). take k text) e ∙ before_take 10 text
+  line_row : take line.length text ≡ before 10 text
+  line_row = let e : line.length ≡ length (before 10 text) = omega (arith, l.long) in ap (λ (k : ℕ). take k text) e ∙ before_take 10 text
 
-  pub line_mark : (c r k : ℕ) → c ≡ number_at (split 9 (take line.end text)) 1 → r ≡ number_at (split 9 (take line.end text)) 2 → k ≡ number_at (split 9 (take line.end text)) 3
-      → record { channel = c; row = r; column = k } ≡ front_mark text
-  unfolding front_mark mark_of
-  line_mark c r k e f g =
-      (λ i. record { channel = e i; row = f i; column = g i })
-      ∙ (λ i. record { channel = number_at (split 9 (line_row i)) 1; row = number_at (split 9 (line_row i)) 2; column = number_at (split 9 (line_row i)) 3 })
+  pub line_mark : mark_of (split 9 (take line.length text)) ≡ front_mark text
+  unfolding front_mark
+  line_mark = ap (λ (row : List ℕ). mark_of (split 9 row)) line_row
 
 -- a mark's line
 pub line_long : (s : Sheet) (ys : List ℕ) → length (moved_line s ys) ≡ length (up_to 9 3 ys) + (length (decimal (moved_by s (front_mark ys)).column) + 1)
@@ -65,23 +62,17 @@ lines_room s m n ys h =
 
 -- The channels
 
-module _ (s t : Sheet) (xs ys : List ℕ) where
-  pub pairs_one : s.header.channels ≡ 1
-      → pairs_text s (used_of s.header.channels s) (used_of s.header.channels t) xs ys
-      ≡ pair_text s.first t.first xs ys ++ last_text s (pair_left s.first xs) (pair_right s.first t.first ys)
-  pairs_one e = rw (eq-eqb s.header.channels 1 e)
-
-  pub pairs_all : (s.header.channels ≡ 1 → ⊥)
-      → pairs_text s (used_of s.header.channels s) (used_of s.header.channels t) xs ys
-      ≡ pair_text s.first t.first xs ys ++ pairs_text s (s.second ∷ s.third ∷ []) (t.second ∷ t.third ∷ []) (pair_left s.first xs) (pair_right s.first t.first ys)
-  pairs_all h = rw (ne_eqb s.header.channels 1 h)
+pub pairs_end : (s : Sheet) (cs ds : List Channel) (xs ys : List ℕ) → (length cs ≡ 0) ⊎ (length ds ≡ 0) → pairs_text s cs ds xs ys ≡ last_text s xs ys
+pairs_end s [] ds xs ys e = refl
+pairs_end s (c ∷ cs) [] xs ys e = refl
+pairs_end s (c ∷ cs) (d ∷ ds) xs ys e = ⊎_elim (λ p. absurd (omega arith)) (λ p. absurd (omega arith)) e
 
 -- The whole text
 
 pub stitch_long : (s t : Sheet) (xs ys : List ℕ)
     → length (stitch_text s t xs ys)
     ≡ length (open_text s t xs)
-    + length (pairs_text s (used_of s.header.channels s) (used_of s.header.channels t) (head_left (said_lines s.settings) xs) (past 10 (said_lines t.settings + 1) ys))
+    + length (pairs_text s (channels_of s) (channels_of t) (head_left (said_lines s.settings) xs) (past 10 (said_lines t.settings + 1) ys))
 unfolding stitch_text
 stitch_long s t xs ys =
-    length-append (open_text s t xs) (pairs_text s (used_of s.header.channels s) (used_of s.header.channels t) (head_left (said_lines s.settings) xs) (past 10 (said_lines t.settings + 1) ys))
+    length-append (open_text s t xs) (pairs_text s (channels_of s) (channels_of t) (head_left (said_lines s.settings) xs) (past 10 (said_lines t.settings + 1) ys))

@@ -8,8 +8,7 @@ use Rattle.stitch.specs.declared.Fit.{Fit}
 use Rattle.stitch.specs.declared.Refused as faults
 use Rattle.stitch.specs.declared.Side.{Side}
 use Rattle.stitch.specs.Numbers.{Numbers, which_of, numbered}
-use Rattle.seam.specs.Seam.{same_tables, seam}
-use Rattle.seam.specs.Used.{same_used}
+use Rattle.seam.specs.Seam.{same_numbers, same_sheet, seam}
 use Rattle.stitch.specs.Calls.{whole}
 
 -- the tables of a legal text stand at the front
@@ -42,6 +41,6 @@ judging (Gives c) (Gives d) =
 -- the same of two sheets and their tables, the tables in places of one number
 abbrev pub fit_of : Sheet → Sheet → List ℕ → List ℕ → Result Fit Numbers
 fit_of s t a b =
-    cond (same_used s t && same_tables a b)
+    cond (same_sheet s t && same_numbers a b)
     (cond (leb (s.header.width + t.header.width) 512) (Ok (record { left = s; right = t })) (Err (neither 2)))
     (Err (neither 16))

@@ -19,15 +19,9 @@ wider h k =
       picture_height = h.picture_height;
       channels = h.channels;
       joint = h.joint;
-      iterations0 = h.iterations0;
-      iterations1 = h.iterations1;
-      iterations2 = h.iterations2;
-      smoothing0 = h.smoothing0;
-      smoothing1 = h.smoothing1;
-      smoothing2 = h.smoothing2;
-      data0 = h.data0;
-      data1 = h.data1;
-      data2 = h.data2;
+      iterations = h.iterations;
+      smoothing = h.smoothing;
+      data_weights = h.data_weights;
     }
 
 -- the left channel with the own width summed
@@ -40,9 +34,7 @@ stitched_sheet s t =
     record {
       header = wider s.header t.header;
       settings = s.settings;
-      first = besides s.first t.first;
-      second = besides s.second t.second;
-      third = besides s.third t.third;
+      channels = besides (channel_at s 0) (channel_at t 0) ∷ besides (channel_at s 1) (channel_at t 1) ∷ besides (channel_at s 2) (channel_at t 2) ∷ [];
     }
 
 -- a channel's rows of blocks, and the blocks in a row

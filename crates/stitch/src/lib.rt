@@ -56,6 +56,7 @@ impl Refused {
     }
 
     // The number of the text that it is about: 1 the left, 2 the right, 0 neither.
+    // Kept: 0 for neither is of the Option, so that a `From<Side>` would leave half of this function here.
     // Ruled out: 1 for the right text; 2 where neither text is refused.
     pub fn which_number(self) -> u8
         ensures { result ≡ which_of self.which }
@@ -108,7 +109,7 @@ fn fitted(left: Sheet, right: Sheet, a: &[u16], b: &[u16]) -> Result<Fit, Refuse
     requires { length a.now ≡ length b.now }
     ensures { numbered result ≡ fit_of left right a.now b.now }
 {
-    if !(seam::same_sheet(left, right) && seam::same_tables(a, b)) {
+    if !(seam::same_sheet(left, right) && a == b) {
         return Err(Refused::of_neither(Refusal::Seam));
     }
     if 512 < u64::from(left.header.width) + u64::from(right.header.width) {

@@ -6,18 +6,13 @@ ghost use Rattle.stitch.specs.Bytes.{front_mark, moved_line, moved_lines, last_t
 
 use contents::{Mark, Sheet};
 use copying::{Texts, Writer};
-use text::{number, pieces};
+use text::pieces;
 
 // The mark of a text's first line.
 fn mark_at(text: &[u8]) -> Mark
     ensures { result ≡ front_mark text.now }
 {
-    let line = &text[..pieces::line_at(text, 0).end];
-    Mark {
-        channel: number::number_at(line, 1),
-        row: number::number_at(line, 2),
-        column: number::number_at(line, 3),
-    }
+    lines::mark_of(&text[..pieces::first_line(text).length])
 }
 
 // The column of a mark of the right text in the output, whose left sheet is s.

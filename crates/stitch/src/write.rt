@@ -1,8 +1,8 @@
 // The text of two sheets that fit, copied from their texts.
-ghost use Rattle.std.specs.Prelude.{◌≡◌, [], ◌∷◌, ◌+◌, ◌^◌, ◌<◌, ◌≤◌, length};
+ghost use Rattle.std.specs.Prelude.{◌≡◌, ◌+◌, ◌^◌, ◌<◌, ◌≤◌, length};
 ghost use Rattle.std.proofs.lemmas.List.Edits.{sets};
 ghost use Rattle.copying.specs.Parts.{past, Put};
-ghost use Rattle.seam.specs.Used.{used_of};
+ghost use Rattle.contents.specs.Sheets.{channels_of};
 ghost use Rattle.stitch.specs.Bytes.{said_lines, head_text, head_left, pair_text, pair_left, pair_right, pairs_text, open_text, stitch_text};
 
 use crate::marks;
@@ -57,36 +57,16 @@ fn write_pair<'a>(from: Texts<'a>, c: Channel, d: Channel, to: &mut Writer) -> T
     copying::copy_channel(from, w + v, c.height as usize / 8, w / 8, v / 8, to)
 }
 
-// The second and third channel of both, and what follows them.
-fn write_more(from: Texts, s: Sheet, t: Sheet, to: &mut Writer)
-    requires { to.old.at + length (pairs_text s (s.second ∷ s.third ∷ []) (t.second ∷ t.third ∷ []) from.left.now from.right.now) < 2 ^ 64 }
-    ensures { Put to.old (pairs_text s (s.second ∷ s.third ∷ []) (t.second ∷ t.third ∷ []) from.entry.left.now from.entry.right.now) to.new }
-{
-    let second = write_pair(from, s.second, t.second, to);
-    let third = write_pair(second, s.third, t.third, to);
-    marks::write_last(third, s, to)
-}
-
-// All channels of both, and what follows them.
+// The channels in use of both, and what follows them.
 fn write_pairs(from: Texts, s: Sheet, t: Sheet, to: &mut Writer)
-    requires { to.old.at + length (pairs_text s (used_of s.header.channels s) (used_of s.header.channels t) from.left.now from.right.now) < 2 ^ 64 }
-    ensures { Put to.old (pairs_text s (used_of s.header.channels s) (used_of s.header.channels t) from.entry.left.now from.entry.right.now) to.new }
+    requires { to.old.at + length (pairs_text s (channels_of s) (channels_of t) from.left.now from.right.now) < 2 ^ 64 }
+    ensures { Put to.old (pairs_text s (channels_of s) (channels_of t) from.entry.left.now from.entry.right.now) to.new }
 {
-    let first = write_pair(from, s.first, t.first, to);
-    if s.header.channels == 1 {
-        marks::write_last(first, s, to)
-    } else {
-        write_more(first, s, t, to)
+    let mut rest = from;
+    for (c, d) in s.in_use().iter().zip(t.in_use()) {
+        rest = write_pair(rest, *c, *d, to);
     }
-}
-
-// The whole text.
-fn write_text(from: Texts, s: Sheet, t: Sheet, to: &mut Writer)
-    requires { to.old.at + length (stitch_text s t from.left.now from.right.now) < 2 ^ 64 }
-    ensures { Put to.old (stitch_text s t from.entry.left.now from.entry.right.now) to.new }
-{
-    let blocks = write_open(from, s, t, to);
-    write_pairs(blocks, s, t, to)
+    marks::write_last(rest, s, to)
 }
 
 // The text into an output, as far as there is room, and its length.
@@ -96,6 +76,7 @@ pub fn write(left: &[u8], right: &[u8], s: Sheet, t: Sheet, out: &mut [u8]) -> u
     ensures bytes { out.new ≡ sets out.old 0 (stitch_text s t left.now right.now) }
 {
     let mut to = Writer::new(out);
-    write_text(Texts { left, right }, s, t, &mut to);
+    let blocks = write_open(Texts { left, right }, s, t, &mut to);
+    write_pairs(blocks, s, t, &mut to);
     to.at
 }

@@ -1,54 +1,22 @@
 // A field's level or quantiser goes to its place in a lent buffer, as far as there is room.
 #![tactic(auto)]
 
-ghost use Rattle.std.specs.Prelude.{[], ◌∷◌, ◌+◌, ◌^◌, ◌<◌, Ok};
-ghost use Rattle.text.specs.Fields.{lows_in, highs_in, tables_in};
+ghost use Rattle.std.specs.Prelude.{◌+◌, ◌^◌, ◌<◌};
+ghost use Rattle.std.specs.Option.{option_to_list};
 ghost use Rattle.storing.specs.Stored.{Stored};
 
-use text::field::Field;
-
-// A value goes to its place, if there is room. Returns the next place.
-fn put<T: Copy>(value: T, buffer: &mut [T], at: usize) -> usize
+// A value, where there is one, goes to its place, if there is room. Returns the next place.
+// Ruled out: the last place written where `at` is past the end; the same place again after a value for which there was no room.
+// Kept: a struct of a buffer and its place, as `copying::Writer`, would be lent through the walk three times, each with a clause that it is still the same buffer, for these lines.
+pub fn put<T: Copy>(value: Option<T>, buffer: &mut [T], at: usize) -> usize
     requires { at + 1 < 2 ^ 64 }
-    ensures { Stored buffer.old buffer.new at result (value ∷ []) }
+    ensures { Stored buffer.old buffer.new at result (option_to_list value) }
 {
+    let Some(value) = value else {
+        return at;
+    };
     if at < buffer.len() {
         buffer[at] = value;
     }
     at + 1
-}
-
-// A level, and the lowest of a range, goes to the lows.
-pub fn put_low(f: Field, lows: &mut [i16], at: usize) -> usize
-    requires { at + 1 < 2 ^ 64 }
-    ensures { Stored lows.old lows.new at result (lows_in (Ok f)) }
-{
-    match f {
-        Field::Level(v) => put(v, lows, at),
-        Field::Low(v) => put(v, lows, at),
-        Field::Quantiser(_) | Field::High(_) | Field::Good => at,
-    }
-}
-
-// A level, and the highest of a range, goes to the highs.
-pub fn put_high(f: Field, highs: &mut [i16], at: usize) -> usize
-    requires { at + 1 < 2 ^ 64 }
-    ensures { Stored highs.old highs.new at result (highs_in (Ok f)) }
-{
-    match f {
-        Field::Level(v) => put(v, highs, at),
-        Field::High(v) => put(v, highs, at),
-        Field::Quantiser(_) | Field::Low(_) | Field::Good => at,
-    }
-}
-
-// A quantiser likewise.
-pub fn put_quantiser(f: Field, tables: &mut [u16], at: usize) -> usize
-    requires { at + 1 < 2 ^ 64 }
-    ensures { Stored tables.old tables.new at result (tables_in (Ok f)) }
-{
-    match f {
-        Field::Quantiser(v) => put(v, tables, at),
-        Field::Level(_) | Field::Low(_) | Field::High(_) | Field::Good => at,
-    }
 }

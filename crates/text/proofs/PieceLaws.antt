@@ -7,12 +7,12 @@ use native.Mathlib.Numerals.{add-one}
 use native.Mathlib.Omega.{arith}
 use lib.ListN.{length, get_or, drop, take, length-drop, get_or-eq_default}
 use native.Mathlib.Nat.{lt_of_not-le, suc-add}
-use lib.Seq.{drop-cons, get_or-drop, drop-drop}
+use lib.Seq.{take_all, drop-cons, get_or-drop, drop-drop}
 use lib.Dec.{eqb, ltb}
 use borrow.Author.Tests.{ltb-true, ltb-false}
-use Rattle.std.specs.List.{position_or_len}
+use Rattle.std.specs.List.{position_or_len, count_by}
+use Rattle.std.proofs.lemmas.List.Sums.{sum_by-cons}
 use Rattle.std.proofs.Common.{not, Some, None, position}
-use Rattle.std.specs.Int.{from_bool}
 use Rattle.text.specs.Pieces.{split, before, onto}
 use Rattle.text.specs.Cursor.{AtField}
 
@@ -112,19 +112,36 @@ split_length b (x ∷ l) = two (eqb x b) (split_length b l) (split_some b l)
     two false h k = omega (arith, length_onto x (split b l) k)
 
 -- How many fields a line has: a tab more, a field more
-pub one_most : (t : Bool) → from_bool t ≤ 1
-one_most true = omega arith
-one_most false = omega arith
-
-pub fields_step : (l : List ℕ) (k : ℕ) → k < length l → length (split 9 (drop k l)) ≡ from_bool (eqb (get_or l k 0) 9) + length (split 9 (drop (k + 1) l))
-fields_step l k h = rw (drop_step l k h) (two (eqb (get_or l k 0) 9))
+pub split_count : (b : ℕ) (l : List ℕ) → length (split b l) ≡ 1 + count_by (λ x. eqb x b) l
+split_count b [] = refl
+split_count b (x ∷ l) = two (eqb x b) (split_count b l) ∙ ap (λ (n : ℕ). 1 + n) (sym (sum_by-cons (λ (y : ℕ). cond (eqb y b) 1 0) x l))
   where
-    rest : List (List ℕ)
-    rest = split 9 (drop (k + 1) l)
+    two : (t : Bool) → length (split b l) ≡ 1 + count_by (λ x. eqb x b) l → length (cond t ([] ∷ split b l) (onto x (split b l))) ≡ 1 + (cond t 1 0 + count_by (λ x. eqb x b) l)
+    two true e = omega arith
+    two false e = omega (arith, length_onto x (split b l) (split_some b l))
 
-    two : (t : Bool) → length (cond t ([] ∷ rest) (onto (get_or l k 0) rest)) ≡ from_bool t + length rest
-    two true = omega arith
-    two false = omega (arith, length_onto (get_or l k 0) rest (split_some 9 (drop (k + 1) l)))
+-- a slice from k on
+pub rest_whole : (k : ℕ) (l : List ℕ) → take (length l - k) (drop k l) ≡ drop k l
+rest_whole k l = take_all _ _ (omega (arith, length-drop k l))
+
+pub before_all : (b : ℕ) (l : List ℕ) → length l ≤ length (before b l) → l ≡ before b l
+before_all b l h = sym (take_all _ _ h) ∙ before_take b l
+
+-- what is left of the row s from field k on
+module _ (s rest : List ℕ) (k : ℕ) (e : split 9 rest ≡ drop k (split 9 s)) where
+  left_count : length (split 9 rest) ≡ length (split 9 s) - k
+  left_count = ap length e ∙ length-drop k (split 9 s)
+
+  pub left_none : (i : ℕ) → k < i → length (before 9 rest) ≡ length rest → [] ≡ get_or (split 9 s) i []
+  left_none i h n = let w = split_whole 9 rest (omega arith) in sym (get_or-eq_default (split 9 s) [] {n = i} (omega (arith, ap length w, left_count)))
+
+  pub left_next : (length (before 9 rest) ≡ length rest → ⊥) → split 9 (drop (length (before 9 rest) + 1) rest) ≡ drop (k + 1) (split 9 s)
+  left_next n = ap (λ (ps : List (List ℕ)). drop 1 ps) (sym (split_cut 9 rest (omega (arith, before_le 9 rest))) ∙ e) ∙ drop-drop 1 k (split 9 s)
+
+  pub left_first : before 9 rest ≡ get_or (split 9 s) k []
+  left_first =
+      let z : k + 0 ≡ k = omega arith in
+      sym (split_first 9 rest) ∙ ap (λ (ps : List (List ℕ)). get_or ps 0 []) e ∙ rw (get_or-drop k (split 9 s) 0 [], z)
 
 -- Field i of the row s starts at a
 
@@ -160,19 +177,3 @@ module _ {s : List ℕ} {i a : ℕ} (f : AtField s i a) where
     where
       one : split 9 (drop a s) ≡ drop a s ∷ [] → ⊥
       one e = omega (arith, ap length e, at_count)
-
-  module _ {e : ℕ} (p : e ≡ a + length (before 9 (drop a s))) where
-    pub at_more : (e ≡ length s → ⊥) → AtField s (i + 1) (e + 1)
-    at_more n = rw p (at_tab (omega (arith, at-end, length-drop a s, f.inside)))
-
-    -- the row ends it, so there is no later field
-    pub field_none : (j : ℕ) → i < j → e ≡ length s → [] ≡ get_or (split 9 s) j []
-    field_none j h n =
-        let w = split_whole 9 (drop a s) (omega (arith, length-drop a s, f.inside)) in
-        sym (get_or-eq_default (split 9 s) [] {n = j} (omega (arith, ap length w, at_count)))
-
-    pub field_part : take (e - a) (drop a s) ≡ get_or (split 9 s) i []
-    field_part =
-        let n = length (before 9 (drop a s)) in
-        let k : (a + n) - a ≡ n = omega arith in
-        rw (p, k) at_here

@@ -5,12 +5,10 @@ use Rattle.refusal.specs.declared.Refusal.{Refusal}
 use Rattle.std.specs.Prelude.{ℕ, ◌%◌, List, [], ◌∷◌, Bool, false, cond, ◌&&◌, ◌||◌, eqb, leb, ℤ, Some, None, Ok, Err, Option, Result}
 use Rattle.std.specs.Int.Signed.{le_z}
 use Rattle.contents.specs.declared.Weight.{Weight}
-use Rattle.contents.specs.declared.Weight.{Weight}
 use Rattle.text.specs.declared.field.Rule.{Rule}
 use Rattle.text.specs.declared.field.Rule.TheVariants as rule
 use Rattle.text.specs.declared.field.Field.{Field}
 use Rattle.text.specs.declared.field.Field.TheVariants as field
-use Rattle.refusal.specs.Refusal as table
 use Rattle.refusal.specs.Refusal as table
 use Rattle.text.specs.Numbers.{number_of}
 use Rattle.text.specs.Weights.{weight_of}

@@ -2,7 +2,7 @@
 -- bit form is read as a whole number after its `w`, and any other spelling is 1."
 use Rattle.refusal.specs.declared.Refusal.TheVariants as refusal
 use Rattle.refusal.specs.declared.Refusal.{Refusal}
-use Rattle.std.specs.Prelude.{ℕ, ◌+◌, ◌-◌, ◌*◌, List, [], ◌∷◌, cond, ◌&&◌, length, get_or, eqb, leb, ltb, option_and_then, option_and_then, Some, None, Ok, Err, Option, Result}
+use Rattle.std.specs.Prelude.{ℕ, ◌+◌, ◌-◌, ◌*◌, List, [], ◌∷◌, cond, ◌&&◌, length, get_or, eqb, leb, ltb, option_and_then, Some, None, Ok, Err, Option, Result}
 use Rattle.contents.specs.declared.Weight.{Weight}
 use Rattle.contents.specs.declared.Weight.TheVariants as weight
 use Rattle.text.specs.Numbers.{number_of}

@@ -1,7 +1,8 @@
 // Fields and their rules.
-ghost use Rattle.std.specs.Prelude.{◌≡◌, [], cond, get_or, Ok, Err};
+ghost use Rattle.std.specs.Prelude.{◌≡◌, [], get_or, Ok, Err};
+ghost use Rattle.std.specs.Option.{option_to_list};
 ghost use Rattle.text.specs.Pieces.{split};
-ghost use Rattle.text.specs.Fields.{letter, field_of};
+ghost use Rattle.text.specs.Fields.{letter, field_of, lows_in, highs_in, tables_in};
 
 use crate::{level, number, pieces, weight};
 use refusal::Refusal;
@@ -34,6 +35,33 @@ pub enum Field {
     Good,
 }
 
+impl Field {
+    // What it adds to the lows and to the highs.
+    // Ruled out: a level in the lows alone; the highest of a range in the lows.
+    pub fn levels(self) -> (Option<i16>, Option<i16>)
+        ensures lows { option_to_list result.0 ≡ lows_in (Ok self) }
+        ensures highs { option_to_list result.1 ≡ highs_in (Ok self) }
+    {
+        match self {
+            Field::Level(v) => (Some(v), Some(v)),
+            Field::Low(v) => (Some(v), None),
+            Field::High(v) => (None, Some(v)),
+            Field::Quantiser(_) | Field::Good => (None, None),
+        }
+    }
+
+    // What it adds to the tables.
+    // Ruled out: a level as a quantiser; none for a quantiser.
+    pub fn quantiser(self) -> Option<u16>
+        ensures { option_to_list result ≡ tables_in (Ok self) }
+    {
+        match self {
+            Field::Quantiser(v) => Some(v),
+            Field::Level(_) | Field::Low(_) | Field::High(_) | Field::Good => None,
+        }
+    }
+}
+
 // Is the field just the letter t?
 pub fn is_letter(f: &[u8], t: u8) -> bool
     ensures { result ≡ letter t f.now }
@@ -48,18 +76,12 @@ pub fn letter_at(row: &[u8], i: usize, t: u8) -> bool
     is_letter(pieces::field_at(row, i), t)
 }
 
-fn good_if(holds: bool, fault: Refusal) -> Result<Field, Refusal>
-    ensures { result ≡ cond holds (Ok Field.Good) (Err fault) }
-{
-    if holds { Ok(Field::Good) } else { Err(fault) }
-}
-
 #[tactic(auto, unfolding(crate::specs::Fields::field_of))]
 fn read_range(f: &[u8], fault: Refusal, low: u32, high: u32) -> Result<Field, Refusal>
     ensures { result ≡ field_of (Rule.Range fault low high) f.now }
 {
     let n = number::read_number(f).ok_or(Refusal::Form)?;
-    good_if(low <= n && n <= high, fault)
+    (low <= n && n <= high).then_some(Field::Good).ok_or(fault)
 }
 
 #[tactic(auto, unfolding(crate::specs::Fields::field_of))]
@@ -70,7 +92,7 @@ fn read_count(f: &[u8], most: u32) -> Result<Field, Refusal>
     if 1000 < n {
         return Err(Refusal::Size);
     }
-    good_if(n <= most, Refusal::Page)
+    (n <= most).then_some(Field::Good).ok_or(Refusal::Page)
 }
 
 #[tactic(auto, unfolding(crate::specs::Fields::field_of))]
@@ -78,7 +100,9 @@ fn read_side(f: &[u8], high: u32) -> Result<Field, Refusal>
     ensures { result ≡ field_of (Rule.Side high) f.now }
 {
     let n = number::read_number(f).ok_or(Refusal::Form)?;
-    good_if(n % 8 == 0 && 8 <= n && n <= high, Refusal::Size)
+    (n % 8 == 0 && 8 <= n && n <= high)
+        .then_some(Field::Good)
+        .ok_or(Refusal::Size)
 }
 
 #[tactic(auto, unfolding(crate::specs::Fields::field_of))]
@@ -86,7 +110,9 @@ fn read_channels(f: &[u8]) -> Result<Field, Refusal>
     ensures { result ≡ field_of Rule.Channels f.now }
 {
     let n = number::read_number(f).ok_or(Refusal::Form)?;
-    good_if(n == 1 || n == 3, Refusal::Size)
+    (n == 1 || n == 3)
+        .then_some(Field::Good)
+        .ok_or(Refusal::Size)
 }
 
 #[tactic(auto, unfolding(crate::specs::Fields::field_of))]
@@ -119,12 +145,16 @@ pub fn read_field(rule: Rule, f: &[u8]) -> Result<Field, Refusal>
     ensures { result ≡ field_of rule f.now }
 {
     match rule {
-        Rule::Tag(t) => good_if(is_letter(f, t), Refusal::Form),
+        Rule::Tag(t) => (is_letter(f, t))
+            .then_some(Field::Good)
+            .ok_or(Refusal::Form),
         Rule::Range { fault, low, high } => read_range(f, fault, low, high),
         Rule::Count(most) => read_count(f, most),
         Rule::Side(high) => read_side(f, high),
         Rule::Channels => read_channels(f),
-        Rule::Letters(a, b) => good_if(is_letter(f, a) || is_letter(f, b), Refusal::Form),
+        Rule::Letters(a, b) => (is_letter(f, a) || is_letter(f, b))
+            .then_some(Field::Good)
+            .ok_or(Refusal::Form),
         Rule::Weight => weight::read_weight(f).map(|_| Field::Good),
         Rule::Quantiser => read_quantiser(f),
         Rule::Level => level::read_level(f).map(Field::Level),

@@ -13,6 +13,7 @@ fn is_padded(f: &[u8]) -> bool
 }
 
 // One to six decimal digits, no zero before another digit.
+// Kept: `parse` takes a sign, zeros before a digit and more than six digits, each of which is misspelt here.
 pub fn read_number(f: &[u8]) -> Option<u32>
     ensures { result ≡ number_of f.now }
 {

@@ -1,75 +1,73 @@
 // Lines are cut at byte 10, fields at byte 9.
-ghost use Rattle.std.specs.Prelude.{◌+◌, ◌≤◌, ◌≡◌, [], length, drop, ◌==◌, position, get_or};
+ghost use Rattle.std.specs.Prelude.{◌≡◌, [], length, ◌==◌, position, get_or};
 ghost use Rattle.text.specs.Pieces.{before, split};
 ghost use Rattle.text.specs.Cursor.{IsLine};
 
-// A line: the place of its end, and how many fields it has.
+// A line: how many bytes it has, and how many fields.
 #[derive(Clone, Copy, Debug, PartialEq, Eq)]
 pub struct Line {
-    pub end: usize,
+    pub length: usize,
     pub fields: usize,
 }
 
 // The place of the first byte b.
+// Kept: it tells a place, and the function of this shape in `record` whether all are equal; each is one call of the library.
 fn first_place(row: &[u8], b: u8) -> Option<usize>
     ensures { result ≡ position (λ x. x == b) row.now }
 {
     row.iter().position(|&x| x == b)
 }
 
-// The end of the piece that starts at `from`: the next byte b, or the end of the row.
-fn piece_end(row: &[u8], from: usize, b: u8) -> usize
-    requires { from ≤ length row.now }
-    ensures { (result ≤ length row.now) × (result ≡ from + length (before b (drop from row.now))) }
+// What comes before the first byte b; all where there is none.
+fn before(rest: &[u8], b: u8) -> &[u8]
+    ensures { result.now ≡ before b rest.now }
 {
-    match first_place(&row[from..], b) {
-        Some(n) => from + n,
-        None => row.len(),
+    match first_place(rest, b) {
+        Some(n) => &rest[..n],
+        None => rest,
     }
 }
 
-// How many fields the line from `at` to `end` has. No turn of this loop depends on a byte, so that it takes many bytes at a time.
-fn fields_in(text: &[u8], at: usize, end: usize) -> usize
-    requires { (at ≤ end) × (end ≤ length text.now) × (end ≡ at + length (before 10 (drop at text.now))) }
-    ensures { result ≡ length (split 9 (before 10 (drop at text.now))) }
+// How many fields a line has: one more than tabs.
+#[tactic(auto, using(crate::proofs::PieceLaws::split_count))]
+fn fields_in(line: &[u8]) -> usize
+    ensures { result ≡ length (split 9 line.now) }
 {
-    let mut fields: usize = 1;
-    for &b in &text[at..end] {
-        fields += usize::from(b == b'\t');
+    1 + line.iter().filter(|&&b| b == b'\t').count()
+}
+
+// The first line of a text: it ends before the next byte 10, or with the text.
+// Ruled out: a length that counts the byte 10; a field less where a tab ends the line.
+pub fn first_line(text: &[u8]) -> Line
+    ensures { IsLine text.now result }
+{
+    let line = before(text, b'\n');
+    Line {
+        length: line.len(),
+        fields: fields_in(line),
     }
-    fields
 }
 
-// The line that starts at `at`. Its end is the next byte 10, or the end of the text.
-pub fn line_at(text: &[u8], at: usize) -> Line
-    requires { at ≤ length text.now }
-    ensures { IsLine text.now at result }
+// The first field of a row: it ends before the next byte 9, or with the row.
+// Ruled out: a field with its tab; an empty field where the row has no tab.
+pub fn first_field(row: &[u8]) -> &[u8]
+    ensures { result.now ≡ before 9 row.now }
 {
-    let end = piece_end(text, at, b'\n');
-    let fields = fields_in(text, at, end);
-    Line { end, fields }
-}
-
-// The end of the field that starts at `from`: the next byte 9, or the end of the row.
-pub fn field_end(row: &[u8], from: usize) -> usize
-    requires { from ≤ length row.now }
-    ensures { result ≡ from + length (before 9 (drop from row.now)) }
-{
-    piece_end(row, from, b'\t')
+    before(row, b'\t')
 }
 
 // Field i of a row; an empty part where there is none.
+// Kept: tried as `row.split(..).nth(i)`, and the proof didn't close: open stayed that the parts of the library's `split` are those of the specification, one by one; it promises how many there are, and its steps.
 pub fn field_at(row: &[u8], i: usize) -> &[u8]
     ensures { result.now ≡ get_or (split 9 row.now) i [] }
 {
-    let mut at: usize = 0;
+    let mut rest = row;
     for _ in 0..i {
-        let end = field_end(row, at);
-        if end == row.len() {
+        let n = first_field(rest).len();
+        if n == rest.len() {
             return &[];
         }
-        at = end + 1;
+        rest = &rest[n + 1..];
     }
-    let end = field_end(row, at);
-    &row[at..end]
+    first_field(rest)
 }

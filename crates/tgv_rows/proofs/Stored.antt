@@ -13,17 +13,19 @@ use Rattle.float.specs.Ops.{midpoint}
 use Rattle.float.specs.Names.{◌⊖◌, f0, val}
 use Rattle.gradients.specs.Tv.{px_idx}
 use Rattle.gradients.specs.Tgv.{left_edge, top_edge}
-use Rattle.rows.specs.Rows.{store_from}
+use Rattle.rows.specs.Rows.{store_from, store_in}
+use Rattle.rows.proofs.Lent.{from_zero}
 use Rattle.tgv_rows.specs.TgvRows.{xx_of, yy_of}
 use Rattle.rows.proofs.Filled.{store_same, diff_on, diff_off}
 use Rattle.rows.proofs.RowLaws.{stored_row}
 
 -- the midpoints of two stored rows
-pub mid_by : (v u : ℕ → Float) (s t s' t' o : List Float) (b w : ℕ) → w ≤ length s → w ≤ length t → s' ≡ upto (store_from 0 v) w s → t' ≡ upto (store_from 0 u) w t
-    → upto (store_from b (λ x. midpoint (val s' x) (val t' x))) w o ≡ upto (store_from b (λ x. midpoint (v x) (u x))) w o
-mid_by v u s t s' t' o b w h k e f =
-    upto_ext (store_from b (λ x. midpoint (val s' x) (val t' x))) (store_from b (λ x. midpoint (v x) (u x))) w o
-    (λ x r l. ap (λ (z : Float). set r (b + x) z) (ap₂ midpoint (ap (λ (i : List Float). val i x) e ∙ stored_row v s w h x l) (ap (λ (i : List Float). val i x) f ∙ stored_row u t w k x l)))
+pub mid_by : (v u : ℕ → Float) (s t s' t' o : List Float) (w m : ℕ) → w ≤ length s → w ≤ length t → m ≡ w → s' ≡ upto (store_in v) w s → t' ≡ upto (store_in u) w t
+    → upto (store_in (λ x. midpoint (val s' x) (val t' x))) m o ≡ upto (store_in (λ x. midpoint (v x) (u x))) w o
+mid_by v u s t s' t' o w m h k i e f =
+    ap (λ (z : ℕ). upto (store_in (λ x. midpoint (val s' x) (val t' x))) z o) i
+    ∙ upto_ext (store_in (λ x. midpoint (val s' x) (val t' x))) (store_in (λ x. midpoint (v x) (u x))) w o
+    (λ x r l. ap (λ (z : Float). set r x z) (ap₂ midpoint (ap (λ (i : List Float). val i x) (e ∙ sym (from_zero v w s)) ∙ stored_row v s w h x l) (ap (λ (i : List Float). val i x) (f ∙ sym (from_zero u w t)) ∙ stored_row u t w k x l)))
 
 module _ (W H : ℕ) (xs : List Float) (y c at : ℕ) (t : List Float) where
   pub left_row_is : (b : ℕ) → 0 < W → at ≡ px_idx W H c y 0

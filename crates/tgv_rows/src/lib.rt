@@ -8,48 +8,49 @@ ghost use Rattle.float.specs.Ops.{midpoint, mul_add, square};
 ghost use Rattle.float.specs.Names.{◌⊕◌, ◌⊗◌, ◌⊘◌, f2, val};
 ghost use Rattle.gradients.specs.Grid.{Fills};
 ghost use Rattle.gradients.specs.Tgv.{tgv_gradient_row, tgv_gradient, tgv_total_row, tgv_total};
-ghost use Rattle.rows.specs.Rows.{Row, store_from, none};
+ghost use Rattle.rows.specs.Rows.{Row, store_from, store_in, none};
 ghost use Rattle.tgv_rows.specs.TgvRows.{xx_of, yy_of, xy_of, row_in, tgv_norms, tgv_turn, tgv_besides, tgv_aboves, tgv_belows, tgv_kinds, tgv_totals};
 
-use gradients::grid::Grid;
-use gradients::tgv::{middle, square_of};
+use gradients::grid::{Grid, Pixel};
+use gradients::tgv::{ChannelSecond, middle, square_of};
 
-// The differences of xs along row y of channel c, to out from b on.
-fn left_row(xs: &[f32], out: &mut [f32], g: Grid, y: usize, c: usize, b: usize)
-    requires { (c < g.n) × (y < g.h) × (0 < g.w) × Fills g (length xs.now) × (b + g.w ≤ length out.old) }
-    ensures { out.new ≡ upto (store_from b (xx_of g.w g.h xs.now y c)) g.w out.old }
+// The differences of xs along row y of channel c.
+fn left_row(xs: &[f32], out: &mut [f32], g: Grid, y: usize, c: usize)
+    requires { (c < g.n) × (y < g.h) × (0 < g.w) × Fills g (length xs.now) × (length out.old ≡ g.w) }
+    ensures { out.new ≡ upto (store_in (xx_of g.w g.h xs.now y c)) g.w out.old }
 {
     let w = g.w;
     let at = rows::row_at(g, c, y);
-    rows::clear(out, b, 1);
-    rows::differ(xs, out, at + 1, at, b + 1, w - 1);
+    out[0] = 0.0;
+    rows::differ(&xs[at + 1..at + w], &xs[at..at + (w - 1)], &mut out[1..w]);
 }
 
 // The differences from the row above.
-fn above_row(xs: &[f32], out: &mut [f32], g: Grid, y: usize, c: usize, b: usize)
-    requires { (c < g.n) × (y < g.h) × Fills g (length xs.now) × (b + g.w ≤ length out.old) }
-    ensures { out.new ≡ upto (store_from b (yy_of g.w g.h xs.now y c)) g.w out.old }
+fn above_row(xs: &[f32], out: &mut [f32], g: Grid, y: usize, c: usize)
+    requires { (c < g.n) × (y < g.h) × Fills g (length xs.now) × (length out.old ≡ g.w) }
+    ensures { out.new ≡ upto (store_in (yy_of g.w g.h xs.now y c)) g.w out.old }
 {
     let w = g.w;
     if y == 0 {
-        rows::clear(out, b, w);
+        out.fill(0.0);
         return;
     }
     let at = rows::row_at(g, c, y);
     let above = rows::row_at(g, c, y - 1);
-    rows::differ(xs, out, at, above, b, w);
+    rows::differ(&xs[at..at + w], &xs[above..above + w], out);
 }
 
 // The midpoints of two rows.
-fn mid_row(s: &[f32], t: &[f32], out: &mut [f32], b: usize, w: usize)
-    requires { (w ≤ length s.now) × (w ≤ length t.now) × (b + w ≤ length out.old) }
-    ensures { out.new ≡ upto (store_from b (λ x. midpoint (val s.now x) (val t.now x))) w out.old }
+fn mid_row(s: &[f32], t: &[f32], out: &mut [f32])
+    requires { (length s.now ≡ length out.old) × (length t.now ≡ length out.old) }
+    ensures { out.new ≡ upto (store_in (λ x. midpoint (val s.now x) (val t.now x))) (length out.old) out.old }
 {
-    for x in 0..w {
-        out[b + x] = wide::midpoint(s[x], t[x]);
+    for (x, mid) in out.iter_mut().enumerate() {
+        *mid = wide::midpoint(s[x], t[x]);
     }
 }
 
+// Kept: that out is a row of the grid, in each contract; a struct of the `&mut` would need in its place that it is still the same buffer.
 // g_xy_syms of row y.
 fn cross_row(
     across: &[f32],
@@ -60,17 +61,15 @@ fn cross_row(
     g: Grid,
     y: usize,
     c: usize,
-    b: usize,
 )
     requires { (c < g.n) × (y < g.h) × (0 < g.w) × Fills g (length across.now) × Fills g (length down.now)
-        × (b + g.w ≤ length out.old) × (g.w ≤ length s.old) × (g.w ≤ length t.old) }
+        × (length out.old ≡ g.w) × (length s.old ≡ g.w) × (length t.old ≡ g.w) }
     ensures { out.new
-        ≡ upto (store_from b (xy_of g.w g.h across.now down.now y c)) g.w out.old }
+        ≡ upto (store_in (xy_of g.w g.h across.now down.now y c)) g.w out.old }
 {
-    let w = g.w;
-    above_row(across, s, g, y, c, 0);
-    left_row(down, t, g, y, c, 0);
-    mid_row(&s[..], &t[..], out, b, w);
+    above_row(across, s, g, y, c);
+    left_row(down, t, g, y, c);
+    mid_row(&s[..], &t[..], out);
 }
 
 // The differences of differences of row y, one channel's row after another.
@@ -86,7 +85,7 @@ fn second_rows(
     y: usize,
 )
     requires { (y < g.h) × (0 < g.w) × Fills g (length across.now) × Fills g (length down.now)
-        × (g.n * g.w ≤ length xx.old) × (g.n * g.w ≤ length xy.old) × (g.n * g.w ≤ length yy.old) × (g.w ≤ length s.old) × (g.w ≤ length t.old) }
+        × (g.n * g.w ≤ length xx.old) × (g.n * g.w ≤ length xy.old) × (g.n * g.w ≤ length yy.old) × (length s.old ≡ g.w) × (length t.old ≡ g.w) }
     ensures { (xx.new ≡ upto (λ c. upto (store_from (c * g.w) (xx_of g.w g.h across.now y c)) g.w) g.n xx.old)
         × (xy.new ≡ upto (λ c. upto (store_from (c * g.w) (xy_of g.w g.h across.now down.now y c)) g.w) g.n xy.old)
         × (yy.new ≡ upto (λ c. upto (store_from (c * g.w) (yy_of g.w g.h down.now y c)) g.w) g.n yy.old) }
@@ -95,74 +94,64 @@ fn second_rows(
     let w = g.w;
     for c in 0..n {
         let b = c * w;
-        left_row(across, xx, g, y, c, b);
-        cross_row(across, down, xy, s, t, g, y, c, b);
-        above_row(down, yy, g, y, c, b);
+        left_row(across, &mut xx[b..b + w], g, y, c);
+        cross_row(across, down, &mut xy[b..b + w], s, t, g, y, c);
+        above_row(down, &mut yy[b..b + w], g, y, c);
     }
 }
 
 // The squares of a channel's row, added to the sums.
-fn square_row(xx: &[f32], xy: &[f32], yy: &[f32], sums: &mut [f32], b: usize, w: usize)
-    requires { (b + w ≤ length xx.now) × (b + w ≤ length xy.now) × (b + w ≤ length yy.now) × (w ≤ length sums.old) }
-    ensures { Row w sums.new (λ x. val sums.old x ⊕ mul_add (val yy.now (b + x)) (val yy.now (b + x))
-        (mul_add f2 (square (val xy.now (b + x))) (square (val xx.now (b + x))))) }
+fn square_row(xx: &[f32], xy: &[f32], yy: &[f32], sums: &mut [f32])
+    requires { (length xx.now ≡ length sums.old) × (length xy.now ≡ length sums.old) × (length yy.now ≡ length sums.old) }
+    ensures { Row (length sums.old) sums.new (λ x. val sums.old x ⊕ mul_add (val yy.now x) (val yy.now x)
+        (mul_add f2 (square (val xy.now x)) (square (val xx.now x)))) }
 {
-    for x in 0..w {
-        let k = b + x;
-        sums[x] += square_of(xx[k], xy[k], yy[k]);
+    for (x, sum) in sums.iter_mut().enumerate() {
+        *sum += square_of(xx[x], xy[x], yy[x]);
     }
 }
 
 // The norms of a row.
 fn norm_row(xx: &[f32], xy: &[f32], yy: &[f32], norm: &mut [f32], n: usize, w: usize)
-    requires { (n * w ≤ length xx.now) × (n * w ≤ length xy.now) × (n * w ≤ length yy.now) × (w ≤ length norm.old) }
+    requires { (n * w ≤ length xx.now) × (n * w ≤ length xy.now) × (n * w ≤ length yy.now) × (length norm.old ≡ w) }
     ensures { Row w norm.new (tgv_norms n (row_in w xx.now) (row_in w xy.now) (row_in w yy.now)) }
 {
-    rows::clear(norm, 0, w);
+    norm.fill(0.0);
     for c in 0..n {
-        square_row(xx, xy, yy, norm, c * w, w);
+        let b = c * w;
+        square_row(&xx[b..b + w], &xy[b..b + w], &yy[b..b + w], norm);
     }
-    rows::root_row(norm, w);
+    rows::root_row(norm);
 }
 
 // The quotients of sums by the norms of their row.
-fn sum_quotients(s: &[f32], t: &[f32], norm: &[f32], q: &mut [f32], b: usize, w: usize)
-    requires { (b + w ≤ length s.now) × (b + w ≤ length t.now) × (w ≤ length norm.now) × (w ≤ length q.old) }
-    ensures { Row w q.new (λ x. (val s.now (b + x) ⊕ val t.now (b + x)) ⊘ val norm.now x) }
+fn sum_quotients(s: &[f32], t: &[f32], norm: &[f32], q: &mut [f32])
+    requires { (length s.now ≡ length q.old) × (length t.now ≡ length q.old) × (length norm.now ≡ length q.old) }
+    ensures { Row (length q.old) q.new (λ x. (val s.now x ⊕ val t.now x) ⊘ val norm.now x) }
 {
-    for x in 0..w {
-        let k = b + x;
-        q[x] = (s[k] + t[k]) / norm[x];
+    for (x, quotient) in q.iter_mut().enumerate() {
+        *quotient = (s[x] + t[x]) / norm[x];
     }
 }
 
 // The quotients of negated values.
-fn neg_quotients(s: &[f32], norm: &[f32], q: &mut [f32], b: usize, w: usize)
-    requires { (b + w ≤ length s.now) × (w ≤ length norm.now) × (w ≤ length q.old) }
-    ensures { Row w q.new (λ x. neg (val s.now (b + x)) ⊘ val norm.now x) }
+fn neg_quotients(s: &[f32], norm: &[f32], q: &mut [f32])
+    requires { (length s.now ≡ length q.old) × (length norm.now ≡ length q.old) }
+    ensures { Row (length q.old) q.new (λ x. neg (val s.now x) ⊘ val norm.now x) }
 {
-    for x in 0..w {
-        let k = b + x;
-        q[x] = -s[k] / norm[x];
+    for (x, quotient) in q.iter_mut().enumerate() {
+        *quotient = -s[x] / norm[x];
     }
 }
 
+// Kept: that the slices are as long as one another, in each contract: it is all that a loop over them needs, and a struct of them would be made for one call.
 // The quotients for the own places.
-fn own_quotients(
-    xx: &[f32],
-    xy: &[f32],
-    yy: &[f32],
-    norm: &[f32],
-    q: &mut [f32],
-    b: usize,
-    w: usize,
-)
-    requires { (b + w ≤ length xx.now) × (b + w ≤ length xy.now) × (b + w ≤ length yy.now) × (w ≤ length norm.now) × (w ≤ length q.old) }
-    ensures { Row w q.new (λ x. neg (mul_add f2 (val yy.now (b + x)) (mul_add f2 (val xx.now (b + x)) (f2 ⊗ val xy.now (b + x)))) ⊘ val norm.now x) }
+fn own_quotients(xx: &[f32], xy: &[f32], yy: &[f32], norm: &[f32], q: &mut [f32])
+    requires { (length xx.now ≡ length q.old) × (length xy.now ≡ length q.old) × (length yy.now ≡ length q.old) × (length norm.now ≡ length q.old) }
+    ensures { Row (length q.old) q.new (λ x. neg (mul_add f2 (val yy.now x) (mul_add f2 (val xx.now x) (f2 ⊗ val xy.now x))) ⊘ val norm.now x) }
 {
-    for x in 0..w {
-        let k = b + x;
-        q[x] = middle(xx[k], xy[k], yy[k]) / norm[x];
+    for (x, quotient) in q.iter_mut().enumerate() {
+        *quotient = middle(xx[x], xy[x], yy[x]) / norm[x];
     }
 }
 
@@ -180,17 +169,17 @@ fn besides(
     c: usize,
 )
     requires { (c < g.n) × (y < g.h) × (0 < g.w) × (g.n * g.w ≤ length xx.now) × (g.n * g.w ≤ length xy.now) × (g.n * g.w ≤ length yy.now)
-        × (g.w ≤ length norm.now) × (g.w ≤ length q.old) × Fills g (length gradient.old) }
+        × (length norm.now ≡ g.w) × (length q.old ≡ g.w) × Fills g (length gradient.old) }
     ensures { gradient.new ≡ tgv_besides g.w g.h alpha (λ x. val norm.now x)
         (row_in g.w xx.now) (row_in g.w xy.now) (row_in g.w yy.now) y c gradient.old }
 {
     let w = g.w;
     let b = c * w;
-    sum_quotients(xy, xx, norm, q, b, w);
+    sum_quotients(&xy[b..b + w], &xx[b..b + w], norm, q);
     rows::right(gradient, norm, &q[..], g, alpha, y, c);
-    own_quotients(xx, xy, yy, norm, q, b, w);
+    own_quotients(&xx[b..b + w], &xy[b..b + w], &yy[b..b + w], norm, q);
     rows::own(gradient, norm, &q[..], g, alpha, y, c);
-    sum_quotients(xy, xx, norm, q, b, w);
+    sum_quotients(&xy[b..b + w], &xx[b..b + w], norm, q);
     rows::left(gradient, norm, &q[..], g, alpha, y, c);
 }
 
@@ -208,15 +197,15 @@ fn aboves(
     c: usize,
 )
     requires { (c < g.n) × (y < g.h) × (0 < g.w) × (g.n * g.w ≤ length xx.now) × (g.n * g.w ≤ length xy.now) × (g.n * g.w ≤ length yy.now)
-        × (g.w ≤ length norm.now) × (g.w ≤ length q.old) × Fills g (length gradient.old) }
+        × (length norm.now ≡ g.w) × (length q.old ≡ g.w) × Fills g (length gradient.old) }
     ensures { gradient.new ≡ tgv_aboves g.w g.h alpha (λ x. val norm.now x)
         (row_in g.w xx.now) (row_in g.w xy.now) (row_in g.w yy.now) y c gradient.old }
 {
     let w = g.w;
     let b = c * w;
-    neg_quotients(xy, norm, q, b, w);
+    neg_quotients(&xy[b..b + w], norm, q);
     rows::above_right(gradient, norm, &q[..], g, alpha, y, c);
-    sum_quotients(yy, xy, norm, q, b, w);
+    sum_quotients(&yy[b..b + w], &xy[b..b + w], norm, q);
     rows::above(gradient, norm, &q[..], g, alpha, y, c);
 }
 
@@ -234,18 +223,19 @@ fn belows(
     c: usize,
 )
     requires { (c < g.n) × (y < g.h) × (0 < g.w) × (g.n * g.w ≤ length xx.now) × (g.n * g.w ≤ length xy.now) × (g.n * g.w ≤ length yy.now)
-        × (g.w ≤ length norm.now) × (g.w ≤ length q.old) × Fills g (length gradient.old) }
+        × (length norm.now ≡ g.w) × (length q.old ≡ g.w) × Fills g (length gradient.old) }
     ensures { gradient.new ≡ tgv_belows g.w g.h alpha (λ x. val norm.now x)
         (row_in g.w xx.now) (row_in g.w xy.now) (row_in g.w yy.now) y c gradient.old }
 {
     let w = g.w;
     let b = c * w;
-    sum_quotients(yy, xy, norm, q, b, w);
+    sum_quotients(&yy[b..b + w], &xy[b..b + w], norm, q);
     rows::below(gradient, norm, &q[..], g, alpha, y, c);
-    neg_quotients(xy, norm, q, b, w);
+    neg_quotients(&xy[b..b + w], norm, q);
     rows::below_left(gradient, norm, &q[..], g, alpha, y, c);
 }
 
+// Kept: the bar is 1.2 times the Rust on random planes of 512 by 512, and this form stands at it; with structs of a row's norms and differences blend takes 2.5 to 3.1 per cent longer, by turns in one run.
 // All seven kinds. An element takes the changes of a row's pixels in the order of the columns, as pixel by pixel.
 fn channel_row(
     gradient: &mut [f32],
@@ -260,7 +250,7 @@ fn channel_row(
     c: usize,
 )
     requires { (c < g.n) × (y < g.h) × (0 < g.w) × (g.n * g.w ≤ length xx.now) × (g.n * g.w ≤ length xy.now) × (g.n * g.w ≤ length yy.now)
-        × (g.w ≤ length norm.now) × (g.w ≤ length q.old) × Fills g (length gradient.old) }
+        × (length norm.now ≡ g.w) × (length q.old ≡ g.w) × Fills g (length gradient.old) }
     ensures { gradient.new ≡ tgv_kinds g.w g.h alpha (λ x. val norm.now x)
         (row_in g.w xx.now) (row_in g.w xy.now) (row_in g.w yy.now) y c gradient.old }
 {
@@ -282,7 +272,7 @@ fn pixel(
     x: usize,
 )
     requires { (y < g.h) × (x < g.w) × (g.n * g.w ≤ length xx.now) × (g.n * g.w ≤ length xy.now) × (g.n * g.w ≤ length yy.now)
-        × (g.w ≤ length norm.now) × Fills g (length gradient.old) }
+        × (length norm.now ≡ g.w) × Fills g (length gradient.old) }
     ensures { gradient.new ≡ upto (λ c. tgv_turn g.w g.h alpha (λ z. val norm.now z)
         (row_in g.w xx.now) (row_in g.w xy.now) (row_in g.w yy.now) y c x) g.n gradient.old }
 {
@@ -292,9 +282,21 @@ fn pixel(
     if m == 0.0 {
         return;
     }
+    let p = Pixel {
+        g,
+        alpha,
+        norm: m,
+        y,
+        x,
+    };
     for c in 0..n {
         let k = c * w + x;
-        gradients::tgv::channel_derivatives(gradient, g, alpha, m, xx[k], xy[k], yy[k], y, x, c);
+        let d = ChannelSecond {
+            g_xx: xx[k],
+            g_xy_sym: xy[k],
+            g_yy: yy[k],
+        };
+        gradients::tgv::channel_derivatives(gradient, p, d, c);
     }
 }
 
@@ -310,7 +312,7 @@ fn pixels(
     y: usize,
 )
     requires { (y < g.h) × (g.n * g.w ≤ length xx.now) × (g.n * g.w ≤ length xy.now) × (g.n * g.w ≤ length yy.now)
-        × (g.w ≤ length norm.now) × Fills g (length gradient.old) }
+        × (length norm.now ≡ g.w) × Fills g (length gradient.old) }
     ensures { gradient.new ≡ upto (tgv_kinds g.w g.h alpha (λ x. val norm.now x)
         (row_in g.w xx.now) (row_in g.w xy.now) (row_in g.w yy.now) y) g.n gradient.old }
 {
@@ -333,16 +335,15 @@ fn spread_rows(
     y: usize,
 )
     requires { (y < g.h) × (0 < g.w) × (g.n * g.w ≤ length xx.now) × (g.n * g.w ≤ length xy.now) × (g.n * g.w ≤ length yy.now)
-        × (g.w ≤ length norm.now) × (g.w ≤ length q.old) × Fills g (length gradient.old) }
+        × (length norm.now ≡ g.w) × (length q.old ≡ g.w) × Fills g (length gradient.old) }
     ensures { gradient.new ≡ upto (tgv_kinds g.w g.h alpha (λ x. val norm.now x)
         (row_in g.w xx.now) (row_in g.w xy.now) (row_in g.w yy.now) y) g.n gradient.old }
 {
     let n = g.n;
-    let w = g.w;
-    if !rows::any(norm, w) {
+    if !rows::any(norm) {
         return;
     }
-    if rows::sparse(norm, w) {
+    if rows::sparse(norm) {
         pixels(gradient, xx, xy, yy, norm, g, alpha, y);
         return;
     }
@@ -352,17 +353,14 @@ fn spread_rows(
 }
 
 // The total so far and the row's part of it, column by column.
-fn total_row(norm: &[f32], w: usize, alpha: f32, tv2: f64) -> f64
-    requires { w ≤ length norm.now }
-    ensures { result ≡ upto (tgv_totals alpha (λ x. val norm.now x)) w tv2 }
+fn total_row(norm: &[f32], alpha: f32, tv2: f64) -> f64
+    ensures { result ≡ upto (tgv_totals alpha (λ x. val norm.now x)) (length norm.now) tv2 }
 {
-    let mut t = tv2;
-    for x in 0..w {
-        t = float::double::add_product(t, alpha, norm[x]);
-    }
-    t
+    norm.iter()
+        .fold(tv2, |t, &m| float::double::add_product(t, alpha, m))
 }
 
+// Kept: the bar is 1.2 times the Rust on random planes of 512 by 512, and this form stands at it; with structs of a row's norms and differences blend takes 2.5 to 3.1 per cent longer, by turns in one run.
 // Row y: the differences of differences of all channels, the norms, then the changes. The total so far, tv2, is taken and given back.
 fn row(
     across: &[f32],
@@ -379,7 +377,7 @@ fn row(
     tv2: f64,
 ) -> f64
     requires { (g.n ≤ 3) × (y < g.h) × (0 < g.w) × (g.n * g.w ≤ length xx.old) × (g.n * g.w ≤ length xy.old) × (g.n * g.w ≤ length yy.old)
-        × (g.w ≤ length norm.old) × (g.w ≤ length q.old) × Fills g (length across.now) × Fills g (length down.now) × Fills g (length gradient.old) }
+        × (length norm.old ≡ g.w) × (length q.old ≡ g.w) × Fills g (length across.now) × Fills g (length down.now) × Fills g (length gradient.old) }
     ensures { (gradient.new
         ≡ tgv_gradient_row g.w g.h g.n none alpha across.now down.now y gradient.old)
         × (result ≡ tgv_total_row g.w g.h g.n none alpha across.now down.now y tv2) }
@@ -399,7 +397,7 @@ fn row(
         alpha,
         y,
     );
-    total_row(&norm[..], w, alpha, tv2)
+    total_row(&norm[..], alpha, tv2)
 }
 
 // tgv_gradient where no channel is held: every row. The total is returned. Rules out: two changes of one place in another order, and a total summed row by row first.
@@ -410,17 +408,20 @@ pub fn tgv_gradient(across: &[f32], down: &[f32], gradient: &mut [f32], g: Grid,
         × (result ≡ tgv_total g.w g.h g.n none alpha across.now down.now) }
 {
     let n = g.n;
+    let w = g.w;
     let h = g.h;
     let part = gradients::tgv::alpha_of(n, alpha);
     let mut xx = [0.0f32; 1536];
     let mut xy = [0.0f32; 1536];
     let mut yy = [0.0f32; 1536];
-    let mut norm = [0.0f32; 512];
-    let mut q = [0.0f32; 512];
+    let mut norms = [0.0f32; 512];
+    let mut quotients = [0.0f32; 512];
+    let norm = &mut norms[..w];
+    let q = &mut quotients[..w];
     let mut tv2 = 0.0f64;
     for y in 0..h {
         tv2 = row(
-            across, down, gradient, &mut xx, &mut xy, &mut yy, &mut norm, &mut q, g, part, y, tv2,
+            across, down, gradient, &mut xx, &mut xy, &mut yy, norm, q, g, part, y, tv2,
         );
     }
     tv2

@@ -11,26 +11,25 @@ ghost use Rattle.gradients.specs.Tv.{tv_gradient_row, tv_gradient, tv_total_row,
 ghost use Rattle.rows.specs.Rows.{Row, keep_row, none};
 ghost use Rattle.tv_rows.specs.TvRows.{across_of, down_of, tv_norms, tv_turn, tv_kinds, tv_totals, kept_in};
 
-use gradients::grid::Grid;
+use gradients::grid::{Grid, Pixel};
 
-// The quotients of kept differences by the norms of their row, which starts at `at`.
-fn quotients(xs: &[f32], norm: &[f32], q: &mut [f32], at: usize, w: usize)
-    requires { (at + w ≤ length xs.now) × (w ≤ length norm.now) × (w ≤ length q.old) }
-    ensures { Row w q.new (λ x. val xs.now (at + x) ⊘ val norm.now x) }
+// The quotients of kept differences by the norms of their row.
+fn quotients(xs: &[f32], norm: &[f32], q: &mut [f32])
+    requires { (length xs.now ≡ length q.old) × (length norm.now ≡ length q.old) }
+    ensures { Row (length q.old) q.new (λ x. val xs.now x ⊘ val norm.now x) }
 {
-    for x in 0..w {
-        q[x] = xs[at + x] / norm[x];
+    for (x, quotient) in q.iter_mut().enumerate() {
+        *quotient = xs[x] / norm[x];
     }
 }
 
 // The same for the own places.
-fn own_quotients(across: &[f32], down: &[f32], norm: &[f32], q: &mut [f32], at: usize, w: usize)
-    requires { (at + w ≤ length across.now) × (at + w ≤ length down.now) × (w ≤ length norm.now) × (w ≤ length q.old) }
-    ensures { Row w q.new (λ x. neg (val across.now (at + x) ⊕ val down.now (at + x)) ⊘ val norm.now x) }
+fn own_quotients(across: &[f32], down: &[f32], norm: &[f32], q: &mut [f32])
+    requires { (length across.now ≡ length q.old) × (length down.now ≡ length q.old) × (length norm.now ≡ length q.old) }
+    ensures { Row (length q.old) q.new (λ x. neg (val across.now x ⊕ val down.now x) ⊘ val norm.now x) }
 {
-    for x in 0..w {
-        let k = at + x;
-        q[x] = -(across[k] + down[k]) / norm[x];
+    for (x, quotient) in q.iter_mut().enumerate() {
+        *quotient = -(across[x] + down[x]) / norm[x];
     }
 }
 
@@ -40,10 +39,14 @@ fn across_row(plane: &[f32], across: &mut [f32], g: Grid, y: usize, c: usize)
     ensures { across.new
         ≡ upto (keep_row g.w g.h (across_of g.w g.h plane.now y c) y c) g.w across.old }
 {
-    let w = g.w;
     let at = rows::row_at(g, c, y);
-    rows::differ(plane, across, at + 1, at, at, w - 1);
-    rows::clear(across, at + (w - 1), 1);
+    let last = at + (g.w - 1);
+    rows::differ(
+        &plane[at + 1..last + 1],
+        &plane[at..last],
+        &mut across[at..last],
+    );
+    across[last] = 0.0;
 }
 
 // The differences down.
@@ -56,11 +59,15 @@ fn down_row(plane: &[f32], down: &mut [f32], g: Grid, y: usize, c: usize)
     let h = g.h;
     let at = rows::row_at(g, c, y);
     if y >= h - 1 {
-        rows::clear(down, at, w);
+        down[at..at + w].fill(0.0);
         return;
     }
     let below = rows::row_at(g, c, y + 1);
-    rows::differ(plane, down, below, at, at, w);
+    rows::differ(
+        &plane[below..below + w],
+        &plane[at..at + w],
+        &mut down[at..at + w],
+    );
 }
 
 // Both, of every channel.
@@ -79,33 +86,33 @@ fn difference_rows(plane: &[f32], across: &mut [f32], down: &mut [f32], g: Grid,
 }
 
 // The squares of a row's differences, added to the sums.
-fn square_row(across: &[f32], down: &[f32], sums: &mut [f32], at: usize, w: usize)
-    requires { (at + w ≤ length across.now) × (at + w ≤ length down.now) × (w ≤ length sums.old) }
-    ensures { Row w sums.new
-        (λ x. val sums.old x ⊕ square (val across.now (at + x)) ⊕ square (val down.now (at + x))) }
+fn square_row(across: &[f32], down: &[f32], sums: &mut [f32])
+    requires { (length across.now ≡ length sums.old) × (length down.now ≡ length sums.old) }
+    ensures { Row (length sums.old) sums.new
+        (λ x. val sums.old x ⊕ square (val across.now x) ⊕ square (val down.now x)) }
 {
-    for x in 0..w {
-        let k = at + x;
-        sums[x] = sums[x] + across[k] * across[k] + down[k] * down[k];
+    for (x, sum) in sums.iter_mut().enumerate() {
+        *sum = *sum + across[x] * across[x] + down[x] * down[x];
     }
 }
 
 // The norms of row y.
 fn norm_row(across: &[f32], down: &[f32], norm: &mut [f32], g: Grid, y: usize)
-    requires { (y < g.h) × (g.w ≤ length norm.old) × Fills g (length across.now) × Fills g (length down.now) }
+    requires { (y < g.h) × (length norm.old ≡ g.w) × Fills g (length across.now) × Fills g (length down.now) }
     ensures { Row g.w norm.new
         (tv_norms g.n (kept_in g.w g.h across.now y) (kept_in g.w g.h down.now y)) }
 {
     let n = g.n;
     let w = g.w;
-    rows::clear(norm, 0, w);
+    norm.fill(0.0);
     for c in 0..n {
         let at = rows::row_at(g, c, y);
-        square_row(across, down, norm, at, w);
+        square_row(&across[at..at + w], &down[at..at + w], norm);
     }
-    rows::root_row(norm, w);
+    rows::root_row(norm);
 }
 
+// Kept: the bar is 1.2 times the Rust on random planes of 512 by 512, and this form stands at it; with structs of a row's norms and differences blend takes 2.5 to 3.1 per cent longer, by turns in one run.
 // The changes of row y in channel c, kind by kind: right, own place, below. An element takes those of a row in the order of the columns, as pixel by pixel.
 fn channel_row(
     gradient: &mut [f32],
@@ -118,18 +125,20 @@ fn channel_row(
     y: usize,
     c: usize,
 )
-    requires { (c < g.n) × (y < g.h) × (0 < g.w) × (g.w ≤ length norm.now) × (g.w ≤ length q.old)
+    requires { (c < g.n) × (y < g.h) × (0 < g.w) × (length norm.now ≡ g.w) × (length q.old ≡ g.w)
         × Fills g (length gradient.old) × Fills g (length across.now) × Fills g (length down.now) }
     ensures { gradient.new ≡ tv_kinds g.w g.h alpha (λ x. val norm.now x)
         (kept_in g.w g.h across.now y) (kept_in g.w g.h down.now y) y c gradient.old }
 {
     let w = g.w;
     let at = rows::row_at(g, c, y);
-    quotients(across, norm, q, at, w);
+    let row_across = &across[at..at + w];
+    let row_down = &down[at..at + w];
+    quotients(row_across, norm, q);
     rows::right(gradient, norm, &q[..], g, alpha, y, c);
-    own_quotients(across, down, norm, q, at, w);
+    own_quotients(row_across, row_down, norm, q);
     rows::own(gradient, norm, &q[..], g, alpha, y, c);
-    quotients(down, norm, q, at, w);
+    quotients(row_down, norm, q);
     rows::below(gradient, norm, &q[..], g, alpha, y, c);
 }
 
@@ -144,7 +153,7 @@ fn pixel(
     y: usize,
     x: usize,
 )
-    requires { (y < g.h) × (x < g.w) × (g.w ≤ length norm.now)
+    requires { (y < g.h) × (x < g.w) × (length norm.now ≡ g.w)
         × Fills g (length gradient.old) × Fills g (length across.now) × Fills g (length down.now) }
     ensures { gradient.new ≡ upto (λ c. tv_turn g.w g.h alpha (λ z. val norm.now z)
         (kept_in g.w g.h across.now y) (kept_in g.w g.h down.now y) y c x) g.n gradient.old }
@@ -154,9 +163,16 @@ fn pixel(
     if m == 0.0 {
         return;
     }
+    let p = Pixel {
+        g,
+        alpha,
+        norm: m,
+        y,
+        x,
+    };
     for c in 0..n {
         let k = gradients::grid::px(g, c, y, x);
-        gradients::tv::channel_derivatives(gradient, g, alpha, m, across[k], down[k], y, x, c);
+        gradients::tv::channel_derivatives(gradient, p, across[k], down[k], c);
     }
 }
 
@@ -170,7 +186,7 @@ fn pixels(
     alpha: f32,
     y: usize,
 )
-    requires { (y < g.h) × (g.w ≤ length norm.now) × Fills g (length gradient.old) × Fills g (length across.now) × Fills g (length down.now) }
+    requires { (y < g.h) × (length norm.now ≡ g.w) × Fills g (length gradient.old) × Fills g (length across.now) × Fills g (length down.now) }
     ensures { gradient.new ≡ upto (tv_kinds g.w g.h alpha (λ x. val norm.now x)
         (kept_in g.w g.h across.now y) (kept_in g.w g.h down.now y) y) g.n gradient.old }
 {
@@ -191,17 +207,16 @@ fn spread_rows(
     alpha: f32,
     y: usize,
 )
-    requires { (y < g.h) × (0 < g.w) × (g.w ≤ length norm.now) × (g.w ≤ length q.old)
+    requires { (y < g.h) × (0 < g.w) × (length norm.now ≡ g.w) × (length q.old ≡ g.w)
         × Fills g (length gradient.old) × Fills g (length across.now) × Fills g (length down.now) }
     ensures { gradient.new ≡ upto (tv_kinds g.w g.h alpha (λ x. val norm.now x)
         (kept_in g.w g.h across.now y) (kept_in g.w g.h down.now y) y) g.n gradient.old }
 {
     let n = g.n;
-    let w = g.w;
-    if !rows::any(norm, w) {
+    if !rows::any(norm) {
         return;
     }
-    if rows::sparse(norm, w) {
+    if rows::sparse(norm) {
         pixels(gradient, across, down, norm, g, alpha, y);
         return;
     }
@@ -211,17 +226,14 @@ fn spread_rows(
 }
 
 // The total so far and the row's part of it, column by column.
-fn total_row(norm: &[f32], w: usize, alpha: f32, tv: f64) -> f64
-    requires { w ≤ length norm.now }
-    ensures { result ≡ upto (tv_totals alpha (λ x. val norm.now x)) w tv }
+fn total_row(norm: &[f32], alpha: f32, tv: f64) -> f64
+    ensures { result ≡ upto (tv_totals alpha (λ x. val norm.now x)) (length norm.now) tv }
 {
-    let mut t = tv;
-    for x in 0..w {
-        t = float::double::mul_add(alpha, norm[x], t);
-    }
-    t
+    norm.iter()
+        .fold(tv, |t, &m| float::double::mul_add(alpha, m, t))
 }
 
+// Kept: the bar is 1.2 times the Rust on random planes of 512 by 512, and this form stands at it; with structs of a row's norms and differences blend takes 2.5 to 3.1 per cent longer, by turns in one run.
 // Row y: the differences of all channels, the norms, then the changes. The total so far, tv, is taken and given back.
 fn row(
     plane: &[f32],
@@ -235,18 +247,17 @@ fn row(
     y: usize,
     tv: f64,
 ) -> f64
-    requires { (g.n ≤ 3) × (y < g.h) × (0 < g.w) × (g.w ≤ length norm.old) × (g.w ≤ length q.old) × Fills g (length plane.now)
+    requires { (g.n ≤ 3) × (y < g.h) × (0 < g.w) × (length norm.old ≡ g.w) × (length q.old ≡ g.w) × Fills g (length plane.now)
         × Fills g (length gradient.old) × Fills g (length across.old) × Fills g (length down.old) }
     ensures { (record { gradient = gradient.new; across = across.new; down = down.new }
         ≡ tv_gradient_row g.w g.h g.n none alpha plane.now y
         (record { gradient = gradient.old; across = across.old; down = down.old }))
         × (result ≡ tv_total_row g.w g.h g.n none alpha plane.now y tv) }
 {
-    let w = g.w;
     difference_rows(plane, across, down, g, y);
     norm_row(&across[..], &down[..], norm, g, y);
     spread_rows(gradient, &across[..], &down[..], &norm[..], q, g, alpha, y);
-    total_row(&norm[..], w, alpha, tv)
+    total_row(&norm[..], alpha, tv)
 }
 
 // tv_gradient where no channel is held: every row. The total is returned. Rules out: two changes of one place in another order, and a total summed row by row first.
@@ -265,15 +276,16 @@ pub fn tv_gradient(
         × (result ≡ tv_total g.w g.h g.n none plane.now) }
 {
     let n = g.n;
+    let w = g.w;
     let h = g.h;
     let alpha = gradients::tv::alpha_of(n);
-    let mut norm = [0.0f32; 512];
-    let mut q = [0.0f32; 512];
+    let mut norms = [0.0f32; 512];
+    let mut quotients = [0.0f32; 512];
+    let norm = &mut norms[..w];
+    let q = &mut quotients[..w];
     let mut tv = 0.0f64;
     for y in 0..h {
-        tv = row(
-            plane, gradient, across, down, &mut norm, &mut q, g, alpha, y, tv,
-        );
+        tv = row(plane, gradient, across, down, norm, q, g, alpha, y, tv);
     }
     tv
 }

@@ -49,35 +49,27 @@ mild_of S n w d =
     is_true true t = refl
     is_true false t = absurd t
 
-pick : {A : Type 0} (P : A → Type 0) (a b : Bool) (x y z : A) → P x → P y → P z → P (cond a x (cond b y z))
-pick P true b x y z p q r = p
-pick P false true x y z p q r = q
-pick P false false x y z p q r = r
-
 module _ (S : Sheet) (m : MildSheet S) where
   weight-at : (c : ℕ) → c < 3 → light (own_of (get_or (joint S).channels c no_channel)).data_weight ≡ true
   unfolding joint
-  weight-at zero l = m.data0
-  weight-at (suc zero) l = m.data1
-  weight-at (suc (suc zero)) l = m.data2
+  weight-at zero l = m.data_weights 0
+  weight-at (suc zero) l = m.data_weights 1
+  weight-at (suc (suc zero)) l = m.data_weights 2
   weight-at (suc (suc (suc c))) l = absurd (omega arith)
 
   joint_mild : S.header.channels ≤ 3 → mild (sheet_of (joint S)) ≡ true
   unfolding joint
   joint_mild three =
-      mild_of (sheet_of (joint S)) m.iterations0 m.smoothing0
+      mild_of (sheet_of (joint S)) (m.iterations 0) (m.smoothing 0)
       (λ c l. subst (λ (o : Numbers). light o.data_weight ≡ true) (sym (at_own (joint S) c three l)) (weight-at c (omega arith)))
 
   alone_mild : (c : ℕ) → mild (sheet_of (alone S c)) ≡ true
   unfolding alone
   alone_mild c =
-      mild_of (sheet_of (alone S c))
-      (pick (λ n. n ≤ most_steps) (eqb c 0) (eqb c 1) S.header.iterations0 S.header.iterations1 S.header.iterations2 m.iterations0 m.iterations1 m.iterations2)
-      (pick Light (eqb c 0) (eqb c 1) S.header.smoothing0 S.header.smoothing1 S.header.smoothing2 m.smoothing0 m.smoothing1 m.smoothing2)
-      only
+      mild_of (sheet_of (alone S c)) (m.iterations c) (m.smoothing c) only
     where
       only : (i : ℕ) → i < 1 → light (own (sheet_of (alone S c)) i).data_weight ≡ true
-      only zero l = m.data0
+      only zero l = m.data_weights 0
       only (suc i) l = absurd (omega arith)
 
 -- any list of calls on such a run, whatever start was lent

@@ -4,6 +4,8 @@ use Rattle.std.specs.Prelude.{◌≡◌, true, ℕ, ◌≤◌}
 use Rattle.contents.specs.declared.Weight.{Weight}
 use Rattle.contents.specs.Weights.{value_of}
 use Rattle.contents.specs.declared.Sheet.{Sheet}
+use Rattle.contents.specs.Hold.{iterations_at}
+use Rattle.contents.specs.Sheets.{smoothing_at, data_at}
 use Rattle.solve.specs.Solve.{joint, alone}
 use Rattle.mild.specs.Mild.{most_steps, light}
 use Rattle.mild.specs.Checked.{RunNeverBlows}
@@ -12,15 +14,9 @@ abbrev pub Light : Weight → Type 0
 Light w = light (value_of w) ≡ true
 
 pub record MildSheet (S : Sheet) : Type 0 where
-  pub iterations0 : S.header.iterations0 ≤ most_steps
-  pub iterations1 : S.header.iterations1 ≤ most_steps
-  pub iterations2 : S.header.iterations2 ≤ most_steps
-  pub smoothing0 : Light S.header.smoothing0
-  pub smoothing1 : Light S.header.smoothing1
-  pub smoothing2 : Light S.header.smoothing2
-  pub data0 : Light S.header.data0
-  pub data1 : Light S.header.data1
-  pub data2 : Light S.header.data2
+  pub iterations : (c : ℕ) → iterations_at S.header c ≤ most_steps
+  pub smoothing : (c : ℕ) → Light (smoothing_at S.header c)
+  pub data_weights : (c : ℕ) → Light (data_at S.header c)
 
 -- "no list of job calls from a fresh run, lent as demand 3 says, ever marks a channel": of the run that a sheet has in joint mode, and of each that it has in
 -- separate mode. A theorem, `sheet_never` of proofs/Unblown.antt.

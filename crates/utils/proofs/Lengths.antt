@@ -10,7 +10,6 @@ use Rattle.fold.proofs.Loops.{upto-keeps}
 use Rattle.utils.specs.Auxiliary.{upsample_at, upsample_pixels, upsample_row}
 use Rattle.utils.specs.Blocks.{copy_at, from_blocks, move_block, move_line, move_lines, move_row, on_block, row_index, row_start, to_blocks}
 use Rattle.utils.specs.Dct.{columns_rows, dct8, dct8x8, idct8, idct8x8, on_column, on_line, on_row}
-use Rattle.utils.specs.declared.dct.Eight.{Eight}
 use Rattle.utils.proofs.Opened.{dct_is, from_is, idct_is, to_is, upsample_is}
 
 -- a loop over lists
@@ -19,11 +18,11 @@ loop f h n a = upto-keeps length f h n a
 
 -- ---- the transforms
 
-line_length : (f : Eight → Eight) (b d : ℕ) (s : List Float) → length (on_line f b d s) ≡ length s
+line_length : (f : List Float → List Float) (b d : ℕ) (s : List Float) → length (on_line f b d s) ≡ length s
 unfolding on_line
 line_length f b d s = simp length-set
 
-columns_rows_length : (f : Eight → Eight) (s : List Float) → length (columns_rows f s) ≡ length s
+columns_rows_length : (f : List Float → List Float) (s : List Float) → length (columns_rows f s) ≡ length s
 columns_rows_length f s =
     loop (on_row f) (λ j a. line_length f (j * 8) 1 a) 8 (upto (on_column f) 8 s) ∙ loop (on_column f) (λ j a. line_length f j 8 a) 8 s
 

@@ -1,6 +1,6 @@
 // blocks.rs: block order, where the 64 values of a block follow one another, and raster order.
 ghost use Rattle.std.specs.Prelude.{◌≡◌, ◌+◌, ◌*◌, ◌≤◌, length};
-ghost use Rattle.utils.specs.Blocks.{copy8, from_blocks, move_blocks, stored, taken, to_blocks};
+ghost use Rattle.utils.specs.Blocks.{copy8, move_blocks, stored, taken};
 
 // The order that values are brought to.
 #[derive(Clone, Copy)]
@@ -22,7 +22,8 @@ impl Order {
 }
 
 // A row of a block.
-// Kept: tried with these lines in `move_blocks` itself, and the proof of its five bounds and its loop didn't close.
+// Kept: tried with this line in `move_blocks` itself, and the proof of its bounds didn't close: both slices, the ends of both and the sum of the place and 8.
+#[tactic(auto, using(crate::proofs::Copied::copied))]
 fn copy8(input: &[f32], output: &mut [f32], from: usize, to: usize)
     requires { (from + 8 ≤ length input.now) × (to + 8 ≤ length output.old) }
     ensures { output.new ≡ copy8 input.now from to output.old }
@@ -30,9 +31,10 @@ fn copy8(input: &[f32], output: &mut [f32], from: usize, to: usize)
     output[to..to + 8].copy_from_slice(&input[from..from + 8]);
 }
 
-// The loops of `from_blocks`, and of `to_blocks`: a row of a block is stored where the other reads it.
-#[tactic(auto, using(crate::proofs::Places::placed))]
-fn move_blocks(
+// Values of bh lines of bw blocks brought to this order, the Rust's `from_blocks` and `to_blocks`: the first w * h values of `output`.
+// Ruled out: the rows of a block one after the other above width 8; blocks taken column by column; and the other order, which differs above width 8.
+#[tactic(auto, using(crate::proofs::Places::placed, fold::proofs::Loops::upto_more, fold::proofs::Loops::upto_none, crate::proofs::Opened::move_is))]
+pub fn move_blocks(
     input: &[f32],
     output: &mut [f32],
     w: usize,
@@ -55,24 +57,4 @@ fn move_blocks(
             }
         }
     }
-}
-
-// Kept: `from_blocks` and `to_blocks` are the Rust's two names, and one with the order as a parameter would be no plainer.
-// Block order to raster order, for bh lines of bw blocks: the first w * h values of `output`.
-// Ruled out: the rows of a block one after the other above width 8; and rows and columns of a block exchanged.
-pub fn from_blocks(input: &[f32], output: &mut [f32], w: usize, h: usize, bw: usize, bh: usize)
-    requires { (w ≡ bw * 8) × (h ≡ bh * 8) × (w * h ≤ length input.now) × (w * h ≤ length output.old) }
-    ensures { output.new ≡ from_blocks w bw bh input.now output.old }
-{
-    move_blocks(input, output, w, h, bw, bh, Order::Raster);
-}
-
-// Kept: as `from_blocks`.
-// Raster order to block order: the first w * h values of `output`.
-// Ruled out: `from_blocks` in its place, which differs above width 8; and blocks taken column by column.
-pub fn to_blocks(input: &[f32], output: &mut [f32], w: usize, h: usize, bw: usize, bh: usize)
-    requires { (w ≡ bw * 8) × (h ≡ bh * 8) × (w * h ≤ length input.now) × (w * h ≤ length output.old) }
-    ensures { output.new ≡ to_blocks w bw bh input.now output.old }
-{
-    move_blocks(input, output, w, h, bw, bh, Order::Blocks);
 }

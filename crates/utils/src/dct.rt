@@ -2,7 +2,7 @@
 ghost use Rattle.std.specs.Prelude.{◌≡◌, ◌+◌, ◌*◌, ◌<◌, ◌≤◌, length};
 ghost use Rattle.fold.specs.Fold.{upto};
 ghost use Rattle.utils.specs.Blocks.{on_block};
-ghost use Rattle.utils.specs.Dct.{dct8, dct8x8, transform8, idct8, idct8x8, line, on_line, set_line, transform8x8};
+ghost use Rattle.utils.specs.Dct.{dct8, transform8, idct8, line, on_line, set_line, transform8x8};
 
 const C8_1R: f32 = 0.490_392_640_201_615_224_56;
 
@@ -20,66 +20,54 @@ const C8_4R: f32 = 0.353_553_390_593_273_762_20;
 
 const W8_4R: f32 = 0.707_106_781_186_547_524_40;
 
-// The eight values of a column or row.
-// Kept: an array would be no plainer: its values would be `val a 3` in specs/, each with a length to be known beside it, where these have names.
-#[derive(Clone, Copy)]
-pub struct Eight {
-    pub a0: f32,
-    pub a1: f32,
-    pub a2: f32,
-    pub a3: f32,
-    pub a4: f32,
-    pub a5: f32,
-    pub a6: f32,
-    pub a7: f32,
-}
-
 // What `idct8x8` makes of the eight values of a column or row.
-fn idct8(a: Eight) -> Eight
+#[tactic(auto, unfolding(crate::specs::Dct::idct8))]
+fn idct8(a: [f32; 8]) -> [f32; 8]
     ensures { result ≡ idct8 a }
 {
-    let mut x1r = C8_1R * a.a1 + C8_1I * a.a7;
-    let mut x1i = C8_1R * a.a7 + -(C8_1I * a.a1);
-    let mut x3r = C8_3R * a.a3 + C8_3I * a.a5;
-    let mut x3i = C8_3R * a.a5 + -(C8_3I * a.a3);
+    let mut x1r = C8_1R * a[1] + C8_1I * a[7];
+    let mut x1i = C8_1R * a[7] + -(C8_1I * a[1]);
+    let mut x3r = C8_3R * a[3] + C8_3I * a[5];
+    let mut x3i = C8_3R * a[5] + -(C8_3I * a[3]);
     let mut xr = x1r - x3r;
     let mut xi = x1i + x3i;
     x1r += x3r;
     x3i -= x1i;
     x1i = W8_4R * (xr + xi);
     x3r = W8_4R * (xr - xi);
-    xr = C8_2R * a.a2 + C8_2I * a.a6;
-    xi = C8_2R * a.a6 + -(C8_2I * a.a2);
-    let mut x0r = C8_4R * (a.a0 + a.a4);
-    let mut x0i = C8_4R * (a.a0 - a.a4);
+    xr = C8_2R * a[2] + C8_2I * a[6];
+    xi = C8_2R * a[6] + -(C8_2I * a[2]);
+    let mut x0r = C8_4R * (a[0] + a[4]);
+    let mut x0i = C8_4R * (a[0] - a[4]);
     let x2r = x0r - xr;
     let x2i = x0i - xi;
     x0r += xr;
     x0i += xi;
-    Eight {
-        a0: x0r + x1r,
-        a7: x0r - x1r,
-        a2: x0i + x1i,
-        a5: x0i - x1i,
-        a4: x2r - x3i,
-        a3: x2r + x3i,
-        a6: x2i - x3r,
-        a1: x2i + x3r,
-    }
+    [
+        x0r + x1r,
+        x2i + x3r,
+        x0i + x1i,
+        x2r + x3i,
+        x2r - x3i,
+        x0i - x1i,
+        x2i - x3r,
+        x0r - x1r,
+    ]
 }
 
 // What `dct8x8` makes of the eight values of a column or row.
-fn dct8(a: Eight) -> Eight
+#[tactic(auto, unfolding(crate::specs::Dct::dct8))]
+fn dct8(a: [f32; 8]) -> [f32; 8]
     ensures { result ≡ dct8 a }
 {
-    let x0r = a.a0 + a.a7;
-    let mut x1r = a.a0 - a.a7;
-    let x0i = a.a2 + a.a5;
-    let mut x1i = a.a2 - a.a5;
-    let x2r = a.a4 + a.a3;
-    let mut x3r = a.a4 - a.a3;
-    let x2i = a.a6 + a.a1;
-    let mut x3i = a.a6 - a.a1;
+    let x0r = a[0] + a[7];
+    let mut x1r = a[0] - a[7];
+    let x0i = a[2] + a[5];
+    let mut x1i = a[2] - a[5];
+    let x2r = a[4] + a[3];
+    let mut x3r = a[4] - a[3];
+    let x2i = a[6] + a[1];
+    let mut x3i = a[6] - a[1];
     let mut xr = x0r + x2r;
     let mut xi = x0i + x2i;
     let a0 = C8_4R * (xr + xi);
@@ -98,48 +86,39 @@ fn dct8(a: Eight) -> Eight
     let a7 = C8_1R * x1i + C8_1I * x1r;
     let a3 = C8_3R * x3r + -(C8_3I * x3i);
     let a5 = C8_3R * x3i + C8_3I * x3r;
-    Eight {
-        a0,
-        a1,
-        a2,
-        a3,
-        a4,
-        a5,
-        a6,
-        a7,
-    }
+    [a0, a1, a2, a3, a4, a5, a6, a7]
 }
 
 // The eight values at b, d + b, .., 7 * d + b.
-fn read_line(a: &[f32], b: usize, d: usize) -> Eight
-    requires { (7 * d + b < length a.now) × (length a.now ≡ 64) }
+fn read_line(a: &[f32], b: usize, d: usize) -> [f32; 8]
+    requires { 7 * d + b < length a.now }
     ensures { result ≡ line (λ i. i * d + b) a.now }
 {
-    Eight {
-        a0: a[0 * d + b],
-        a1: a[1 * d + b],
-        a2: a[2 * d + b],
-        a3: a[3 * d + b],
-        a4: a[4 * d + b],
-        a5: a[5 * d + b],
-        a6: a[6 * d + b],
-        a7: a[7 * d + b],
-    }
+    [
+        a[0 * d + b],
+        a[1 * d + b],
+        a[2 * d + b],
+        a[3 * d + b],
+        a[4 * d + b],
+        a[5 * d + b],
+        a[6 * d + b],
+        a[7 * d + b],
+    ]
 }
 
 // Those eight places become the values of v.
-fn write_line(a: &mut [f32], b: usize, d: usize, v: Eight)
-    requires { (7 * d + b < length a.old) × (length a.old ≡ 64) }
+fn write_line(a: &mut [f32], b: usize, d: usize, v: [f32; 8])
+    requires { 7 * d + b < length a.old }
     ensures { a.new ≡ set_line (λ i. i * d + b) v a.old }
 {
-    a[0 * d + b] = v.a0;
-    a[1 * d + b] = v.a1;
-    a[2 * d + b] = v.a2;
-    a[3 * d + b] = v.a3;
-    a[4 * d + b] = v.a4;
-    a[5 * d + b] = v.a5;
-    a[6 * d + b] = v.a6;
-    a[7 * d + b] = v.a7;
+    a[0 * d + b] = v[0];
+    a[1 * d + b] = v[1];
+    a[2 * d + b] = v[2];
+    a[3 * d + b] = v[3];
+    a[4 * d + b] = v[4];
+    a[5 * d + b] = v[5];
+    a[6 * d + b] = v[6];
+    a[7 * d + b] = v[7];
 }
 
 // The two transforms.
@@ -151,7 +130,7 @@ pub enum Transform {
 
 impl Transform {
     // The transform of eight values.
-    fn transform8(self, v: Eight) -> Eight
+    fn transform8(self, v: [f32; 8]) -> [f32; 8]
         ensures { result ≡ transform8 self v }
     {
         match self {
@@ -162,8 +141,9 @@ impl Transform {
 }
 
 // One column or row, the line that starts at b and goes by d.
+#[tactic(auto, unfolding(crate::specs::Dct::on_line))]
 fn transform_line(a: &mut [f32], b: usize, d: usize, transform: Transform)
-    requires { (7 * d + b < length a.old) × (length a.old ≡ 64) }
+    requires { 7 * d + b < length a.old }
     ensures { a.new ≡ on_line (transform8 transform) b d a.old }
 {
     let v = read_line(&a[..], b, d);
@@ -171,8 +151,10 @@ fn transform_line(a: &mut [f32], b: usize, d: usize, transform: Transform)
     write_line(a, b, d, r);
 }
 
-// The eight columns, and then the eight rows.
-fn transform8x8(a: &mut [f32], transform: Transform)
+// The transform of the 64 values of a block, the Rust's `dct8x8` and `idct8x8`: of the eight columns, and then of the eight rows.
+// Ruled out: rows before columns; and `mul_add!` rounded once.
+#[tactic(auto, using(fold::proofs::Loops::upto_more, fold::proofs::Loops::upto_none))]
+pub fn transform8x8(a: &mut [f32], transform: Transform)
     requires { length a.old ≡ 64 }
     ensures { a.new ≡ transform8x8 transform a.old }
 {
@@ -184,74 +166,23 @@ fn transform8x8(a: &mut [f32], transform: Transform)
     }
 }
 
-// Block i: a part that starts at 64 times i is passed on.
-fn transform_block(xs: &mut [f32], i: usize, transform: Transform)
+// The transform of block i, the 64 values from 64 times i on.
+// Ruled out: the block after it; and a value of another block changed.
+pub fn transform_block(xs: &mut [f32], i: usize, transform: Transform)
     requires { i * 64 + 64 ≤ length xs.old }
     ensures { xs.new ≡ on_block (transform8x8 transform) i xs.old }
 {
     transform8x8(&mut xs[i * 64..i * 64 + 64], transform);
 }
 
-// Each of the first n blocks.
-fn transform_blocks(xs: &mut [f32], n: usize, transform: Transform)
+// The transform of each of the first n blocks.
+// Ruled out: the first block alone; and a value past the n blocks changed.
+#[tactic(auto, using(fold::proofs::Loops::upto_more, fold::proofs::Loops::upto_none))]
+pub fn transform_blocks(xs: &mut [f32], n: usize, transform: Transform)
     requires { n * 64 ≤ length xs.old }
     ensures { xs.new ≡ upto (on_block (transform8x8 transform)) n xs.old }
 {
     for i in 0..n {
         transform_block(xs, i, transform);
     }
-}
-
-// The inverse transform of the 64 values of a block.
-// Ruled out: rows before columns; and `mul_add!` rounded once.
-pub fn idct8x8(a: &mut [f32])
-    requires { length a.old ≡ 64 }
-    ensures { a.new ≡ idct8x8 a.old }
-{
-    transform8x8(a, Transform::Inverse);
-}
-
-// The transform of the 64 values of a block.
-// Ruled out: the inverse in its place; and a sum for a difference of two values.
-pub fn dct8x8(a: &mut [f32])
-    requires { length a.old ≡ 64 }
-    ensures { a.new ≡ dct8x8 a.old }
-{
-    transform8x8(a, Transform::Forward);
-}
-
-// The inverse transform of block i.
-// Ruled out: the block after it; and a value of another block changed.
-pub fn idct_block(xs: &mut [f32], i: usize)
-    requires { i * 64 + 64 ≤ length xs.old }
-    ensures { xs.new ≡ on_block idct8x8 i xs.old }
-{
-    transform_block(xs, i, Transform::Inverse);
-}
-
-// The transform of block i.
-// Ruled out: the inverse; and all blocks transformed.
-pub fn dct_block(xs: &mut [f32], i: usize)
-    requires { i * 64 + 64 ≤ length xs.old }
-    ensures { xs.new ≡ on_block dct8x8 i xs.old }
-{
-    transform_block(xs, i, Transform::Forward);
-}
-
-// The inverse transform of each of the first n blocks.
-// Ruled out: the first block alone; and a value past the n blocks changed.
-pub fn idct_blocks(xs: &mut [f32], n: usize)
-    requires { n * 64 ≤ length xs.old }
-    ensures { xs.new ≡ upto (on_block idct8x8) n xs.old }
-{
-    transform_blocks(xs, n, Transform::Inverse);
-}
-
-// The transform of each of the first n blocks.
-// Ruled out: a block transformed twice; and the last block left as it was.
-pub fn dct_blocks(xs: &mut [f32], n: usize)
-    requires { n * 64 ≤ length xs.old }
-    ensures { xs.new ≡ upto (on_block dct8x8) n xs.old }
-{
-    transform_blocks(xs, n, Transform::Forward);
 }

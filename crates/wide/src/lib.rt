@@ -34,6 +34,7 @@ fn is_clear(s: f64) -> bool
 }
 
 // The last 29 digits of s rounded away, by its bit pattern: an f32, held as an f64.
+#[tactic(auto, using(crate::proofs::Tidied::tidied, crate::proofs::Tidied::tidy_number, crate::proofs::Pattern::bits_lt))]
 fn tidy(s: f64) -> f64
     requires { Clear s }
     ensures { result ≡ narrowed s }
@@ -42,6 +43,7 @@ fn tidy(s: f64) -> f64
 }
 
 // The f32 nearest to s, and to each number whose nearest f64 s is: the ties lie between both alike, being f64 themselves.
+#[tactic(auto, using(crate::proofs::Clearly::narrow_is))]
 fn narrow(s: f64) -> f32
     requires { Clear s }
     ensures { (t : Bool) (n d : ℕ) → 0 < d → s ≡ round binary64 t n d → result ≡ round binary32 t n d }
@@ -52,6 +54,7 @@ fn narrow(s: f64) -> f32
 // a * b + c where the sum isn't clear: a factor that is 0 makes a product that is exact in f32, and everything else goes to `float`.
 // Never inlined, so that `mul_add` is small enough to stand in the loop of move, which takes 1.5 times as long otherwise.
 #[inline(never)]
+#[tactic(auto, using(crate::proofs::Zero::is_zero, crate::proofs::Zero::first_zero, crate::proofs::Zero::second_zero))]
 fn mul_add_unclear(a: f32, b: f32, c: f32) -> f32
     ensures { result ≡ fused a b c }
 {
@@ -62,6 +65,7 @@ fn mul_add_unclear(a: f32, b: f32, c: f32) -> f32
 }
 
 // (a + b) / 2 where the half sum isn't clear: that of two zeros is their sum.
+#[tactic(auto, using(crate::proofs::Zero::is_zero, crate::proofs::Zero::both_zero))]
 fn midpoint_unclear(a: f32, b: f32) -> f32
     ensures { result ≡ midpoint a b }
 {
@@ -74,6 +78,7 @@ fn midpoint_unclear(a: f32, b: f32) -> f32
 // The method `mul_add`: a * b + c, rounded once. A factor a of 1, that of the first-order term in a run of one channel, leaves the f32 sum, which often is a tie of the f64 one.
 // Else the product is exact in f64. A NaN, a zero and any other sum that isn't clear go to `mul_add_unclear`.
 // Ruled out: the f64 sum at a tie of two f32 taken for the exact sum; -0 where the exact sum cancels.
+#[tactic(auto, using(crate::proofs::One::is_one, crate::proofs::One::first_one))]
 pub fn mul_add(a: f32, b: f32, c: f32) -> f32
     ensures { result ≡ fused a b c }
 {
@@ -103,6 +108,7 @@ pub fn midpoint(a: f32, b: f32) -> f32
 const ROOT_PATTERN: u64 = 6910469410427058089;
 
 // A guess at the root of n: Newton's method for 1 / √n in f64, from a bit pattern. Nothing is said of how good it is.
+#[tactic(auto, using(crate::proofs::Pattern::guess_number))]
 fn guess(n: u64) -> u64
     requires { n < 2 ^ 48 }
     ensures { result < 33554432 }
@@ -124,6 +130,7 @@ fn guess(n: u64) -> u64
 }
 
 // The root of m * 2^k of the format's smallest values, rounded: q is right where the radicand lies between the squares of q - 1/2 and q + 1/2.
+#[tactic(auto, using(crate::proofs::Near::root_is, crate::proofs::Near::radicand_lt, crate::proofs::Near::radicand_exact))]
 fn root_of(m: u64, k: u32) -> f32
     requires { IsPositive m k }
     ensures { result ≡ root_of m k }

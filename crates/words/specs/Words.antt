@@ -1,5 +1,5 @@
 -- A line's words, parted by one space, and the number that a word spells.
-use Rattle.std.specs.Prelude.{List, [], ℕ, zero, suc, Option, Some, None, ◌+◌, ◌*◌, ◌%◌, ◌^◌, ◌==◌, ltb, cond, take, drop, position}
+use Rattle.std.specs.Prelude.{Bool, true, ◌&&◌, List, [], ◌∷◌, ◌++◌, ℕ, zero, suc, Option, Some, None, ◌+◌, ◌*◌, ◌%◌, ◌^◌, ◌==◌, ltb, cond, take, drop, position}
 use Rattle.std.specs.List.{fold}
 use Rattle.std.specs.Char.{digit_value}
 
@@ -34,6 +34,17 @@ digit b = cond (ltb (digit_value b) 16) (digit_value b) 0
 -- the number that hexadecimal digits spell, modulo 2^32
 abbrev pub number : List ℕ → ℕ
 number word = fold (λ v b. ((v * 16) % 2 ^ 32 + digit b) % 2 ^ 32) 0 word
+
+module _ {T : Type 0} where
+  -- f of the numbers that the first k words are
+  abbrev pub values_of : (ℕ → T) → ℕ → List ℕ → List T
+  values_of f zero line = []
+  values_of f (suc k) line = values_of f k line ++ f (number (first_word (from_word k line))) ∷ []
+
+  -- whether f says so of each value and the number that the word at its place is
+  abbrev pub same_values : (T → ℕ → Bool) → List ℕ → List T → Bool
+  same_values f line [] = true
+  same_values f line (x ∷ xs) = f x (number (first_word line)) && same_values f (after_word line) xs
 
 -- ---- digests
 

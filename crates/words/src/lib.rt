@@ -2,11 +2,12 @@
 // programs that replay the oracle's answers and count how many are the same. A word that is no number reads as some number.
 #![tactic(auto)]
 
-ghost use Rattle.std.specs.Prelude.{◌≡◌, ◌≤◌, ◌*◌, ◌%◌, ◌^◌, length, IfOk};
-ghost use Rattle.words.specs.Words.{word_end, first_word, after_word, from_word, digit, number, with};
+ghost use Rattle.std.specs.Prelude.{Bool, ℕ, ◌≡◌, ◌≤◌, ◌*◌, ◌%◌, ◌^◌, length, IfOk};
+ghost use Rattle.words.specs.Words.{word_end, first_word, after_word, from_word, number, values_of, same_values, with};
 
 use filling::read_full;
 use std::io::Read;
+use std::ops::Range;
 use std::{fmt, io};
 
 // Where the line's first word ends. Ruled out: the place behind the space; that of a later space.
@@ -46,19 +47,15 @@ pub fn word(line: &[u8], k: usize) -> &[u8]
     split_word(from_word(line, k)).0
 }
 
-// A hexadecimal digit's value; 0 for any other byte. Ruled out: the byte itself; 6 for `f`.
-fn digit(b: u8) -> u32
-    ensures { result ≡ digit b }
-{
-    char::from(b).to_digit(16).unwrap_or(0)
-}
-
-// The number whose hexadecimal digits the word is. Ruled out: the digits' sum; the digits read from the last to the first.
+// The number whose hexadecimal digits the word is; a byte that is no digit counts as 0. Ruled out: the digits' sum; the digits read from the last to the first.
+// Kept: `u32::from_str_radix` takes a str, and gives no number for a word with another byte or with more than eight digits.
 pub fn number(word: &[u8]) -> u32
     ensures { result ≡ number word.now }
 {
-    word.iter()
-        .fold(0u32, |v, &b| v.wrapping_mul(16).wrapping_add(digit(b)))
+    word.iter().fold(0u32, |v, &b| {
+        let digit = char::from(b).to_digit(16).unwrap_or(0);
+        v.wrapping_mul(16).wrapping_add(digit)
+    })
 }
 
 // The number that word k of the line is. Ruled out: that of the word before or after it.
@@ -89,10 +86,11 @@ pub fn bytes(word: &[u8], out: &mut [u8]) -> usize
 }
 
 // The values of xs become those of the line's first words. Answers what stands behind them.
-// Ruled out: a word read for no value; the words read anew from the first.
+// Ruled out: a word read for no value; the first word read for each value.
 pub fn read<'a, T: Copy, F: Fn(u32) -> T>(line: &'a [u8], xs: &mut [T], value: F) -> &'a [u8]
     requires { F.IsAlwaysCallable value }
     ensures len { length xs.new ≡ length xs.old }
+    ensures values { (g : ℕ → T) → ((n : ℕ) (x : T) → F.post value n x → x ≡ g n) → xs.new ≡ values_of g (length xs.old) line.now }
     ensures after { result.now ≡ from_word (length xs.old) line.now }
 {
     let mut rest = line;
@@ -105,8 +103,10 @@ pub fn read<'a, T: Copy, F: Fn(u32) -> T>(line: &'a [u8], xs: &mut [T], value: F
 }
 
 // Whether `same` says so of each value of xs and the number that the line's word at its place is.
+// Ruled out: true where the last value alone is another; the first word read for each value.
 pub fn same_values<T: Copy, F: Fn(T, u32) -> bool>(line: &[u8], xs: &[T], same: F) -> bool
     requires { F.IsAlwaysCallable same }
+    ensures { (g : T → ℕ → Bool) → ((x : T) (n : ℕ) (b : Bool) → F.post same x n b → b ≡ g x n) → result ≡ same_values g line.now xs.now }
 {
     let mut rest = line;
     for x in xs {
@@ -126,16 +126,16 @@ pub fn with(digest: u32, n: u32) -> u32
     digest.wrapping_mul(31).wrapping_add(n)
 }
 
-// Moves what stands from `from` to `to` to the front of the buffer, reads the input behind it until the buffer is full or the input ends, and answers
+// Moves what stands at these places to the front of the buffer, reads the input behind it until the buffer is full or the input ends, and answers
 // where what was read ends. Where a read fails its error is answered, and of the buffer only its length is promised.
 // Rules out: an end past the buffer's; and a buffer that comes back with another length.
-pub fn refill<R: Read>(input: &mut R, buf: &mut [u8], from: usize, to: usize) -> io::Result<usize>
-    requires { (from ≤ to) × (to ≤ length buf.old) }
+pub fn refill<R: Read>(input: &mut R, buf: &mut [u8], places: Range<usize>) -> io::Result<usize>
+    requires { (places.start ≤ places.end) × (places.end ≤ length buf.old) }
     ensures len { length buf.new ≡ length buf.old }
     ensures ends { IfOk result (λ n. n ≤ length buf.old) }
 {
-    buf.copy_within(from..to, 0);
-    let kept = to - from;
+    let kept = places.end - places.start;
+    buf.copy_within(places, 0);
     let got = read_full(input, &mut buf[kept..])?;
     Ok(kept + got)
 }
@@ -145,16 +145,6 @@ pub fn refill<R: Read>(input: &mut R, buf: &mut [u8], from: usize, to: usize) ->
 pub struct Tally {
     pub same: u64,
     pub other: u64,
-}
-
-impl Tally {
-    // The tally with one answer more, which is the same as the oracle's or not.
-    pub fn with(self, same: bool) -> Tally {
-        Tally {
-            same: self.same.saturating_add(u64::from(same)),
-            other: self.other.saturating_add(u64::from(!same)),
-        }
-    }
 }
 
 impl fmt::Display for Tally {
@@ -175,7 +165,11 @@ fn count_lines<F: Fn(&[u8]) -> bool>(text: &[u8], tally: Tally, same: &F) -> (Ta
         Some(end) => {
             let mut tally = tally;
             for line in text[..end].split(|&b| b == b'\n') {
-                tally = tally.with(same(line));
+                if same(line) {
+                    tally.same = tally.same.saturating_add(1);
+                } else {
+                    tally.other = tally.other.saturating_add(1);
+                }
             }
             (tally, end + 1)
         }
@@ -183,7 +177,7 @@ fn count_lines<F: Fn(&[u8]) -> bool>(text: &[u8], tally: Tally, same: &F) -> (Ta
 }
 
 // Counts for how many lines of the input `same` says that the line's answer is the oracle's. The input is read piece by piece; the loop ends where nothing more
-// is counted. Where a read fails its error is answered.
+// is counted. Where a read fails its error is answered. No clause promises anything of the two numbers.
 pub fn count<R: Read, F: Fn(&[u8]) -> bool>(input: &mut R, same: F) -> io::Result<Tally>
     requires { F.IsAlwaysCallable same }
 {
@@ -192,11 +186,20 @@ pub fn count<R: Read, F: Fn(&[u8]) -> bool>(input: &mut R, same: F) -> io::Resul
     let mut from = 0;
     let mut to = 0;
     for _ in 0..u64::MAX {
-        to = refill(input, &mut text, from, to)?;
+        to = refill(input, &mut text, from..to)?;
         (tally, from) = count_lines(&text[..to], tally, &same);
         if from == 0 {
             break;
         }
     }
     Ok(tally)
+}
+
+// What a program that replays does: it makes the tally of standard input with `count` and prints it as one line. Where a read or the printing fails its error is
+// answered. No clause promises anything of what is printed.
+pub fn replay<F: Fn(&[u8]) -> bool>(rt: HostRuntime, same: F) -> io::Result<()>
+    requires { F.IsAlwaysCallable same }
+{
+    let tally = count(&mut rt.stdin(), same)?;
+    println!(rt; "{tally}")
 }

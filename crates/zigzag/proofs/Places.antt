@@ -2,7 +2,7 @@
 use mathlib.Core.Path.{◌≡◌, refl, sym, ◌∙◌, subst}
 use mathlib.Core.Bool.{Bool}
 use mathlib.Core.List.{List}
-use Prim.Native.Nat.{ℕ, ◌+◌, ◌*◌, ◌/◌, ◌%◌, ◌<◌}
+use Prim.Native.Nat.{ℕ, ◌+◌, ◌*◌, ◌/◌, ◌%◌, ◌<◌, ◌≤◌}
 use native.Mathlib.Omega.{arith}
 use lib.Dec.{T, ltb, eqb, ltb→lt, eqb→eq}
 use lib.ListN.{length, get_or}
@@ -86,6 +86,10 @@ raster_in k n h l = omega (arith, raster_block k)
 
 pub zigzag_in : (k n : ℕ) → n % 64 ≡ 0 → k < n → to_zigzag k < n
 zigzag_in k n h l = omega (arith, zigzag_block k)
+
+-- where the block of place k lies within n places
+pub zigzag_within : (k n : ℕ) → k / 64 * 64 + 64 ≤ n → to_zigzag k < n
+zigzag_within k n h = omega (arith, zigzag_block k)
 
 -- one block
 pub raster_small : (k : ℕ) → k < 64 → to_raster k < 64

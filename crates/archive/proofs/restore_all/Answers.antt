@@ -1,3 +1,4 @@
+-- Kept: the check finds none of these alone (scripts/answers tries each).
 use mathlib.Core.Path.{◌≡◌, refl, sym, ap, ◌∙◌}
 use mathlib.Core.Bool.{true}
 use Prim.Native.Nat.{◌%◌}
@@ -22,9 +23,6 @@ use Rattle.archive.proofs.restore_all.Goals.{After-restored_at-level}
 pub loop-p-init : goal.loop-p-init
 unfolding chain
 loop-p-init c = (search rules, refl, refl, c.requires.0, upto_none _ _)
-
-pub restored_at-level-requires : goal.restored_at-level-requires
-restored_at-level-requires c = (search rules, c.before.before.requires.1, c.before.loop-p.invariant.1)
 
 -- the level that was found is that of place p, and so within its range
 is_level : (c : After-restored_at-level) → let l = c.before.before in

@@ -1,3 +1,4 @@
+-- Kept: the check finds none of these alone (scripts/answers tries each).
 use mathlib.Core.Path.{◌≡◌, refl, sym, ap, ◌∙◌}
 use Prim.Native.Nat.{◌%◌}
 use native.Mathlib.Omega.{arith}
@@ -21,9 +22,6 @@ use Rattle.archive.proofs.restored_ok.Goals.{After-restored_at-level, After-leve
 pub loop-p-init : goal.loop-p-init
 unfolding chain
 loop-p-init c = (search rules, refl, refl, refl)
-
-pub restored_at-level-requires : goal.restored_at-level-requires
-restored_at-level-requires c = (search rules, c.before.before.requires, c.before.loop-p.invariant.1)
 
 -- the level that was found stands at p of the list of them all
 is_level : (c : After-restored_at-level) → let l = c.before.before in

@@ -1,3 +1,4 @@
+-- Kept: the check finds none of these alone (scripts/answers tries each).
 use mathlib.Core.Path.{◌≡◌, ◌∙◌, sym, ap, fun_ext}
 use mathlib.Core.Bool.{Bool}
 use Prim.Native.Nat.{ℕ}

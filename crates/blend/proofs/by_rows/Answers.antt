@@ -1,3 +1,4 @@
+-- Kept: the check finds none of these alone (scripts/answers tries each).
 use Rattle.gradients.specs.Blend.{blended, totals}
 use Rattle.blend.proofs.by_rows.Goals as goal
 

@@ -1,3 +1,4 @@
+-- Kept: the check finds none of these alone (scripts/answers tries each).
 -- `contents::block_of` meets its contract.
 use Rattle.std.proofs.Common.{rules}
 use Rattle.contents.specs.Marks.{block_of}

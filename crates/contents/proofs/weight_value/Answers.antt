@@ -1,3 +1,4 @@
+-- Kept: the check finds none of these alone (scripts/answers tries each).
 -- `contents::weight_value` meets its contract.
 use Rattle.contents.proofs.ValueLaws.{values}
 use Rattle.contents.proofs.weight_value.Goals as goal

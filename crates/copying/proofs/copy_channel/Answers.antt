@@ -1,3 +1,4 @@
+-- Kept: the check finds none of these alone (scripts/answers tries each).
 -- `copying::copy_channel` meets its contract.
 use Rattle.copying.proofs.PartLaws.{put_more}
 use Rattle.copying.proofs.copy_channel.Goals as goal

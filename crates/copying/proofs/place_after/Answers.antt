@@ -1,3 +1,4 @@
+-- Kept: the check finds none of these alone (scripts/answers tries each).
 -- `copying::place_after` meets its contract.
 use Rattle.copying.proofs.PartLaws.{placed}
 use Rattle.copying.proofs.place_after.Goals as goal

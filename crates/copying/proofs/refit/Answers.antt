@@ -1,3 +1,4 @@
+-- Kept: the check finds none of these alone (scripts/answers tries each).
 -- `copying::refit` meets its contract.
 use native.Mathlib.Omega.{arith}
 use Rattle.copying.specs.Parts.{refitted}

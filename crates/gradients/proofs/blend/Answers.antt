@@ -1,3 +1,4 @@
+-- Kept: the check finds none of these alone (scripts/answers tries each).
 use Rattle.gradients.specs.Blend.{blended, totals}
 use Rattle.gradients.proofs.blend.Goals as goal
 

@@ -1,3 +1,4 @@
+-- Kept: the check finds none of these alone (scripts/answers tries each).
 -- `lines::block_rule` meets its contract.
 use Rattle.lines.proofs.LineLaws.{block_level}
 use Rattle.lines.proofs.block_rule.Goals as goal

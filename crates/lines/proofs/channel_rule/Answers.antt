@@ -1,3 +1,4 @@
+-- Kept: the check finds none of these alone (scripts/answers tries each).
 -- `lines::channel_rule` meets its contract.
 use Rattle.std.proofs.Common.{arith}
 use Rattle.lines.proofs.LineLaws.{channel_quantiser}

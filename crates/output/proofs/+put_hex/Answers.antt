@@ -1,3 +1,4 @@
+-- Kept: the check finds none of these alone (scripts/answers tries each).
 -- `output::put_hex`, which calls itself, meets its contract.
 use Prim.Native.Nat.{◌-◌, ◌/◌}
 use mathlib.Core.Path.{sym}

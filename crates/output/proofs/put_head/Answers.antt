@@ -1,3 +1,4 @@
+-- Kept: the check finds none of these alone (scripts/answers tries each).
 -- `output::put_head` meets its contract.
 use Rattle.copying.proofs.PartLaws.{put_more}
 use Rattle.output.proofs.put_head.Goals as goal

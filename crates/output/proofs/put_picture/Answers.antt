@@ -1,3 +1,4 @@
+-- Kept: the check finds none of these alone (scripts/answers tries each).
 -- `output::put_picture` meets its contract.
 use borrow.Author.Rules.{rules}
 use mathlib.Core.Path.{◌≡◌, ap, ◌∙◌}
@@ -22,9 +23,6 @@ put_numbers-requires c =
 pub loop-y-init : goal.loop-y-init
 unfolding each
 loop-y-init c = record { at = omega arith; put = put_none _ }
-
-pub overflow_mul-y : goal.overflow_mul-y
-overflow_mul-y c = let w = within c.loop-y.y c.args.width c.args.height (omega arith) in search rules
 
 pub put_row-requires : goal.put_row-requires
 put_row-requires c =

@@ -1,3 +1,4 @@
+-- Kept: the check finds none of these alone (scripts/answers tries each).
 -- `output::put_step` meets its contract.
 use native.Mathlib.Omega.{arith}
 use Rattle.copying.proofs.PartLaws.{put_more, put_as}

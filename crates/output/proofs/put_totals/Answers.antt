@@ -1,3 +1,4 @@
+-- Kept: the check finds none of these alone (scripts/answers tries each).
 -- `output::put_totals` meets its contract.
 use mathlib.Core.Path.{◌≡◌}
 use native.Mathlib.Omega.{arith}
@@ -5,17 +6,11 @@ use Rattle.output.specs.Output.{each, totals_text}
 use Rattle.copying.proofs.PartLaws.{put_none, put_more, put_as}
 use Rattle.output.proofs.Lines.{lines_more}
 use Rattle.output.proofs.Sizes.{step_room, row_more}
-use Rattle.fold.proofs.Grid.{row_end}
 use Rattle.output.proofs.put_totals.Goals as goal
 
 pub loop-k-init : goal.loop-k-init
 unfolding each
 loop-k-init c = record { at = omega arith; put = put_none _ }
-
-pub put_step-requires : goal.put_step-requires
-put_step-requires c =
-    let m = row_end c.loop-k.k c.args.steps 43 c.loop-k-test.true in
-    (c.requires.0, omega arith, omega arith, omega arith)
 
 pub loop-k-preserved : goal.loop-k-preserved
 loop-k-preserved c =

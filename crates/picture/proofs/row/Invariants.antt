@@ -7,5 +7,5 @@ abbrev pub invariant-loop-x : goal.invariant-loop-x
 invariant-loop-x l =
     record {
       size : length l.out ≡ l.width * 3;
-      so_far : l.out ≡ row (to_byte l.rounding) l.planes.channels (l.planes.w * l.planes.h) l.planes.values.now l.from l.x ++ drop (l.x * 3) l.initial.out;
+      so_far : l.out ≡ row (to_byte l.rounding) l.planes.channels (l.planes.w * l.planes.h) l.planes.values.now (l.y * l.planes.w) l.x ++ drop (l.x * 3) l.initial.out;
     }

@@ -1,3 +1,4 @@
+-- Kept: the check finds none of these alone (scripts/answers tries each).
 -- `picture::rows` meets its contract.
 use Rattle.std.proofs.Common.{◌*◌, arith, rules}
 use Rattle.fold.proofs.Grid.{row_end}

@@ -7,7 +7,6 @@ read_and_solve-requires c = let o = c.measure in (measured_room _ o.result _ o.e
 
 pub returns-in-Err : goal.returns-in-Err
 returns-in-Err c =
-    let a = c.args in
     let p = c.requires in
     let o = c.measure in
-    refusal-text a.text.now p.0 o.result _ o.ensures c.in-Err.is _ c.number.ensures a.out.now _ _ p.1 c.write_refusal.ensures
+    refusal-text c.args.text.now p.0 o.result _ o.ensures c.in-Err.is _ c.number.ensures c.args.to.now _ p.1 c.write_refusal.ensures

@@ -14,4 +14,4 @@ pub slice_bounds-rgb-end : goal.slice_bounds-rgb-end
 slice_bounds-rgb-end c = omega (arith, shown_small c.args.h c.requires.0)
 
 pub paint_with-requires : goal.paint_with-requires
-paint_with-requires c = let p = c.requires in (p.0, p.1, search rules, omega (arith, p.2))
+paint_with-requires c = let p = c.requires in (p.0, p.1, search rules, p.2)

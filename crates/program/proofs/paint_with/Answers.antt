@@ -12,4 +12,4 @@ pub returns : goal.returns
 returns c =
     let a = c.args in
     let p = c.requires in
-    paints a.rounding a.h p.0 a.planes.now p.1 a.rgb.now _ p.2 _ c.finish.ensures a.at a.out.now _ _ p.3 c.write_picture.ensures
+    paints a.rounding a.h p.0 a.planes.now p.1 a.rgb.now _ p.2 _ c.finish.ensures a.to.now _ p.3 c.write_picture.ensures

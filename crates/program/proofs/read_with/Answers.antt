@@ -14,7 +14,7 @@ pub returns-in-Ok : goal.returns-in-Ok
 returns-in-Ok c =
     let a = c.args in
     let o = c.read in
-    sheet-text a.text.now (lent a.lows.now a.highs.now a.tables.now) _ o.result c.requires.0 c.requires.1 o.ensures _ c.in-Ok.is a.out.now _ _ c.solved.ensures
+    sheet-text a.text.now (lent a.lows.now a.highs.now a.tables.now) _ o.result c.requires.0 c.requires.1 o.ensures _ c.in-Ok.is a.to.now _ c.solved.ensures
 
 pub returns-in-Err : goal.returns-in-Err
 returns-in-Err c =

@@ -1,11 +1,15 @@
 -- `program::smooth_text` meets its contract: the first `decisive 32` bytes decide.
 use borrow.Author.Rules.{rules}
 use native.Mathlib.Omega.{arith}
-use mathlib.Core.Path.{refl}
+use mathlib.Core.Path.{ap, ◌∙◌}
+use Prim.Native.Nat.{ℕ}
 use borrow.Author.Tests.{lt-leb}
+use lib.ListN.{take, length}
+use mathlib.Core.List.{List}
+use Rattle.std.proofs.lemmas.List.{take_min}
 use Rattle.output.proofs.Fronts.{wrote_none}
 use Rattle.program.specs.Printed.{printed_into}
-use Rattle.program.proofs.Printing.{decisive_32, first_bytes, roomy}
+use Rattle.program.proofs.Printing.{decided, first_bytes, part_short}
 use Rattle.program.proofs.smooth_text.Goals as goal
 
 pub returns-then-out-lt-MOST_PRINTED : goal.returns-then-out-lt-MOST_PRINTED
@@ -13,13 +17,9 @@ unfolding printed_into
 returns-then-out-lt-MOST_PRINTED c = rw (lt-leb _ _ c.if-out-lt-MOST_PRINTED.true) (wrote_none 0 _)
 
 pub answer-requires : goal.answer-requires
-answer-requires c = (omega (arith, decisive_32), search rules)
-
-pub answer-requires-2 : goal.answer-requires-2
-answer-requires-2 c = (omega (arith, decisive_32), search rules)
-
-pub returns-then-text-gt-DECISIVE : goal.returns-then-text-gt-DECISIVE
-returns-then-text-gt-DECISIVE c = let a = c.args in first_bytes a.text.now _ a.out.now _ _ c.if-out-lt-MOST_PRINTED.false c.answer.ensures refl
+answer-requires c = (part_short c.args.text.now c.min.result c.min.ensures, omega (arith, c.if-out-lt-MOST_PRINTED.false, c.new-to.ensures.at, ap (λ (l : List ℕ). length l) c.new-to.ensures.out))
 
 pub returns : goal.returns
-returns c = let a = c.args in roomy a.text.now a.out.now _ _ c.if-out-lt-MOST_PRINTED.false c.answer-2.ensures
+returns c =
+    first_bytes c.args.text.now _ c.args.out.now _ _ _ c.if-out-lt-MOST_PRINTED.false (rw (c.new-to.ensures.at, c.new-to.ensures.out) at c.answer.ensures.wrote) (search rules)
+    (ap (λ (n : ℕ). take n c.args.text.now) c.min.ensures ∙ take_min decided c.args.text.now)

@@ -32,15 +32,12 @@ slice_bounds-down-end c = omega (arith, values_small c.args.s.header c.requires.
 pub slice_bounds-saved-end : goal.slice_bounds-saved-end
 slice_bounds-saved-end c = omega (arith, values_small c.args.s.header c.requires.0.header)
 
-pub blend_count-m-requires : goal.blend_count-m-requires
-blend_count-m-requires c = at-most c.args.s.header.channels c.requires.0.header.channels
-
 pub slice_bounds-totals-end : goal.slice_bounds-totals-end
-slice_bounds-totals-end c = omega (arith, c.blend_count-m.ensures.0, blends_most c.args.s c.requires.0.header)
+slice_bounds-totals-end c = omega (arith, c.blend_count-m.ensures.is, blends_most c.args.s c.requires.0.header)
 
 pub solved_with-requires : goal.solved_with-requires
 solved_with-requires c =
     let p = c.requires in
-    let b : c.blend_count-m.result * 2 ≤ 6000 = omega (arith, c.blend_count-m.ensures.0, blends_most c.args.s p.0.header) in
+    let b : c.blend_count-m.result * 2 ≤ 6000 = omega (arith, c.blend_count-m.ensures.is, blends_most c.args.s p.0.header) in
     let v = values_small c.args.s.header p.0.header in
-    (p.0, (front_long _ _ v, front_long _ _ v, front_long _ _ v, front_long _ _ v, front_long _ _ v, front_long _ _ v), front_long _ _ b ∙ ap (λ (n : ℕ). n * 2) c.blend_count-m.ensures.0, p.1)
+    (p.0, (front_long _ _ v, front_long _ _ v, front_long _ _ v, front_long _ _ v, front_long _ _ v, front_long _ _ v), front_long _ _ b ∙ ap (λ (n : ℕ). n * 2) c.blend_count-m.ensures.is, p.1)

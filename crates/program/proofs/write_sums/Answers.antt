@@ -6,13 +6,10 @@ pub returns-then-h : goal.returns-then-h
 returns-then-h c =
     let a = c.args in
     let p = c.requires in
-    joint_lines a.s p.0 a.totals.now c.if-h.true p.1 a.out.now _ _ p.2 c.write_totals.ensures
+    joint_lines a.s p.0 a.totals.now c.if-h.true p.1 a.to.now _ p.2 c.write_totals.ensures
 
 pub write_runs-requires : goal.write_runs-requires
 write_runs-requires c = (c.requires.0, c.if-h.false, c.requires.1, c.requires.2)
 
 pub returns : goal.returns
-returns c =
-    let a = c.args in
-    let w = c.write_runs.ensures in
-    (apart_lines a.s c.requires.0 a.totals.now c.if-h.false a.out.now _ _ w.0, w.1)
+returns c = apart_lines c.args.s c.requires.0 c.args.totals.now c.if-h.false _ _ c.write_runs.ensures

@@ -1,17 +1,11 @@
-use mathlib.Core.Bool.{true≢false}
-use native.Mathlib.Omega.{arith}
-use Rattle.rows.proofs.RowLaws.{idle_none, idle_more, idle_end}
-use borrow.Author.Rules.{rules}
+-- Kept: the check finds none of these alone (scripts/answers tries each).
+use Rattle.std.proofs.Common.{◌∙◌, sym, rules, tests}
+use Rattle.std.proofs.lemmas.Iterator.{YieldsList-from_slice}
+use Rattle.std.proofs.lemmas.Iterator.Search.{any_from_yields_List}
+use lib.Ieee.{Float, ne}
+use Rattle.float.specs.Names.{f0}
+use Rattle.rows.proofs.RowLaws.{idle_of}
 use Rattle.rows.proofs.any.Goals as goal
 
-pub loop-x-init : goal.loop-x-init
-loop-x-init c = (search rules, idle_none c.args.norm.now)
-
-pub returns-then-norm-x : goal.returns-then-norm-x
-returns-then-norm-x c = λ e. absurd (true≢false e)
-
-pub loop-x-preserved : goal.loop-x-preserved
-loop-x-preserved c = (search rules, idle_more _ c.args.norm.now c.loop-x.invariant.1 c.if-norm-x.false)
-
 pub returns : goal.returns
-returns c = λ e. idle_end _ _ c.args.norm.now c.loop-x.invariant.1 (omega arith)
+returns c = λ e. idle_of c.args.norm.now (sym (any_from_yields_List (λ (m : Float). ne m f0) _ _ _ c.any.ensures.ran (YieldsList-from_slice c.args.norm.now cc) (λ x b q k. search (rules, tests))) ∙ e)

@@ -1,13 +1,8 @@
-use mathlib.Core.Path.{◌≡◌}
-use Prim.Native.Nat.{◌+◌, ◌-◌, ◌≤◌}
-use lib.ListN.{length}
+use Rattle.std.proofs.Common.{◌≡◌}
 use Rattle.fold.specs.Fold.{upto}
 use Rattle.float.specs.Names.{◌⊖◌, val}
-use Rattle.rows.specs.Rows.{store_from}
+use Rattle.rows.specs.Rows.{store_in}
 use Rattle.rows.proofs.differ.Given as goal
 
-abbrev pub invariant-loop-j : goal.invariant-loop-j
-invariant-loop-j l = (l.j ≤ l.len) × (length l.out ≡ length l.initial.out) × (l.out ≡ upto (store_from l.at (λ k. val l.xs (l.to + k) ⊖ val l.xs (l.from + k))) l.j l.initial.out)
-
-abbrev pub decreases-loop-j : goal.decreases-loop-j
-decreases-loop-j l = l.len - l.j
+abbrev pub invariant-loop-x : goal.invariant-loop-x
+invariant-loop-x l = l.out ≡ upto (store_in (λ k. val l.to k ⊖ val l.from k)) l.x l.initial.out

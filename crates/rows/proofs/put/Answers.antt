@@ -1,15 +1,19 @@
-use native.Mathlib.Omega.{arith}
+-- Kept: the check finds none of these alone (scripts/answers tries each).
+use Rattle.std.proofs.Common.{◌∙◌, rules}
+use Rattle.std.proofs.lemmas.List.{set-get_or}
 use Rattle.fold.specs.Fold.{upto}
-use Rattle.fold.proofs.Loops.{upto-call, upto-end}
-use borrow.Author.Rules.{rules}
+use Rattle.fold.proofs.Loops.{upto-call}
+use Rattle.rows.specs.Rows.{hit}
 use Rattle.rows.proofs.put.Goals as goal
 
-pub loop-j-init : goal.loop-j-init
+pub loop-x-init : goal.loop-x-init
 unfolding upto
-loop-j-init c = search rules
+loop-x-init c = search rules
 
-pub loop-j-preserved : goal.loop-j-preserved
-loop-j-preserved c = (search rules, search rules, upto-call _ _ _ c.loop-j.invariant.2 c.hit.ensures)
+pub loop-x-preserved-then-norm-x : goal.loop-x-preserved-then-norm-x
+unfolding hit
+loop-x-preserved-then-norm-x c = set-get_or c.loop-x.gradient c.loop-x.x _ ∙ upto-call _ _ _ c.loop-x.invariant (rw c.if-norm-x.true)
 
-pub returns : goal.returns
-returns c = upto-end _ _ _ _ c.loop-j.invariant.2 (omega arith)
+pub loop-x-preserved : goal.loop-x-preserved
+unfolding hit
+loop-x-preserved c = upto-call _ _ _ c.loop-x.invariant (rw (c.if-norm-x.false, c.mul_add.ensures))

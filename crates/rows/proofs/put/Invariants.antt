@@ -1,12 +1,7 @@
-use mathlib.Core.Path.{◌≡◌}
-use Prim.Native.Nat.{◌-◌, ◌≤◌}
-use lib.ListN.{length}
+use Rattle.std.proofs.Common.{◌≡◌}
 use Rattle.fold.specs.Fold.{upto}
-use Rattle.rows.specs.Rows.{hit_at}
+use Rattle.rows.specs.Rows.{hit_in}
 use Rattle.rows.proofs.put.Given as goal
 
-abbrev pub invariant-loop-j : goal.invariant-loop-j
-invariant-loop-j l = (l.j ≤ l.len) × (length l.gradient ≡ length l.initial.gradient) × (l.gradient ≡ upto (hit_at l.alpha l.norm l.q l.lo l.at) l.j l.initial.gradient)
-
-abbrev pub decreases-loop-j : goal.decreases-loop-j
-decreases-loop-j l = l.len - l.j
+abbrev pub invariant-loop-x : goal.invariant-loop-x
+invariant-loop-x l = l.gradient ≡ upto (hit_in l.alpha l.norm l.q) l.x l.initial.gradient

@@ -1,13 +1,8 @@
-use mathlib.Core.Path.{◌≡◌}
-use Prim.Native.Nat.{◌-◌, ◌≤◌}
-use lib.ListN.{length}
+use Rattle.std.proofs.Common.{◌≡◌}
 use Rattle.fold.specs.Fold.{upto}
 use Rattle.float.specs.Ops.{root}
 use Rattle.rows.proofs.RowLaws.{change_row}
 use Rattle.rows.proofs.root_row.Given as goal
 
-abbrev pub invariant-loop-x : goal.invariant-loop-x
-invariant-loop-x l = (l.x ≤ l.w) × (length l.sums ≡ length l.initial.sums) × (l.sums ≡ upto (change_row (λ k z. root z)) l.x l.initial.sums)
-
-abbrev pub decreases-loop-x : goal.decreases-loop-x
-decreases-loop-x l = l.w - l.x
+abbrev pub invariant-loop-sum : goal.invariant-loop-sum
+invariant-loop-sum l = l.sums ≡ upto (change_row (λ k z. root z)) l.sum-index l.initial.sums

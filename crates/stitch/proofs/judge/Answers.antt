@@ -1,3 +1,4 @@
+-- Kept: the check finds none of these alone (scripts/answers tries each).
 -- `stitch::judge` meets its contract.
 use mathlib.Core.Path.{refl, ◌∙◌}
 use Rattle.sheet.specs.Reading.{read_text}

@@ -1,22 +1,19 @@
-use native.Mathlib.Omega.{arith}
+-- Kept: the check finds none of these alone (scripts/answers tries each).
+use Rattle.std.proofs.Common.{◌∙◌, ◌*◌, ap₂, arith}
+use Rattle.std.specs.Float.Ieee.{neg}
+use lib.Ieee.{Float}
 use Rattle.fold.proofs.Grid.{row_end}
+use Rattle.float.specs.Ops.{mul_add}
+use Rattle.float.specs.Names.{◌⊕◌, ◌⊗◌, ◌⊘◌, f2, val}
+use Rattle.rows.proofs.Lent.{in_part}
 use Rattle.tgv_rows.proofs.TgvRow.{besides_by}
 use Rattle.tgv_rows.proofs.besides.Goals as goal
 
-pub overflow_mul-b : goal.overflow_mul-b
-overflow_mul-b c = let p = c.requires in let r = row_end c.args.c c.args.g.n c.args.g.w p.0 in omega arith
-
-pub sum_quotients-requires : goal.sum_quotients-requires
-sum_quotients-requires c = let p = c.requires in let r = row_end c.args.c c.args.g.n c.args.g.w p.0 in (omega arith, omega arith, omega arith, omega arith)
-
-pub own_quotients-requires : goal.own_quotients-requires
-own_quotients-requires c = let p = c.requires in let r = row_end c.args.c c.args.g.n c.args.g.w p.0 in (omega arith, omega arith, omega arith, omega arith, omega arith)
-
-pub sum_quotients-requires-2 : goal.sum_quotients-requires-2
-sum_quotients-requires-2 c = let p = c.requires in let r = row_end c.args.c c.args.g.n c.args.g.w p.0 in (omega arith, omega arith, omega arith, omega arith)
-
-pub left-requires : goal.left-requires
-left-requires c = let p = c.requires in (p.0, p.1, p.2, p.6, omega arith, omega arith)
-
 pub returns : goal.returns
-returns c = let a = c.args in besides_by a.g.w a.g.h a.alpha a.norm.now a.xx.now a.xy.now a.yy.now a.y a.c _ _ _ a.gradient.now _ _ _ c.sum_quotients.ensures c.own_quotients.ensures c.sum_quotients-2.ensures c.right.ensures c.own.ensures c.left.ensures
+returns c =
+    let a = c.args in let p = c.requires in let b = a.c * a.g.w in let r = row_end a.c a.g.n a.g.w p.0 in
+    besides_by a.g.w a.g.h a.alpha a.norm.now a.xx.now a.xy.now a.yy.now a.y a.c _ _ _ a.gradient.now _ _ _
+    (λ x l. c.sum_quotients.ensures x (omega (arith, l)) ∙ ap₂ (λ (y z : Float). (y ⊕ z) ⊘ val a.norm.now x) (in_part a.xy.now b a.g.w (omega (arith, r)) x l) (in_part a.xx.now b a.g.w (omega (arith, r)) x l))
+    (λ x l. c.own_quotients.ensures x (omega (arith, l)) ∙ ap₂ (λ (y z : Float). neg (mul_add f2 y z) ⊘ val a.norm.now x) (in_part a.yy.now b a.g.w (omega (arith, r)) x l) (ap₂ (λ (y z : Float). mul_add f2 y (f2 ⊗ z)) (in_part a.xx.now b a.g.w (omega (arith, r)) x l) (in_part a.xy.now b a.g.w (omega (arith, r)) x l)))
+    (λ x l. c.sum_quotients-2.ensures x (omega (arith, l)) ∙ ap₂ (λ (y z : Float). (y ⊕ z) ⊘ val a.norm.now x) (in_part a.xy.now b a.g.w (omega (arith, r)) x l) (in_part a.xx.now b a.g.w (omega (arith, r)) x l))
+    c.right.ensures c.own.ensures c.left.ensures

@@ -1,15 +1,12 @@
-use mathlib.Core.Path.{◌∙◌, ap}
-use Prim.Native.Nat.{◌+◌}
-use native.Mathlib.Omega.{arith}
+-- Kept: the check finds none of these alone (scripts/answers tries each).
+use Rattle.std.proofs.Common.{◌∙◌, ap, arith, rules, List, length, le_refl}
+use Rattle.std.specs.Float.Ieee.{neg}
+use lib.Ieee.{Float}
 use Rattle.fold.specs.Fold.{upto}
 use Rattle.fold.proofs.Loops.{upto-call, upto-end}
-use mathlib.Core.List.{List}
-use lib.Ieee.{Float}
+use Rattle.float.specs.Ops.{mul_add}
 use Rattle.float.specs.Names.{◌⊗◌, ◌⊘◌, f2, val}
 use Rattle.rows.proofs.RowLaws.{changed_at}
-use lib.Ieee.{neg}
-use Rattle.float.specs.Ops.{mul_add}
-use borrow.Author.Rules.{rules}
 use Rattle.tgv_rows.proofs.own_quotients.Goals as goal
 
 pub loop-x-init : goal.loop-x-init
@@ -17,7 +14,7 @@ unfolding upto
 loop-x-init c = search rules
 
 pub loop-x-preserved : goal.loop-x-preserved
-loop-x-preserved c = (search rules, search rules, upto-call _ _ _ c.loop-x.invariant.2 (rw c.middle.ensures))
+loop-x-preserved c = upto-call _ _ _ c.loop-x.invariant (rw c.middle.ensures)
 
 pub returns : goal.returns
-returns c = let a = c.args in λ x l. ap (λ (t : List Float). val t x) (upto-end _ _ a.w _ c.loop-x.invariant.2 (omega arith)) ∙ changed_at (λ k z. neg (mul_add f2 (val a.yy.now (a.b + k)) (mul_add f2 (val a.xx.now (a.b + k)) (f2 ⊗ val a.xy.now (a.b + k)))) ⊘ val a.norm.now k) a.q.now a.w (search rules) x l
+returns c = let a = c.args in λ x l. ap (λ (t : List Float). val t x) (upto-end _ _ (length a.q.now) _ c.loop-x.invariant (omega arith)) ∙ changed_at (λ k z. neg (mul_add f2 (val a.yy.now k) (mul_add f2 (val a.xx.now k) (f2 ⊗ val a.xy.now k))) ⊘ val a.norm.now k) a.q.now (length a.q.now) (le_refl (length a.q.now)) x l

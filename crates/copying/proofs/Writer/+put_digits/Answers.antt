@@ -1,3 +1,4 @@
+-- Kept: the check finds none of these alone (scripts/answers tries each).
 -- `copying::Writer::put_digits`, which calls itself, meets its contract.
 use mathlib.Core.Path.{sym}
 use Rattle.copying.proofs.PartLaws.{put_as, put_more, digits_more}

@@ -1,3 +1,4 @@
+-- Kept: the check finds none of these alone (scripts/answers tries each).
 -- `copying::Writer::put_decimal` meets its contract.
 use Rattle.digits.specs.Written.{decimal}
 use Rattle.copying.proofs.Writer.put_decimal.Goals as goal

@@ -1,3 +1,4 @@
+-- Kept: the check finds none of these alone (scripts/answers tries each).
 use mathlib.Core.Path.{refl}
 use Rattle.start.proofs.Cover.{block_in}
 use Rattle.fidelity.proofs.dct_gradient.block_index.Goals as goal

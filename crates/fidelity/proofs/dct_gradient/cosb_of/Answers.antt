@@ -1,3 +1,4 @@
+-- Kept: the check finds none of these alone (scripts/answers tries each).
 use mir.Syntax.{w16}
 use mir.ValLaws.{to_z-of_z}
 use Rattle.fidelity.specs.DctGradient.{cosb_of}

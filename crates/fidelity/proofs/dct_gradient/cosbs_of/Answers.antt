@@ -1,3 +1,4 @@
+-- Kept: the check finds none of these alone (scripts/answers tries each).
 use borrow.Author.Rules.{rules}
 use mathlib.Core.Path.{◌≡◌, ◌∙◌, ap}
 use Prim.Native.Nat.{◌+◌, ◌*◌}
@@ -21,4 +22,4 @@ unfolding cosbs_of
 returns c =
     let i = c.args.i in
     let e : c.copy_from_slice.new.self ≡ part c.args.cos.now (i * 64) (i * 64 + 64) = search rules in
-    c.idct8x8.ensures ∙ ap idct8x8 (rw (← e) (upto-end _ _ _ _ c.loop-j.invariant.1 (omega arith)))
+    c.transform8x8.ensures ∙ ap idct8x8 (rw (← e) (upto-end _ _ _ _ c.loop-j.invariant.1 (omega arith)))

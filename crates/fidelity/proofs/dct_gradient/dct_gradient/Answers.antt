@@ -1,8 +1,8 @@
+-- Kept: the check finds none of these alone (scripts/answers tries each).
 use borrow.Author.Rules.{rules}
 use native.Mathlib.Omega.{arith}
 use Rattle.fold.proofs.Loops.{upto-call, upto-end}
 use Rattle.fold.specs.Fold.{upto}
-use Rattle.start.proofs.Cover.{own_fits}
 use Rattle.fidelity.specs.DctGradient.{dct_gradient, gradient_block}
 use Rattle.fidelity.proofs.dct_gradient.dct_gradient.Goals as goal
 
@@ -13,9 +13,6 @@ loop-by-init c = search rules
 pub loop-bx-init : goal.loop-bx-init
 unfolding upto
 loop-bx-init c = search rules
-
-pub cosbs_of-cosbs-requires : goal.cosbs_of-cosbs-requires
-cosbs_of-cosbs-requires c = let s = c.args.coef.now in omega (arith, own_fits s.own s.w s.h s.covers)
 
 pub loop-bx-preserved : goal.loop-bx-preserved
 unfolding gradient_block

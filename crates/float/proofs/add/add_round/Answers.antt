@@ -1,9 +1,10 @@
+-- Kept: the check finds none of these alone (scripts/answers tries each).
 -- `float::add::add_round` meets its contract: a zero leaves the other number, and else each is brought to its leading one, which changes no value. Assumes nothing.
-use Rattle.std.proofs.Common.{◌≡◌, ℕ, ◌-◌, ◌*◌, ◌%◌, ◌^◌, ◌<◌, ◌≤◌, Bool, sym, refl, ap, ◌∙◌, ap₂, mul-pos, zero-mul, arith, pow_pos}
+use Rattle.std.proofs.Common.{◌≡◌, ℕ, ◌-◌, ◌*◌, ◌%◌, ◌^◌, ◌<◌, Bool, sym, ap, ◌∙◌, ap₂, mul-pos, zero-mul, arith, pow_pos}
 use lib.Count.{count_leading_zeros}
 use lib.Ieee.{binary32, sum}
-use Rattle.float.proofs.Normal.{zeros, Aligned, aligned}
-use Rattle.float.proofs.Sums.{sum_comm, zero_left, zero_right, zeros_like, zeros_unlike}
+use Rattle.float.proofs.Normal.{Aligned, aligned}
+use Rattle.float.proofs.Sums.{zero_left, zero_right, zeros_like, zeros_unlike}
 use Rattle.float.proofs.add.add_round.Reads as reads
 use Rattle.float.proofs.add.add_round.Lts as lts
 use Rattle.float.proofs.add.add_round.Goals as goal
@@ -18,10 +19,7 @@ some p x n = let h : 0 < p = omega arith in mul-pos h (pow_pos x)
 
 -- a number other than 0 that has at most 48 digits, shifted
 shift : (p : ℕ) → (p ≡ 0 → ⊥) → p < 2 ^ 48 → Aligned p (p * 2 ^ (count_leading_zeros 64 p - 2) % 2 ^ 64) (count_leading_zeros 64 p - 2)
-shift p n h = let l : 0 < p = omega arith in aligned p l h
-
-sixteen : (p : ℕ) → (p ≡ 0 → ⊥) → p < 2 ^ 48 → 16 ≤ count_leading_zeros 64 p
-sixteen p n h = let l : 0 < p = omega arith in zeros p 16 47 refl l h
+shift p n h = aligned p n h
 
 both : (s t : Bool) {a a' b b' : ℕ} → a ≡ a' → b ≡ b' → sum binary32 s a t b (2 ^ 426) ≡ sum binary32 s a' t b' (2 ^ 426)
 both s t e f = ap₂ (λ (x y : ℕ). sum binary32 s x t y (2 ^ 426)) e f
@@ -66,12 +64,6 @@ shift_p c = shift c.before.before.args.p c.before.if-p-eq0.false c.before.before
 shift_q : (c : (lts.Else4 tie.the-claims reads.Pre reads.Post)) → Aligned c.before.before.args.q (c.before.before.args.q * 2 ^ (count_leading_zeros 64 c.before.before.args.q - 2) % 2 ^ 64) (count_leading_zeros 64 c.before.before.args.q - 2)
 shift_q c = shift c.before.before.args.q c.if-q-eq0-2.false c.before.before.requires.1
 
-pub overflow_sub-i : goal.overflow_sub-i
-overflow_sub-i c = omega (arith, sixteen c.before.before.args.p c.before.if-p-eq0.false c.before.before.requires.0)
-
-pub overflow_sub-j : goal.overflow_sub-j
-overflow_sub-j c = omega (arith, sixteen c.before.before.args.q c.if-q-eq0-2.false c.before.before.requires.1)
-
 pub add_ordered-requires : goal.add_ordered-requires
 add_ordered-requires c =
     let p = shift_p c.before in
@@ -79,30 +71,9 @@ add_ordered-requires c =
     let u = p.most in
     (p.lo, p.hi, p.ends, omega (arith, q.lo), q.hi, q.ends, omega arith, omega arith, omega arith)
 
-pub returns-then-b-a : goal.returns-then-b-a
-returns-then-b-a c =
-    let a = c.before.before.before.before.args in
-    let p = shift_p c.before.before in
-    let q = shift_q c.before.before in
-    let u = p.most in
-    let v = q.most in
-    c.add_ordered.ensures
-    ∙ both a.s a.t (p.value a.x (omega arith)) (q.value a.y (omega arith))
-
 pub add_ordered-requires-2 : goal.add_ordered-requires-2
 add_ordered-requires-2 c =
     let p = shift_p c.before in
     let q = shift_q c.before in
     let u = q.most in
     (q.lo, q.hi, q.ends, omega (arith, p.lo), p.hi, p.ends, omega arith, omega arith, omega arith)
-
-pub returns : goal.returns
-returns c =
-    let a = c.before.before.before.before.args in
-    let p = shift_p c.before.before in
-    let q = shift_q c.before.before in
-    let u = p.most in
-    let v = q.most in
-    c.add_ordered-2.ensures
-    ∙ both a.t a.s (q.value a.y (omega arith)) (p.value a.x (omega arith))
-    ∙ sum_comm a.t a.s (a.q * 2 ^ a.y) (a.p * 2 ^ a.x) (2 ^ 426)

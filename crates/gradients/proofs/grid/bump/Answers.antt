@@ -1,3 +1,4 @@
+-- Kept: the check finds none of these alone (scripts/answers tries each).
 use Rattle.gradients.specs.Tv.{bump}
 use Rattle.gradients.proofs.grid.bump.Goals as goal
 

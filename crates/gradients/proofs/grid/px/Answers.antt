@@ -1,3 +1,4 @@
+-- Kept: the check finds none of these alone (scripts/answers tries each).
 use native.Mathlib.Omega.{arith}
 use Rattle.gradients.proofs.Places.{Ends, ends}
 use Rattle.gradients.proofs.grid.px.Goals as goal
@@ -8,20 +9,5 @@ use Rattle.gradients.proofs.grid.px.Reads as reads
 here : (c : (lts.Start reads.Pre reads.Post)) → let a = c.args in Ends a.g a.c a.y
 here c = ends c.args.g _ _ c.requires.0 c.requires.1.0
 
-pub overflow_mul-result : goal.overflow_mul-result
-overflow_mul-result c = omega (arith, here c)
-
-pub overflow_mul-result-2 : goal.overflow_mul-result-2
-overflow_mul-result-2 c = omega (arith, here c)
-
-pub overflow_mul-result-3 : goal.overflow_mul-result-3
-overflow_mul-result-3 c = omega (arith, here c)
-
 pub overflow_add-result : goal.overflow_add-result
 overflow_add-result c = omega (arith, here c)
-
-pub overflow_add-result-2 : goal.overflow_add-result-2
-overflow_add-result-2 c = omega (arith, here c)
-
-pub returns : goal.returns
-returns c = omega (arith, here c)

@@ -1,3 +1,4 @@
+-- Kept: the check finds none of these alone (scripts/answers tries each).
 use Rattle.gradients.specs.Tgv.{tgv_alpha}
 use Rattle.gradients.proofs.tgv.alpha_of.Goals as goal
 

@@ -1,3 +1,4 @@
+-- Kept: the check finds none of these alone (scripts/answers tries each).
 use borrow.Author.Rules.{rules}
 use native.Mathlib.Omega.{arith}
 use Rattle.fold.proofs.Loops.{upto-call, upto-end}
@@ -18,7 +19,7 @@ unfolding tgv_differences_at
 loop-c-preserved c = (
   search rules,
   upto-call _ _ _ c.before.before.before.before.before.before.before.loop-c.invariant.1
-      (rw (c.before.before.before.before.before.if-held-c.false, c.midpoint.ensures, c.before.before.before.before.difference.ensures, c.before.before.before.difference-g_yx.ensures, c.before.before.difference-in-loop-c.ensures, c.before.difference-g_xy.ensures, c.before.before.before.before.before.before.before.before.before.prev-left.ensures, c.before.before.before.before.before.before.before.before.prev-above.ensures)),
+      (rw (c.before.before.before.before.before.if-held-c.false, c.midpoint.ensures, c.before.before.before.before.difference.ensures, c.before.before.before.difference-g_yx.ensures, c.before.before.difference-in-loop-c.ensures, c.before.difference-g_xy.ensures, c.saturating_sub-left.ensures, c.saturating_sub-above.ensures)),
 )
 
 pub returns : goal.returns

@@ -1,3 +1,4 @@
+-- Kept: the check finds none of these alone (scripts/answers tries each).
 use Rattle.gradients.specs.Tv.{tv_alpha}
 use Rattle.gradients.proofs.tv.alpha_of.Goals as goal
 

@@ -1,6 +1,5 @@
-use Prim.Native.Nat.{◌-◌}
+-- Kept: the check finds none of these alone (scripts/answers tries each).
 use borrow.Author.Rules.{rules}
-use borrow.Author.Tests.{leb-false}
 use native.Mathlib.Omega.{arith}
 use Rattle.fold.proofs.Loops.{upto-call, upto-end}
 use Rattle.fold.specs.Fold.{upto}
@@ -10,12 +9,6 @@ use Rattle.gradients.proofs.tv.differences.Goals as goal
 pub loop-c-init : goal.loop-c-init
 unfolding upto
 loop-c-init c = search rules
-
-pub difference-requires : goal.difference-requires
-difference-requires c = (search rules, search rules, λ e. (search rules, omega (arith, leb-false (c.before.before.before.before.before.args.g.w - 1) c.before.before.before.before.before.args.x e)), search rules)
-
-pub difference-requires-in-loop-c : goal.difference-requires-in-loop-c
-difference-requires-in-loop-c c = (search rules, search rules, λ e. (omega (arith, leb-false (c.before.before.before.before.before.before.args.g.h - 1) c.before.before.before.before.before.before.args.y e), search rules), search rules)
 
 -- a held channel's are left
 pub loop-c-preserved-then-held-c : goal.loop-c-preserved-then-held-c

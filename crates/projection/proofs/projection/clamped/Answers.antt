@@ -1,6 +1,8 @@
-use Rattle.std.proofs.Common.{◌∙◌, arith, rules}
+-- Kept: the check finds none of these alone (scripts/answers tries each).
+use Rattle.std.proofs.Common.{◌≡◌, ◌∙◌, arith, rules}
 use Rattle.fold.proofs.Loops.{upto-call, upto-end}
 use Rattle.fold.specs.Fold.{upto}
+use Rattle.start.specs.Coef.{block_count}
 use Rattle.start.specs.AsCoef.{as_coef}
 use Rattle.projection.specs.Projection.{clamped}
 use Rattle.projection.proofs.Writes.{clipped_ahead, clipped_blocks}
@@ -25,5 +27,6 @@ pub returns : goal.returns
 unfolding clamped
 returns c =
     let v = c.loop-i.invariant in
-    rw (← c.block_count-n.ensures.0, ← c.dct_blocks.ensures)
-    (upto-end _ _ _ _ v.2 (omega arith), upto-end _ _ _ _ v.3 (omega arith ∙ c.block_count-n.ensures.0) ∙ clipped_blocks (as_coef c.args.coef.now) c.args.coef.now.covers.eights _)
+    let n : c.block_count-n.result ≡ block_count c.args.coef.now.own = rw (← c.scalar.ensures.1) c.block_count-n.ensures.0 in
+    rw (← n, ← c.transform_blocks.ensures)
+    (upto-end _ _ _ _ v.2 (omega arith), upto-end _ _ _ _ v.3 (omega arith ∙ n) ∙ clipped_blocks (as_coef c.args.coef.now) c.args.coef.now.covers.eights _)

@@ -1,3 +1,4 @@
+-- Kept: the check finds none of these alone (scripts/answers tries each).
 use Rattle.std.proofs.Common.{◌*◌, ap, arith, rules}
 use lib.Ieee.{Float}
 use Rattle.float.specs.Names.{◌⊘◌, float}
@@ -22,4 +23,4 @@ loop-sy-preserved c = (search rules, upto-call _ _ _ c.loop-sy.invariant.1 (upto
 
 pub returns : goal.returns
 unfolding mean_of
-returns c = rw c.places.ensures (ap (λ (t : Float). t ⊘ float (c.args.coef.now.own.horizontal * c.args.coef.now.own.vertical)) (upto-end _ _ _ _ c.loop-sy.invariant.1 (omega arith)))
+returns c = rw c.places.ensures (ap (λ (t : Float). t ⊘ float (c.args.sample.coef.now.own.horizontal * c.args.sample.coef.now.own.vertical)) (upto-end _ _ _ _ c.loop-sy.invariant.1 (omega arith)))

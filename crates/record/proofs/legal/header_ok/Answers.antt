@@ -1,3 +1,4 @@
+-- Kept: the check finds none of these alone (scripts/answers tries each).
 -- `header_ok`: each test in turn; the struct has as many channels as its count says.
 use mathlib.Core.Path.{◌≡◌}
 use mathlib.Core.Bool.{◌&&◌}

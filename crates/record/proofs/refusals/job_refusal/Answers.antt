@@ -1,3 +1,4 @@
+-- Kept: the check finds none of these alone (scripts/answers tries each).
 -- `job_refusal`: by what is lent, and then by turn.
 use mathlib.Core.Path.{◌≡◌, sym, ◌∙◌}
 use native.Mathlib.Omega.{arith}
@@ -20,4 +21,4 @@ pub returns-clause-number : goal.returns-clause-number
 returns-clause-number c =
     λ j ls ts t l.
     by-turn (given_of c.args.run ls ts) (places_of c.args.run) (on j c.args.c) c.args.lengths.now
-    (rw l (sym (c.in_ok-lend_refusal.ensures.number ls ts))) (c.turn_refusal.ensures.number j t)
+    (rw l (sym (c.in_ok-lend_refusal.ensures.number ls ts))) (rw (← c.in_ok-lend_refusal.ensures.ok) (c.turn_refusal.ensures.number j t))

@@ -1,45 +1,51 @@
+-- Kept: the check finds none of these alone (scripts/answers tries each).
 -- `start_refusal`: each return has the outcome of the tests before it.
-use mathlib.Core.Path.{refl, sym, ap, ◌∙◌}
-use lib.Dec.{eqb}
-use Rattle.start.specs.Coef.{pairs}
-use Rattle.calls.specs.Calls.{all, start_refusal, levels_fault}
+use mathlib.Core.Path.{◌≡◌, refl, sym, ◌∙◌}
+use Rattle.std.proofs.Common.{rules}
+use Rattle.record.specs.Lent.{levels_in}
+use Rattle.refusal.specs.Refusal.{number_of, answer_number}
+use Rattle.refusal.proofs.Laws.{number_of-positive}
+use Rattle.calls.specs.Calls.{start_refusal, levels_fault}
 use Rattle.calls.proofs.Tests.{first_one}
-use Rattle.record.specs.Model.{given_of}
-use Rattle.record.proofs.Tested.{same_long}
+use Rattle.record.specs.Model.{places_of, given_of}
+use Rattle.record.proofs.Tested.{lend_refused, lend_passed}
 use Rattle.record.proofs.refusals.start_refusal.Goals as goal
 
-pub returns-then-not-legal : goal.returns-then-not-legal
+pub returns-in_err-legal-clause-number : goal.returns-in_err-legal-clause-number
 unfolding start_refusal
-returns-then-not-legal c = record { ok = tt; number = rw (sym c.legal.ensures ∙ c.if-not-legal.true) }
+returns-in_err-legal-clause-number c =
+    let e = c.in_err-legal.field-0.0 in
+    let levels = levels_in c.args.given in
+    let same : answer_number c.from_residual.result ≡ number_of e = search rules in
+    same ∙ lend_refused (given_of c.args.run levels c.args.given.tables.now) (places_of c.args.run) c.args.lengths.now (number_of-positive e) (c.in_err-legal.ensures.number levels c.args.given.tables.now)
 
-pub returns-then-not-all_equal : goal.returns-then-not-all_equal
+pub returns-then-not-values_long-clause-number : goal.returns-then-not-values_long-clause-number
 unfolding start_refusal
-returns-then-not-all_equal c =
-    let long = ap (λ t. all (λ n. eqb n t) c.args.lengths.now) (sym c.total.ensures) ∙ sym c.all_equal.ensures ∙ c.if-not-all_equal.true in
-    record { ok = tt; number = rw (sym c.legal.ensures ∙ c.if-not-legal.false, long) }
+returns-then-not-values_long-clause-number c =
+    let levels = levels_in c.args.given in
+    lend_passed (given_of c.args.run levels c.args.given.tables.now) (places_of c.args.run) c.args.lengths.now (c.in_ok-legal.ensures.number levels c.args.given.tables.now)
+    (sym c.if-not-values_long.true ∙ rw (← c.in_ok-legal.ensures.ok) c.values_long.ensures) refl
 
-pub returns-then-not-values_long : goal.returns-then-not-values_long
+pub returns-then-not-tables_ok-clause-number : goal.returns-then-not-tables_ok-clause-number
 unfolding start_refusal
-returns-then-not-values_long c =
-    let long = ap (λ t. all (λ n. eqb n t) c.args.lengths.now) (sym c.total.ensures) ∙ sym c.all_equal.ensures ∙ c.if-not-all_equal.false in
-    let values = sym (c.values_long.ensures (pairs c.args.lows.now c.args.highs.now) c.args.tables.now refl refl refl) ∙ c.if-not-values_long.true in
-    record { ok = tt; number = rw (sym c.legal.ensures ∙ c.if-not-legal.false, long, values) }
+returns-then-not-tables_ok-clause-number c =
+    let levels = levels_in c.args.given in
+    lend_passed (given_of c.args.run levels c.args.given.tables.now) (places_of c.args.run) c.args.lengths.now (c.in_ok-legal.ensures.number levels c.args.given.tables.now)
+    (sym c.if-not-values_long.false ∙ rw (← c.in_ok-legal.ensures.ok) c.values_long.ensures) (sym c.if-not-tables_ok.true ∙ c.tables_ok.ensures)
 
-pub returns-then-not-tables_ok : goal.returns-then-not-tables_ok
+pub returns-in_err-levels_fault-clause-number : goal.returns-in_err-levels_fault-clause-number
 unfolding start_refusal
-returns-then-not-tables_ok c =
-    let long = ap (λ t. all (λ n. eqb n t) c.args.lengths.now) (sym c.total.ensures) ∙ sym c.all_equal.ensures ∙ c.if-not-all_equal.false in
-    let values = sym (c.values_long.ensures (pairs c.args.lows.now c.args.highs.now) c.args.tables.now refl refl refl) ∙ c.if-not-values_long.false in
-    record { ok = tt; number = rw (sym c.legal.ensures ∙ c.if-not-legal.false, long, values, sym c.tables_ok.ensures ∙ c.if-not-tables_ok.true) }
-
-pub levels_fault-requires : goal.levels_fault-requires
-levels_fault-requires c =
-    same_long (given_of c.args.run (pairs c.args.lows.now c.args.highs.now) c.args.tables.now)
-    (c.values_long.ensures (pairs c.args.lows.now c.args.highs.now) c.args.tables.now refl refl refl) c.if-not-values_long.false
+returns-in_err-levels_fault-clause-number c =
+    let levels = levels_in c.args.given in
+    let same : answer_number c.from_residual-in_err-levels_fault.result ≡ number_of c.in_err-levels_fault.field-0.0 = search rules in
+    same ∙ c.in_err-levels_fault.ensures ∙ sym (first_one (levels_fault levels))
+    ∙ lend_passed (given_of c.args.run levels c.args.given.tables.now) (places_of c.args.run) c.args.lengths.now (c.in_ok-legal.ensures.number levels c.args.given.tables.now)
+    (sym c.if-not-values_long.false ∙ rw (← c.in_ok-legal.ensures.ok) c.values_long.ensures) (sym c.if-not-tables_ok.false ∙ c.tables_ok.ensures)
 
 pub returns-clause-number : goal.returns-clause-number
 unfolding start_refusal
 returns-clause-number c =
-    let long = ap (λ t. all (λ n. eqb n t) c.args.lengths.now) (sym c.total.ensures) ∙ sym c.all_equal.ensures ∙ c.if-not-all_equal.false in
-    let values = sym (c.values_long.ensures (pairs c.args.lows.now c.args.highs.now) c.args.tables.now refl refl refl) ∙ c.if-not-values_long.false in
-    rw (sym c.legal.ensures ∙ c.if-not-legal.false, long, values, sym c.tables_ok.ensures ∙ c.if-not-tables_ok.false) (c.levels_fault.ensures ∙ sym (first_one (levels_fault (pairs c.args.lows.now c.args.highs.now))))
+    let levels = levels_in c.args.given in
+    c.in_ok-levels_fault.ensures ∙ sym (first_one (levels_fault levels))
+    ∙ lend_passed (given_of c.args.run levels c.args.given.tables.now) (places_of c.args.run) c.args.lengths.now (c.in_ok-legal.ensures.number levels c.args.given.tables.now)
+    (sym c.if-not-values_long.false ∙ rw (← c.in_ok-legal.ensures.ok) c.values_long.ensures) (sym c.if-not-tables_ok.false ∙ c.tables_ok.ensures)

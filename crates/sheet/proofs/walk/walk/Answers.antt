@@ -1,120 +1,99 @@
-use mathlib.Core.Path.{sym, ◌∙◌}
+-- Kept: the check finds none of these alone (scripts/answers tries each).
+use mathlib.Core.Path.{◌≡◌, refl, sym, ap, ◌∙◌}
+use Prim.Native.Nat.{ℕ, ◌+◌}
+use lib.ListN.{replicate}
 use native.Mathlib.Omega.{arith}
 use borrow.Author.Tests.{eqb-true, eqb-false}
+use Rattle.std.proofs.Common.{rules, Err}
+use Rattle.text.proofs.PieceLaws.{rest_whole}
 use Rattle.progress.proofs.StateLaws.{due}
-use Rattle.sheet.proofs.WalkLaws.{check_begin, check_at, check_in, check_bad, check_step, read_begin, walk_limit, bits_long, end_inside, walk_long, walk_cut, on-line, walk_count, row_count, rules_count, low_place, high_place, table_room, walk_fault, walk_end, walk_after, walk_bad, walk_next}
+use Rattle.sheet.proofs.WalkLaws.{field_end, field_read, was_err, check_begin, check_at, check_in, check_bad, check_step, read_begin, walk_limit, row_size, walk_long, walk_cut, on-line, walk_count, row_count, rules_count, low_place, high_place, table_room, walk_fault, walk_end, walk_after, walk_bad, walk_next}
 use Rattle.sheet.proofs.walk.walk.Goals as goal
 
 pub returns-then-not-are_allowed : goal.returns-then-not-are_allowed
 returns-then-not-are_allowed c = walk_limit _ _ _ _ (sym c.are_allowed.ensures ∙ c.if-not-are_allowed.true)
 
 pub lines-init : goal.lines-init
-lines-init c = read_begin _ _ _ _ _ (sym c.are_allowed.ensures ∙ c.if-not-are_allowed.false) c.nothing-state.ensures c.requires
-
-pub line_at-l-requires : goal.line_at-l-requires
-line_at-l-requires c = c.lines.invariant.inside
-
-pub overflow_sub-end : goal.overflow_sub-end
-overflow_sub-end c = omega (arith, c.line_at-l.ensures.end)
-
-pub slice_bounds-row-count : goal.slice_bounds-row-count
-slice_bounds-row-count c = omega (arith, c.line_at-l.ensures.end)
+lines-init c = read_begin _ _ _ _ _ (sym c.are_allowed.ensures ∙ c.if-not-are_allowed.false) c.nothing-state.ensures
+    (c.fill.ensures.after (λ y h. search rules) ∙ ap (λ (n : ℕ). replicate n 0) c.requires)
 
 pub loop-i-init : goal.loop-i-init
 loop-i-init c =
-    let w = on-line c.lines.invariant c.line_at-l.ensures c.if-end-at-gt1024.false c.if-end-text.false c.expected-tag.ensures c.field_count-count.ensures in (w, row_count c.lines.invariant w c.line_at-l.ensures c.if-l-count.false, check_begin _ _ _ _ _)
+    let w = on-line c.lines.invariant c.first_line-l.ensures (omega (arith, c.if-l-gt1024.false)) c.if-l-rest.false c.expected-tag.ensures c.field_count-count.ensures in (w, row_count c.lines.invariant w c.first_line-l.ensures c.if-l-count.false, check_begin _ _ _ _ _)
 
-pub field_end-e-requires : goal.field_end-e-requires
-field_end-e-requires c = check_at c.loop-i.invariant.2 c.loop-i-test.true
+pub slice_bounds-first_field-count : goal.slice_bounds-first_field-count
+slice_bounds-first_field-count c = check_at c.loop-i.invariant.2 c.loop-i-test.true
 
-pub rule_at-rule-requires : goal.rule_at-rule-requires
-rule_at-rule-requires c = (omega (arith, c.field_count-count.ensures, c.loop-i-test.true), c.loop-i.invariant.2.said)
-
-pub slice_bounds-read_field-count : goal.slice_bounds-read_field-count
-slice_bounds-read_field-count c = omega (arith, c.field_end-e.ensures)
-
-pub put_low-low-requires : goal.put_low-low-requires
-put_low-low-requires c =
+pub put-low-requires : goal.put-low-requires
+put-low-requires c =
     low_place c.lines.invariant c.loop-i.invariant.0 c.loop-i.invariant.1 c.well_formed.0.0 c.loop-i-test.true c.loop-i.invariant.2.low_most
 
-pub put_high-high-requires : goal.put_high-high-requires
-put_high-high-requires c =
+pub put-high-requires : goal.put-high-requires
+put-high-requires c =
     high_place c.lines.invariant c.loop-i.invariant.0 c.loop-i.invariant.1 c.well_formed.0.0 c.loop-i-test.true c.loop-i.invariant.2.high_most
 
-pub put_quantiser-listed-requires : goal.put_quantiser-listed-requires
-put_quantiser-listed-requires c =
+pub put-listed-requires : goal.put-listed-requires
+put-listed-requires c =
     table_room c.lines.invariant c.loop-i.invariant.0 c.loop-i.invariant.1 c.well_formed.0.0 c.loop-i-test.true c.loop-i.invariant.2.listed_most
 
-pub overflow_add-a : goal.overflow_add-a
-overflow_add-a c =
-    omega (arith, check_in c.loop-i.invariant.2 c.loop-i-test.true c.field_end-e.ensures, c.loop-i.invariant.0.size, c.loop-i.invariant.0.ended, c.well_formed.0.0)
+pub slice_bounds-first_field-start : goal.slice_bounds-first_field-start
+slice_bounds-first_field-start c = check_at c.loop-i.invariant.2 c.loop-i-test.true
+
+pub overflow_add-a-in-loop-i : goal.overflow_add-a-in-loop-i
+overflow_add-a-in-loop-i c =
+    omega (arith, check_in c.loop-i.invariant.2 c.loop-i-test.true (field_end c.loop-i.invariant.2 c.loop-i-test.true c.first_field-f.ensures), c.loop-i.invariant.0.size, c.loop-i.invariant.0.ended, c.well_formed.0.0)
 
 pub loop-i-preserved : goal.loop-i-preserved
 loop-i-preserved c = (
   c.loop-i.invariant.0,
   c.loop-i.invariant.1,
-  check_step c.loop-i.invariant.2 c.loop-i-test.true c.field_end-e.ensures (rules_count c.lines.invariant c.loop-i.invariant.0) c.loop-i.invariant.1 c.rule_at-rule.ensures c.read_field.ensures
-      c.in-Ok.f c.in-Ok.is c.put_low-low.ensures c.put_high-high.ensures c.put_quantiser-listed.ensures,
+  check_step c.loop-i.invariant.2 c.loop-i-test.true (field_end c.loop-i.invariant.2 c.loop-i-test.true c.first_field-f.ensures) (rules_count c.lines.invariant c.loop-i.invariant.0) c.loop-i.invariant.1 c.rule_at-rule.ensures (field_read c.loop-i.invariant.2 c.loop-i-test.true c.first_field-f.ensures _ c.read_field.ensures)
+      c.in_ok-last.last (search rules) (rw c.levels-lowest.ensures.lows at c.put-low.ensures) (rw c.levels-lowest.ensures.highs at c.put-high.ensures) (rw c.quantiser.ensures at c.put-listed.ensures),
 )
 
-pub overflow_add-end : goal.overflow_add-end
-overflow_add-end c = omega (arith, c.loop-i.invariant.0.ended, c.well_formed.0.0)
-
-pub overflow_add-next : goal.overflow_add-next
-overflow_add-next c =
-    omega (arith, c.lines.invariant.lines, c.lines.invariant.inside, c.well_formed.0)
-
-pub mark_block-twice-requires : goal.mark_block-twice-requires
-mark_block-twice-requires c = bits_long c.lines.invariant
-
-pub take_record-requires : goal.take_record-requires
-take_record-requires c = due _ _ _ c.expected-tag.ensures (eqb-false _ _ (sym c.is_end.ensures ∙ c.if-is_end.false)) _ c.record_of-rec.ensures
-
-pub overflow_add-at : goal.overflow_add-at
-overflow_add-at c =
-    omega (arith, c.loop-i.invariant.0.ended, c.well_formed.0.0)
-
-pub overflow_add-line : goal.overflow_add-line
-overflow_add-line c =
-    omega (arith, c.lines.invariant.lines, c.lines.invariant.inside, c.well_formed.0)
-
-pub lines-smaller : goal.lines-smaller
-lines-smaller c =
-    omega (arith, c.loop-i.invariant.0.ended, c.loop-i.invariant.0.ordered)
+pub take_record-requires-clause-due : goal.take_record-requires-clause-due
+take_record-requires-clause-due c = due _ _ _ c.expected-tag.ensures (eqb-false _ _ (sym c.is_end.ensures ∙ c.if-is_end.false)) _ c.record_of-rec.ensures
 
 pub lines-preserved : goal.lines-preserved
 lines-preserved c =
-    walk_next c.lines.invariant c.loop-i.invariant.0 c.loop-i.invariant.1 c.loop-i.invariant.2 c.loop-i-test.false (eqb-false _ _ (sym c.is_end.ensures ∙ c.if-is_end.false)) c.record_of-rec.ensures c.mark_block-twice.ensures c.take_record.ensures c.in-Ok-take_record.is
+    rw (rest_whole (c.first_line-l.result.length + 1) c.lines.rest.now)
+    (walk_next c.lines.invariant c.loop-i.invariant.0 c.loop-i.invariant.1 c.loop-i.invariant.2 c.loop-i-test.false (eqb-false _ _ (sym c.is_end.ensures ∙ c.if-is_end.false)) c.record_of-rec.ensures (refl, c.take_record.ensures.bits) c.take_record.ensures.state (search rules))
 
-pub returns-then-end-at-gt1024 : goal.returns-then-end-at-gt1024
-returns-then-end-at-gt1024 c = walk_long c.lines.invariant c.line_at-l.ensures c.if-end-at-gt1024.true
+pub returns-then-l-gt1024 : goal.returns-then-l-gt1024
+returns-then-l-gt1024 c = walk_long c.lines.invariant c.first_line-l.ensures (omega (arith, c.if-l-gt1024.true))
 
-pub returns-then-end-text : goal.returns-then-end-text
-returns-then-end-text c = walk_cut c.lines.invariant c.line_at-l.ensures c.if-end-at-gt1024.false c.if-end-text.true
+pub returns-then-l-rest : goal.returns-then-l-rest
+returns-then-l-rest c = walk_cut c.lines.invariant c.first_line-l.ensures (omega (arith, c.if-l-gt1024.false)) c.if-l-rest.true
 
 pub returns-then-l-count : goal.returns-then-l-count
 returns-then-l-count c =
-    walk_count c.lines.invariant (on-line c.lines.invariant c.line_at-l.ensures c.if-end-at-gt1024.false c.if-end-text.false c.expected-tag.ensures c.field_count-count.ensures) c.line_at-l.ensures c.if-l-count.true
+    walk_count c.lines.invariant (on-line c.lines.invariant c.first_line-l.ensures (omega (arith, c.if-l-gt1024.false)) c.if-l-rest.false c.expected-tag.ensures c.field_count-count.ensures) c.first_line-l.ensures c.if-l-count.true
 
-pub returns-in-Err : goal.returns-in-Err
-returns-in-Err c =
-    walk_fault c.lines.invariant c.loop-i.invariant.0 c.loop-i.invariant.1
-    (check_bad c.loop-i.invariant.2 c.loop-i-test.true c.field_end-e.ensures (rules_count c.lines.invariant c.loop-i.invariant.0) c.loop-i.invariant.1 c.rule_at-rule.ensures c.read_field.ensures c.in-Err.refusal c.in-Err.is)
+pub returns-in_err-last : goal.returns-in_err-last
+returns-in_err-last c =
+    let e = was_err _ _ _ _ c.map_err.ensures.cases c.in_err-last.was in
+    let z : c.in_err-last.field-0.0 ≡ record { refusal = e.0; line = c.lines.line } = search rules in
+    let v : c.from_residual.result ≡ Err c.in_err-last.field-0.0 = search rules in
+    rw (v, z)
+    (walk_fault c.lines.invariant c.loop-i.invariant.0 c.loop-i.invariant.1
+    (check_bad c.loop-i.invariant.2 c.loop-i-test.true (field_end c.loop-i.invariant.2 c.loop-i-test.true c.first_field-f.ensures) (rules_count c.lines.invariant c.loop-i.invariant.0) c.loop-i.invariant.1 c.rule_at-rule.ensures (field_read c.loop-i.invariant.2 c.loop-i-test.true c.first_field-f.ensures _ c.read_field.ensures) e.0 e.1))
 
-pub returns-then-end-text-2 : goal.returns-then-end-text-2
-returns-then-end-text-2 c =
-    walk_end c.lines.invariant c.loop-i.invariant.0 c.loop-i.invariant.1 c.loop-i.invariant.2 c.loop-i-test.false (eqb-true _ _ (sym c.is_end.ensures ∙ c.if-is_end.true)) c.if-end-text-2.true
+pub returns-then-l-rest-2 : goal.returns-then-l-rest-2
+returns-then-l-rest-2 c =
+    walk_end c.lines.invariant c.loop-i.invariant.0 c.loop-i.invariant.1 c.loop-i.invariant.2 c.loop-i-test.false (eqb-true _ _ (sym c.is_end.ensures ∙ c.if-is_end.true)) c.if-l-rest-2.true
 
 pub returns-then-is_end : goal.returns-then-is_end
 returns-then-is_end c =
-    walk_after c.lines.invariant c.loop-i.invariant.0 c.loop-i.invariant.1 c.loop-i.invariant.2 c.loop-i-test.false (eqb-true _ _ (sym c.is_end.ensures ∙ c.if-is_end.true)) c.if-end-text-2.false
+    walk_after c.lines.invariant c.loop-i.invariant.0 c.loop-i.invariant.1 c.loop-i.invariant.2 c.loop-i-test.false (eqb-true _ _ (sym c.is_end.ensures ∙ c.if-is_end.true)) c.if-l-rest-2.false
 
-pub returns-in-Err-take_record : goal.returns-in-Err-take_record
-returns-in-Err-take_record c =
-    walk_bad c.lines.invariant c.loop-i.invariant.0 c.loop-i.invariant.1 c.loop-i.invariant.2 c.loop-i-test.false (eqb-false _ _ (sym c.is_end.ensures ∙ c.if-is_end.false)) c.record_of-rec.ensures c.mark_block-twice.ensures c.take_record.ensures c.in-Err-take_record.is
+pub returns-in_err-state : goal.returns-in_err-state
+returns-in_err-state c =
+    let e = was_err _ _ _ _ c.map_err-in-lines.ensures.cases c.in_err-state.was in
+    let z : c.in_err-state.field-0.0 ≡ record { refusal = e.0; line = c.lines.line } = search rules in
+    let v : c.from_residual-in_err-state.result ≡ Err c.in_err-state.field-0.0 = search rules in
+    rw (v, z)
+    (walk_bad c.lines.invariant c.loop-i.invariant.0 c.loop-i.invariant.1 c.loop-i.invariant.2 c.loop-i-test.false (eqb-false _ _ (sym c.is_end.ensures ∙ c.if-is_end.false)) c.record_of-rec.ensures
+    (refl, c.take_record.ensures.bits) c.take_record.ensures.state e.1)
 
 pub slice_bounds-row-end : goal.slice_bounds-row-end
-slice_bounds-row-end c = end_inside c.lines.invariant c.line_at-l.ensures
-
-pub slice_bounds-read_field-end : goal.slice_bounds-read_field-end
-slice_bounds-read_field-end c = check_in c.loop-i.invariant.2 c.loop-i-test.true c.field_end-e.ensures
+slice_bounds-row-end c = sym (row_size c.lines.invariant c.first_line-l.ensures)

@@ -10,12 +10,12 @@ returns-then-rounding-gt1 c = rw c.from.ensures (no_rounding _ _ _ _ _ _ _ _ c.i
 
 pub returns-in-Ok : goal.returns-in-Ok
 returns-in-Ok c =
-    let g = c.rounding_from in
+    let g = c.from-2 in
     let f = c.finish in
     finished _ _ _ _ _ _ _ _ c.if-rounding-gt1.false g.result g.ensures _ f.result _ f.ensures (ap (λ r. verdict_number (verdict r)) (sym c.in-Ok.is))
 
 pub returns-in-Err : goal.returns-in-Err
 returns-in-Err c =
-    let g = c.rounding_from in
+    let g = c.from-2 in
     let f = c.finish in
     finished _ _ _ _ _ _ _ _ c.if-rounding-gt1.false g.result g.ensures _ f.result _ f.ensures (c.from-in-Err.ensures ∙ ap (λ r. verdict_number (verdict r)) (sym c.in-Err.is))

@@ -1,47 +1,65 @@
 -- `smoother_solve`: no record, no letters, no legal sheet, no room for the numbers, or what `solve` gives of the record's sheet, its answer as a number.
-use mathlib.Core.Path.{sym, ap, ◌∙◌}
+use mathlib.Core.Path.{◌≡◌, sym, ap, ◌∙◌}
+use borrow.Author.Rules.{rules}
+use lib.ListN.{length}
 use native.Mathlib.Omega.{arith}
 use Rattle.start.specs.Coef.{pairs}
 use Rattle.contents.specs.declared.Sheet.{Sheet}
 use Rattle.rounds.specs.Whole.{six, loan}
 use Rattle.solve.specs.Solve.{all_legal}
 use Rattle.solve.proofs.Alone.{legal_few}
+use Rattle.by_numbers.specs.Sheets.{record_count}
 use Rattle.by_numbers.proofs.WholeLaws.{no_record, no_letters, not_legal, no_room, other, solved}
 use Rattle.smoother.proofs.sheets.smoother_solve.Goals as goal
 
-pub returns-then-numbers-ne-NUMBERS : goal.returns-then-numbers-ne-NUMBERS
-returns-then-numbers-ne-NUMBERS c =
+pub returns-in_default : goal.returns-in_default
+returns-in_default c =
     let a = c.args in
     rw c.from.ensures
-    (no_record a.numbers.now (pairs a.lows.now a.highs.now) a.tables.now (loan (six a.plane.now a.prior.now a.gradient.now a.across.now a.down.now a.saved.now) a.totals.now) a.clipped.now c.if-numbers-ne-NUMBERS.true)
+    (no_record a.numbers.now (pairs a.lows.now a.highs.now) a.tables.now (loan (six a.plane.now a.prior.now a.gradient.now a.across.now a.down.now a.saved.now) a.totals.now) a.clipped.now (search rules))
 
 pub returns-then-not-letters_ok : goal.returns-then-not-letters_ok
 returns-then-not-letters_ok c =
     let a = c.args in
+    let e : c.in-Some.numbers.now ≡ a.numbers.now = search rules in
+    let w : length a.numbers.now ≡ record_count = search rules in
+    let l = rw e at c.letters_ok.ensures in
     rw c.from-then-not-letters_ok.ensures
-    (no_letters a.numbers.now (pairs a.lows.now a.highs.now) a.tables.now (loan (six a.plane.now a.prior.now a.gradient.now a.across.now a.down.now a.saved.now) a.totals.now) a.clipped.now c.if-numbers-ne-NUMBERS.false
-    (sym c.letters_ok.ensures ∙ c.if-not-letters_ok.true))
+    (no_letters a.numbers.now (pairs a.lows.now a.highs.now) a.tables.now (loan (six a.plane.now a.prior.now a.gradient.now a.across.now a.down.now a.saved.now) a.totals.now) a.clipped.now w
+    (sym l ∙ c.if-not-letters_ok.true))
 
 pub returns-then-not-all_legal : goal.returns-then-not-all_legal
 returns-then-not-all_legal c =
     let a = c.args in
+    let e : c.in-Some.numbers.now ≡ a.numbers.now = search rules in
+    let w : length a.numbers.now ≡ record_count = search rules in
+    let l = rw e at c.letters_ok.ensures in
+    let s = rw e at c.sheet_of-s.ensures in
     rw c.from-then-not-all_legal.ensures
-    (not_legal a.numbers.now (pairs a.lows.now a.highs.now) a.tables.now (loan (six a.plane.now a.prior.now a.gradient.now a.across.now a.down.now a.saved.now) a.totals.now) a.clipped.now c.if-numbers-ne-NUMBERS.false (sym c.letters_ok.ensures ∙ c.if-not-letters_ok.false)
-    (ap all_legal (sym c.sheet_of-s.ensures) ∙ sym c.all_legal.ensures ∙ c.if-not-all_legal.true))
+    (not_legal a.numbers.now (pairs a.lows.now a.highs.now) a.tables.now (loan (six a.plane.now a.prior.now a.gradient.now a.across.now a.down.now a.saved.now) a.totals.now) a.clipped.now w (sym l ∙ c.if-not-letters_ok.false)
+    (ap all_legal (sym s) ∙ sym c.all_legal.ensures ∙ c.if-not-all_legal.true))
 
 pub returns-then-clipped-s : goal.returns-then-clipped-s
 returns-then-clipped-s c =
     let a = c.args in
+    let e : c.in-Some.numbers.now ≡ a.numbers.now = search rules in
+    let w : length a.numbers.now ≡ record_count = search rules in
+    let l = rw e at c.letters_ok.ensures in
+    let s = rw e at c.sheet_of-s.ensures in
     rw c.from-then-clipped-s.ensures
-    (no_room a.numbers.now (pairs a.lows.now a.highs.now) a.tables.now (loan (six a.plane.now a.prior.now a.gradient.now a.across.now a.down.now a.saved.now) a.totals.now) a.clipped.now c.if-numbers-ne-NUMBERS.false (sym c.letters_ok.ensures ∙ c.if-not-letters_ok.false) (ap all_legal (sym c.sheet_of-s.ensures) ∙ sym c.all_legal.ensures ∙ c.if-not-all_legal.false)
-    (λ e. c.if-clipped-s.true (e ∙ ap (λ (z : Sheet). z.header.channels) (sym c.sheet_of-s.ensures))))
+    (no_room a.numbers.now (pairs a.lows.now a.highs.now) a.tables.now (loan (six a.plane.now a.prior.now a.gradient.now a.across.now a.down.now a.saved.now) a.totals.now) a.clipped.now w (sym l ∙ c.if-not-letters_ok.false) (ap all_legal (sym s) ∙ sym c.all_legal.ensures ∙ c.if-not-all_legal.false)
+    (λ e. c.if-clipped-s.true (e ∙ ap (λ (z : Sheet). z.header.channels) (sym s))))
 
 pub returns-then-k-ne0 : goal.returns-then-k-ne0
 returns-then-k-ne0 c =
     let a = c.args in
-    let v = c.solve-t in
-    other a.numbers.now (pairs a.lows.now a.highs.now) a.tables.now (loan (six a.plane.now a.prior.now a.gradient.now a.across.now a.down.now a.saved.now) a.totals.now) a.clipped.now c.if-numbers-ne-NUMBERS.false (sym c.letters_ok.ensures ∙ c.if-not-letters_ok.false) (ap all_legal (sym c.sheet_of-s.ensures) ∙ sym c.all_legal.ensures ∙ c.if-not-all_legal.false) (c.if-clipped-s.false ∙ ap (λ (z : Sheet). z.header.channels) c.sheet_of-s.ensures)
-    v.result.answer v.result.clipped _ (rw c.sheet_of-s.ensures at v.ensures) _ c.answer_number-k.ensures c.if-k-ne0.true
+    let e : c.in-Some.numbers.now ≡ a.numbers.now = search rules in
+    let w : length a.numbers.now ≡ record_count = search rules in
+    let l = rw e at c.letters_ok.ensures in
+    let s = rw e at c.sheet_of-s.ensures in
+    let v = c.solve_six-t in
+    other a.numbers.now (pairs a.lows.now a.highs.now) a.tables.now (loan (six a.plane.now a.prior.now a.gradient.now a.across.now a.down.now a.saved.now) a.totals.now) a.clipped.now w (sym l ∙ c.if-not-letters_ok.false) (ap all_legal (sym s) ∙ sym c.all_legal.ensures ∙ c.if-not-all_legal.false) (c.if-clipped-s.false ∙ ap (λ (z : Sheet). z.header.channels) s)
+    v.result.answer v.result.clipped _ (rw s at v.ensures) _ (c.from-k.ensures ∙ c.answer_byte.ensures) c.if-k-ne0.true
 
 pub put_clipped-requires : goal.put_clipped-requires
 put_clipped-requires c =
@@ -51,6 +69,10 @@ put_clipped-requires c =
 pub returns : goal.returns
 returns c =
     let a = c.args in
-    let v = c.solve-t in
-    solved a.numbers.now (pairs a.lows.now a.highs.now) a.tables.now (loan (six a.plane.now a.prior.now a.gradient.now a.across.now a.down.now a.saved.now) a.totals.now) a.clipped.now c.if-numbers-ne-NUMBERS.false (sym c.letters_ok.ensures ∙ c.if-not-letters_ok.false) (ap all_legal (sym c.sheet_of-s.ensures) ∙ sym c.all_legal.ensures ∙ c.if-not-all_legal.false) (c.if-clipped-s.false ∙ ap (λ (z : Sheet). z.header.channels) c.sheet_of-s.ensures)
-    v.result.answer v.result.clipped _ (rw c.sheet_of-s.ensures at v.ensures) (sym c.if-k-ne0.false ∙ c.answer_number-k.ensures) _ c.put_clipped.ensures
+    let e : c.in-Some.numbers.now ≡ a.numbers.now = search rules in
+    let w : length a.numbers.now ≡ record_count = search rules in
+    let l = rw e at c.letters_ok.ensures in
+    let s = rw e at c.sheet_of-s.ensures in
+    let v = c.solve_six-t in
+    solved a.numbers.now (pairs a.lows.now a.highs.now) a.tables.now (loan (six a.plane.now a.prior.now a.gradient.now a.across.now a.down.now a.saved.now) a.totals.now) a.clipped.now w (sym l ∙ c.if-not-letters_ok.false) (ap all_legal (sym s) ∙ sym c.all_legal.ensures ∙ c.if-not-all_legal.false) (c.if-clipped-s.false ∙ ap (λ (z : Sheet). z.header.channels) s)
+    v.result.answer v.result.clipped _ (rw s at v.ensures) (sym c.if-k-ne0.false ∙ c.from-k.ensures ∙ c.answer_byte.ensures) _ c.put_clipped.ensures

@@ -1,3 +1,4 @@
+-- Kept: the check finds none of these alone (scripts/answers tries each).
 use mathlib.Core.Path.{◌≡◌}
 use borrow.Author.Rules.{rules}
 use lib.ListN.{replicate}
@@ -10,4 +11,4 @@ pub returns : goal.returns
 unfolding init_pixels
 returns c =
     let e : c.fill.new.self ≡ replicate (c.args.coef.now.w * c.args.coef.now.h) f0 = search rules in
-    rw (← c.image_of.ensures, ← e) c.upsample_pixels.ensures
+    rw (← c.scalar.ensures.0, ← c.image_of.ensures, ← e) c.upsample_pixels.ensures

@@ -1,3 +1,4 @@
+-- Kept: the check finds none of these alone (scripts/answers tries each).
 use mathlib.Core.Path.{◌≡◌}
 use borrow.Author.Rules.{rules}
 use lib.ListN.{replicate}
@@ -9,6 +10,10 @@ use Rattle.start.proofs.auxiliary.start.Goals as goal
 pub returns : goal.returns
 unfolding aux_init
 returns c =
-    let e : c.fill.new.self ≡ replicate (c.args.coef.now.w * c.args.coef.now.h) f0 = search rules in
-    let p = c.init_planes.ensures in
-    rw (p.1, p.0, p.2, p.3, e, c.init_saved.ensures)
+    let zeros = replicate (c.args.coef.now.w * c.args.coef.now.h) f0 in
+    let gradient : c.fill.new.self ≡ zeros = search rules in
+    let across : c.fill-2.new.self ≡ zeros = search rules in
+    let down : c.fill-3.new.self ≡ zeros = search rules in
+    let saved : c.fill-4.new.self ≡ zeros = search rules in
+    let prior : c.copy_from_slice.new.self ≡ c.init_pixels.new.plane = search rules in
+    rw (prior, gradient, across, down, c.init_dct_target.ensures, saved, c.scalar.ensures.0, c.init_pixels.ensures)

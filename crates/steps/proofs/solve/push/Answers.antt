@@ -1,3 +1,4 @@
+-- Kept: the check finds none of these alone (scripts/answers tries each).
 use Rattle.steps.proofs.Laws.{pushed_all}
 use Rattle.steps.proofs.solve.push.Goals as goal
 

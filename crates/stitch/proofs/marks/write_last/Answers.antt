@@ -1,3 +1,4 @@
+-- Kept: the check finds none of these alone (scripts/answers tries each).
 -- `stitch::marks::write_last` meets its contract.
 use Rattle.copying.proofs.PartLaws.{put_more}
 use Rattle.stitch.proofs.marks.write_last.Goals as goal

@@ -1,3 +1,4 @@
+-- Kept: the check finds none of these alone (scripts/answers tries each).
 -- `stitch::marks::write_marks` meets its contract.
 use mathlib.Core.Path.{ap, ◌∙◌, sym}
 use native.Mathlib.Omega.{arith}

@@ -1,3 +1,4 @@
+-- Kept: the check finds none of these alone (scripts/answers tries each).
 -- `stitch::write::write_head` meets its contract.
 use Rattle.copying.proofs.PartLaws.{put_more}
 use Rattle.stitch.proofs.write.write_head.Goals as goal

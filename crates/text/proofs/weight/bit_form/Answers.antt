@@ -1,3 +1,4 @@
+-- Kept: the check finds none of these alone (scripts/answers tries each).
 use Rattle.std.proofs.Common.{arith, sym, ◌∙◌, ◌-◌, get_or, take, drop, length}
 use Rattle.text.proofs.WeightLaws.{hex_below, hex_small}
 use Rattle.text.proofs.weight.bit_form.Goals as goal

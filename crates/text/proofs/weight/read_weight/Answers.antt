@@ -1,3 +1,4 @@
+-- Kept: the check finds none of these alone (scripts/answers tries each).
 use Rattle.std.proofs.Common.{arith, sym, ◌∙◌}
 use lib.ListN.{get_or-eq_default}
 use Rattle.text.specs.Weights.{weight_of}

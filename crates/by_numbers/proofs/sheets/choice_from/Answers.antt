@@ -1,9 +1,0 @@
--- `choice_from` meets its contract.
-use borrow.Author.Tests.{eq-eqb, ne_eqb}
-use Rattle.by_numbers.proofs.sheets.choice_from.Goals as goal
-
-pub returns-then-n-eq1 : goal.returns-then-n-eq1
-returns-then-n-eq1 c = rw (eq-eqb _ _ c.if-n-eq1.true)
-
-pub returns-else-n-eq1 : goal.returns-else-n-eq1
-returns-else-n-eq1 c = rw (ne_eqb _ _ c.if-n-eq1.false)

@@ -1,0 +1,2 @@
+-- What the comparisons cite.
+pub mod HoldsLaws
