@@ -10,9 +10,9 @@ use native.Mathlib.Nat.{lt_of_not-le, suc-add}
 use lib.Seq.{take_all, drop-cons, get_or-drop, drop-drop}
 use lib.Dec.{eqb, ltb}
 use borrow.Author.Tests.{ltb-true, ltb-false}
-use Rattle.std.specs.List.{position_or_len, count_by}
-use Rattle.std.proofs.lemmas.List.Sums.{sum_by-cons}
+use Rattle.std.specs.List.{position_or_len}
 use Rattle.std.proofs.Common.{not, Some, None, position}
+use Rattle.std.specs.Int.{from_bool}
 use Rattle.text.specs.Pieces.{split, before, onto}
 use Rattle.text.specs.Cursor.{AtField}
 
@@ -112,13 +112,19 @@ split_length b (x ∷ l) = two (eqb x b) (split_length b l) (split_some b l)
     two false h k = omega (arith, length_onto x (split b l) k)
 
 -- How many fields a line has: a tab more, a field more
-pub split_count : (b : ℕ) (l : List ℕ) → length (split b l) ≡ 1 + count_by (λ x. eqb x b) l
-split_count b [] = refl
-split_count b (x ∷ l) = two (eqb x b) (split_count b l) ∙ ap (λ (n : ℕ). 1 + n) (sym (sum_by-cons (λ (y : ℕ). cond (eqb y b) 1 0) x l))
+pub one_most : (t : Bool) → from_bool t ≤ 1
+one_most true = omega arith
+one_most false = omega arith
+
+pub fields_step : (l : List ℕ) (k : ℕ) → k < length l → length (split 9 (drop k l)) ≡ from_bool (eqb (get_or l k 0) 9) + length (split 9 (drop (k + 1) l))
+fields_step l k h = rw (drop_step l k h) (two (eqb (get_or l k 0) 9))
   where
-    two : (t : Bool) → length (split b l) ≡ 1 + count_by (λ x. eqb x b) l → length (cond t ([] ∷ split b l) (onto x (split b l))) ≡ 1 + (cond t 1 0 + count_by (λ x. eqb x b) l)
-    two true e = omega arith
-    two false e = omega (arith, length_onto x (split b l) (split_some b l))
+    rest : List (List ℕ)
+    rest = split 9 (drop (k + 1) l)
+
+    two : (t : Bool) → length (cond t ([] ∷ rest) (onto (get_or l k 0) rest)) ≡ from_bool t + length rest
+    two true = omega arith
+    two false = omega (arith, length_onto (get_or l k 0) rest (split_some 9 (drop (k + 1) l)))
 
 -- a slice from k on
 pub rest_whole : (k : ℕ) (l : List ℕ) → take (length l - k) (drop k l) ≡ drop k l

@@ -28,12 +28,16 @@ fn before(rest: &[u8], b: u8) -> &[u8]
     }
 }
 
-// How many fields a line has: one more than tabs.
-#[tactic(auto, using(crate::proofs::PieceLaws::split_count))]
+// How many fields a line has. No turn of this loop depends on a byte, so that it takes many bytes at a time.
+// Kept: tried as `1 + filter(..).count()`: reading 512 by 512 then takes 1.85 times the time of the plain Rust, where the bar is 1.5.
 fn fields_in(line: &[u8]) -> usize
     ensures { result ≡ length (split 9 line.now) }
 {
-    1 + line.iter().filter(|&&b| b == b'\t').count()
+    let mut fields: usize = 1;
+    for &b in line {
+        fields += usize::from(b == b'\t');
+    }
+    fields
 }
 
 // The first line of a text: it ends before the next byte 10, or with the text.
