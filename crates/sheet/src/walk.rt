@@ -1,8 +1,7 @@
 // Reading line by line and field by field.
-ghost use Rattle.std.specs.Prelude.{◌≡◌, eqb, length};
+ghost use Rattle.std.specs.Prelude.{◌≡◌, eqb};
 ghost use Rattle.contents.specs.Sheets.{lent};
 ghost use Rattle.lines.specs.Lines.{letter_of};
-ghost use Rattle.progress.specs.Progress.{most_blocks};
 ghost use Rattle.sheet.specs.Reading.{allowed};
 ghost use Rattle.sheet.specs.Walk.{Walks};
 
@@ -62,9 +61,8 @@ pub fn walk(
     lows: &mut [i16],
     highs: &mut [i16],
     tables: &mut [u16],
-    bits: &mut [u8],
+    bits: &mut [u8; 12288],
 ) -> Result<Walked, Refused>
-    requires { length bits.old ≡ most_blocks }
     ensures { Walks limits text.now (lent lows.old highs.old tables.old) (lent lows.new highs.new tables.new) bits.new result }
 {
     if !are_allowed(limits) {
