@@ -10,6 +10,7 @@ ghost use Rattle.archive.specs.Archive.{before, stored_at, rearranged, restored,
 
 use answers::{level_ok, levels_ok};
 use refusal::Refusal;
+use zigzag::put_each;
 
 // Equal lengths, a multiple of 64.
 fn fitting(n: usize, m: usize) -> bool
@@ -19,6 +20,8 @@ fn fitting(n: usize, m: usize) -> bool
 }
 
 // The first level of the block before the one that starts at place k, and 0 before the first block.
+// Kept: by places, as the definitions of M-109 are: of `out` after a loop over `out.chunks_exact_mut(64)` a proof knows the length alone, as in `row` of `picture`, and
+// `restored_ok` walks as `restore_all` does, so that its answer is about the very levels that this writes.
 fn before(levels: &[i16], k: usize) -> i16
     requires { k < length levels.now }
     ensures { result ≡ before levels.now k }
@@ -39,14 +42,11 @@ fn stored_at(levels: &[i16], k: usize) -> i16
     }
 }
 
-// Kept: a function that takes what to store as a closure would be called by `|k| stored_at(levels, k)`, and be no plainer than this loop of one line.
 fn rearrange_all(levels: &[i16], out: &mut [i16])
     requires { (length out.old ≡ length levels.now) × (length levels.now % 64 ≡ 0) × (all level_ok levels.now ≡ true) }
     ensures { out.new ≡ rearranged levels.now }
 {
-    for (k, stored) in out.iter_mut().enumerate() {
-        *stored = stored_at(levels, k);
-    }
+    put_each(out, |k| stored_at(levels, k));
 }
 
 // The level at place p, where `first` is the first level of the block before, or of p's own block behind its first place.
@@ -85,6 +85,7 @@ fn restored_ok(stored: &[i16]) -> bool
     true
 }
 
+// Kept: the walk of `restored_ok`, which ends at the first bad level and writes nothing; one function of both would have written the levels before it by the time a bad one comes, and a refusal leaves `out` as it was.
 fn restore_all(stored: &[i16], out: &mut [i16])
     requires { (length out.old ≡ length stored.now) × (length stored.now % 64 ≡ 0) × (all level_ok (restored stored.now) ≡ true) }
     ensures { out.new ≡ restored stored.now }
@@ -98,7 +99,8 @@ fn restore_all(stored: &[i16], out: &mut [i16])
 }
 
 // The levels of one channel, rearranged for the archive.
-// Kept: one function of both calls would take the test and the writing as closures, with four clauses on what the two may be called with and give, and be no plainer.
+// Kept: one function of both would be `call<O: Fn(&[i16]) -> bool, W: Fn(&[i16], &mut [i16])>(from, out, ok, write)`. It requires that `ok` may be called where the lengths fit
+// and `write` where `ok` said true, and ensures by `O.post` and `W.post` what the one says and the other leaves: four clauses on functions for eight lines that stand once less.
 // Ruled out: level 3 at place 3, where T.81 has level 16; and 2048 accepted in the last block, or `out` changed by a refusal.
 #[tactic(auto, unfolding(crate::specs::Archive::rearranging))]
 pub fn rearrange(levels: &[i16], out: &mut [i16]) -> Result<(), Refusal>

@@ -11,6 +11,7 @@ use gradients::Totals;
 use gradients::grid::Grid;
 use steps::solve::Constants;
 
+// Kept: this and `gradients::blend`. One function for both would take the two terms as closures over four lent buffers, have these three lines for its body, and say in its contract of each closure where it may be called and what it leaves; here and there a call of eight arguments would stand in the place of the three lines.
 // Row by row.
 fn by_rows(
     plane: &[f32],

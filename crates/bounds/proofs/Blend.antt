@@ -10,12 +10,12 @@ use lib.Pow.{pow_mono}
 use lib.ListN.{length}
 use lib.Ieee.{Float, neg, eq, ne}
 use Rattle.fold.specs.Fold.{upto}
-use Rattle.float.specs.Names.{◌⊕◌, ◌⊗◌, f0, f2, val}
+use Rattle.float.specs.Names.{◌⊕◌, ◌⊗◌, f0, f2}
 use Rattle.float.specs.Ops.{mul_add}
-use Rattle.gradients.specs.declared.tgv.Second.{Second}
+use Rattle.gradients.specs.declared.tgv.ChannelSecond.{ChannelSecond}
 use Rattle.gradients.specs.Held.{live}
 use Rattle.gradients.specs.Tv.{Terms, bump, bump_unless, bottom_edge, px_idx, right_edge, tv_gradient}
-use Rattle.gradients.specs.Tgv.{left_edge, top_edge, g2_norm_of, tgv_differences, tgv_alpha, tgv_beside, tgv_channel_derivatives, tgv_corners, tgv_gradient, tgv_gradient_px, tgv_derivatives, tgv_derivatives_at, tgv_up_down}
+use Rattle.gradients.specs.Tgv.{second_of, left_edge, top_edge, g2_norm_of, tgv_differences, tgv_alpha, tgv_beside, tgv_channel_derivatives, tgv_corners, tgv_gradient, tgv_gradient_px, tgv_derivatives, tgv_derivatives_at, tgv_up_down}
 use Rattle.gradients.specs.Blend.{blended}
 use Rattle.gradients.proofs.Laws.{tv_across_length, tv_down_length}
 use Rattle.bounds.proofs.Magnitude.{Most, neg_most, most_more}
@@ -99,7 +99,7 @@ module _ (i : ℕ) (u : Scale i) (W H m : ℕ) (small : m + 6 < 277) (alpha : Fl
       subst (λ (z : ℕ). Counted i z (tgv_corners W H alpha norm xy y x c b)) e
       (corners_counted (t + 1 + 1 + 1 + 1 + 1) b (updown_counted (t + 1 + 1 + 1) a (beside_counted t g o)))
 
-spread_counted : (i : ℕ) → Scale i → (W H n m : ℕ) (held : ℕ → Bool) → n ≤ 3 → 74 ≤ m → m + 6 < 277 → (alpha : Float) → Most (2 ^ 149) alpha → (d : Second) → SecondGood m d → (y x t : ℕ) (g : List Float)
+spread_counted : (i : ℕ) → Scale i → (W H n m : ℕ) (held : ℕ → Bool) → n ≤ 3 → 74 ≤ m → m + 6 < 277 → (alpha : Float) → Most (2 ^ 149) alpha → (d : List ChannelSecond) → SecondGood m d → (y x t : ℕ) (g : List Float)
     → Counted i t g → Counted i (t + n * 7) (tgv_derivatives W H n held alpha (g2_norm_of n held d) d y x g)
 unfolding tgv_derivatives ne
 spread_counted i u W H n m held few big small alpha light d r y x t g o = go (eq (g2_norm_of n held d) f0) refl
@@ -111,7 +111,7 @@ spread_counted i u W H n m held few big small alpha light d r y x t g o = go (eq
         (λ c t g l o.
         live_ok (Counted i (t + 7)) held (tgv_derivatives_at W H alpha (g2_norm_of n held d) d y x) c g (counted_more i t (t + 7) g (omega arith) o)
         (λ live.
-        changes_counted i u W H m small alpha light y x c (g2_norm_of n held d) (val d.g_xxs c) (val d.g_xy_syms c) (val d.g_yys c)
+        changes_counted i u W H m small alpha light y x c (g2_norm_of n held d) (second_of d c).g_xx (second_of d c).g_xy_sym (second_of d c).g_yy
         (near_norm2 n m held few big d r (ap not e) c l live) t g o)) t g o
 
 -- ---- all pixels

@@ -10,29 +10,28 @@ use lib.ListN.{length, replicate, length-set, length-replicate}
 use lib.Ieee.{Float, binary32, ne}
 use lib.Ieee.Fits.{add-fits}
 use Rattle.fold.specs.Fold.{upto}
-use Rattle.float.specs.Names.{◌⊗◌, f0, f2, val}
+use Rattle.float.specs.Names.{◌⊗◌, f0, f2}
 use Rattle.float.specs.Ops.{mul_add, square, midpoint}
 use Rattle.float.proofs.Fit.{midpoint_fits}
-use Rattle.gradients.specs.declared.tgv.Second.{Second}
+use Rattle.gradients.specs.declared.tgv.ChannelSecond.{ChannelSecond}
 use Rattle.gradients.specs.Held.{live}
 use Rattle.gradients.specs.Tv.{difference, px_idx}
-use Rattle.gradients.specs.Tgv.{left_edge, top_edge, g2_norm_at, g2_norm_of, tgv_differences, tgv_differences_at}
+use Rattle.gradients.specs.Tgv.{second_of, tgv_difference, left_edge, top_edge, g2_norm_at, g2_norm_of, tgv_differences, tgv_differences_at}
 use Rattle.bounds.proofs.Magnitude.{midpoint_most}
 use Rattle.bounds.proofs.Ratio.{Floor, Short}
 use Rattle.bounds.proofs.Near.{Near, Over, Twice, near, near_both, twice_more, floor_one, square_zero, sum-zero, over_left, over_right}
-use Rattle.bounds.proofs.Good.{Good, AllGood, set_good, zeros_good, upto_inv}
+use Rattle.bounds.proofs.Good.{Good, AllGood, set_each, replicate_each, zero-good, upto_inv}
 use Rattle.bounds.proofs.Powers.{held, twice}
 use Rattle.bounds.proofs.Bumps.{live_ok, live_floor, live_over, live_fits, px_in, difference_good, double_floor}
 
 -- ---- the tgv_differences differences at a pixel
 
-pub record SecondGood (m : ℕ) (d : Second) : Type 0 where
-  pub xxs_long : length d.g_xxs ≡ 3
-  pub xys_long : length d.g_xy_syms ≡ 3
-  pub yys_long : length d.g_yys ≡ 3
-  pub xxs_good : AllGood (2 ^ m) d.g_xxs
-  pub xys_good : AllGood (2 ^ m) d.g_xy_syms
-  pub yys_good : AllGood (2 ^ m) d.g_yys
+abbrev pub ThreeGood : ℕ → ChannelSecond → Type 0
+ThreeGood m s = Good (2 ^ m) s.g_xx × Good (2 ^ m) s.g_xy_sym × Good (2 ^ m) s.g_yy
+
+pub record SecondGood (m : ℕ) (d : List ChannelSecond) : Type 0 where
+  pub long : length d ≡ 3
+  pub good : (c : ℕ) → c < length d → ThreeGood m (second_of d c)
 
 middle_good : (n : ℕ) (x y : Float) → suc n < 277 → Good (2 ^ suc n) x → Good (2 ^ suc n) y → Good (2 ^ suc n) (midpoint x y)
 middle_good n x y h g k = (
@@ -49,29 +48,31 @@ module _ (W H n m : ℕ) (held : ℕ → Bool) (small : m + 8 < 277) (across dow
       (λ e. lt_of_lt_of_le (px_in W H n c y x l y-in x_in) (le_of_eq (sym long)))
       (λ e. lt_of_lt_of_le (px_in W H n c i j l (omega arith) (omega arith)) (le_of_eq (sym long)))
 
-  second_at : (c : ℕ) (s : Second) → c < n → SecondGood (suc m) s → SecondGood (suc m) (tgv_differences_at W H across down y x c s)
+  second_at : (c : ℕ) (s : List ChannelSecond) → c < n → SecondGood (suc m) s → SecondGood (suc m) (tgv_differences_at W H across down y x c s)
   unfolding tgv_differences_at
   second_at c s l r =
       let left : x - 1 ≤ x = omega arith in
       let above : y - 1 ≤ y = omega arith in
       record {
-        xxs_long = simp length-set r.xxs_long;
-        xys_long = simp length-set r.xys_long;
-        yys_long = simp length-set r.yys_long;
-        xxs_good = set_good (2 ^ suc m) s.g_xxs c _ r.xxs_good (apart across across_long a (left_edge x) c y (x - 1) l (le_refl y) left);
-        xys_good = set_good (2 ^ suc m) s.g_xy_syms c _ r.xys_good
-            (middle_good m _ _ (omega arith) (apart across across_long a (top_edge y) c (y - 1) x l above (le_refl x)) (apart down down_long d (left_edge x) c y (x - 1) l (le_refl y) left));
-        yys_good = set_good (2 ^ suc m) s.g_yys c _ r.yys_good (apart down down_long d (top_edge y) c (y - 1) x l above (le_refl x));
+        long = simp length-set r.long;
+        good =
+            set_each (λ k. ThreeGood (suc m)) _ s c (tgv_difference W H across down y x c) r.good (
+              apart across across_long a (left_edge x) c y (x - 1) l (le_refl y) left,
+              middle_good m _ _ (omega arith) (apart across across_long a (top_edge y) c (y - 1) x l above (le_refl x)) (apart down down_long d (left_edge x) c y (x - 1) l (le_refl y) left),
+              apart down down_long d (top_edge y) c (y - 1) x l above (le_refl x),
+            );
       }
 
   pub second_good : SecondGood (suc m) (tgv_differences W H n held across down y x)
   unfolding tgv_differences
   second_good =
-      let z = zeros_good (2 ^ suc m) 3 in
-      let l = length-replicate 3 f0 in
+      let z = zero-good (2 ^ suc m) in
       upto_inv (λ c. SecondGood (suc m)) (live held (tgv_differences_at W H across down y x)) n
-      (λ c s l r. live_ok (SecondGood (suc m)) held (tgv_differences_at W H across down y x) c s r (λ e. second_at c s l r)) (record { g_xxs = replicate 3 f0; g_xy_syms = replicate 3 f0; g_yys = replicate 3 f0 })
-      (record { xxs_long = l; xys_long = l; yys_long = l; xxs_good = z; xys_good = z; yys_good = z })
+      (λ c s l r. live_ok (SecondGood (suc m)) held (tgv_differences_at W H across down y x) c s r (λ e. second_at c s l r)) (replicate 3 zero)
+      (record { long = length-replicate 3 zero; good = replicate_each (ThreeGood (suc m)) _ zero 3 (z, z, z) })
+    where
+      zero : ChannelSecond
+      zero = record { g_xx = f0; g_xy_sym = f0; g_yy = f0 }
 
 -- ---- the norm
 
@@ -116,21 +117,21 @@ module _ (m : ℕ) (xx xy yy : Float) (gxx : Good (2 ^ m) xx) (gxy : Good (2 ^ m
 abbrev pub Three : Float → Float → Float → ℕ → Type 0
 Three xx xy yy p = (Twice xx p × Twice xy p) × Twice yy p
 
-module _ (n m : ℕ) (held : ℕ → Bool) (few : n ≤ 3) (big : 74 ≤ m) (d : Second) (r : SecondGood m d) where
-  xx_at : (c : ℕ) → c < n → Good (2 ^ m) (val d.g_xxs c)
-  xx_at c l = r.xxs_good c (omega (arith, r.xxs_long))
+module _ (n m : ℕ) (held : ℕ → Bool) (few : n ≤ 3) (big : 74 ≤ m) (d : List ChannelSecond) (r : SecondGood m d) where
+  xx_at : (c : ℕ) → c < n → Good (2 ^ m) (second_of d c).g_xx
+  xx_at c l = (r.good c (omega (arith, r.long))).0
 
-  xy_at : (c : ℕ) → c < n → Good (2 ^ m) (val d.g_xy_syms c)
-  xy_at c l = r.xys_good c (omega (arith, r.xys_long))
+  xy_at : (c : ℕ) → c < n → Good (2 ^ m) (second_of d c).g_xy_sym
+  xy_at c l = (r.good c (omega (arith, r.long))).1
 
-  yy_at : (c : ℕ) → c < n → Good (2 ^ m) (val d.g_yys c)
-  yy_at c l = r.yys_good c (omega (arith, r.yys_long))
+  yy_at : (c : ℕ) → c < n → Good (2 ^ m) (second_of d c).g_yy
+  yy_at c l = (r.good c (omega (arith, r.long))).2
 
   abbrev part : ℕ → Float
-  part c = added (val d.g_xxs c) (val d.g_xy_syms c) (val d.g_yys c)
+  part c = added (second_of d c).g_xx (second_of d c).g_xy_sym (second_of d c).g_yy
 
   part_zero : (c : ℕ) → c < n → Floor 0 (part c)
-  part_zero c l = added_zero m (val d.g_xxs c) (val d.g_xy_syms c) (val d.g_yys c) (xx_at c l) (xy_at c l) (yy_at c l)
+  part_zero c l = added_zero m (second_of d c).g_xx (second_of d c).g_xy_sym (second_of d c).g_yy (xx_at c l) (xy_at c l) (yy_at c l)
 
   floor : (c : ℕ) (t : Float) → c < n → Floor 0 t → Floor 0 (g2_norm_at d c t)
   floor c t l z = sum-zero t (part c) z (part_zero c l)
@@ -147,11 +148,11 @@ module _ (n m : ℕ) (held : ℕ → Bool) (few : n ≤ 3) (big : 74 ≤ m) (d :
       (live_over held (g2_norm_at d) n floor keeps c v l e (λ t z. over_right t (part c) v z over))
       (floor_one S (live_fits held (g2_norm_at d) (λ c t. add-fits binary32 t (part c)) n) (live_floor held (g2_norm_at d) n floor keeps) q)
 
-  pub near_norm2 : ne (g2_norm_of n held d) f0 ≡ true → (c : ℕ) → c < n → held c ≡ false → Near m (g2_norm_of n held d) (Three (val d.g_xxs c) (val d.g_xy_syms c) (val d.g_yys c))
+  pub near_norm2 : ne (g2_norm_of n held d) f0 ≡ true → (c : ℕ) → c < n → held c ≡ false → Near m (g2_norm_of n held d) (Three (second_of d c).g_xx (second_of d c).g_xy_sym (second_of d c).g_yy)
   near_norm2 q c l e =
-      let xx = val d.g_xxs c in
-      let xy = val d.g_xy_syms c in
-      let yy = val d.g_yys c in
+      let xx = (second_of d c).g_xx in
+      let xy = (second_of d c).g_xy_sym in
+      let yy = (second_of d c).g_yy in
       let norm = g2_norm_of n held d in
       let gxx = xx_at c l in
       let gxy = xy_at c l in

@@ -11,27 +11,28 @@ use lib.ListN.{length, replicate, length-set, length-replicate}
 use lib.Ieee.{Float, binary32, neg, ne}
 use lib.Ieee.Fits.{add-fits}
 use Rattle.fold.specs.Fold.{upto}
-use Rattle.float.specs.Names.{◌⊕◌, f0, val}
+use Rattle.float.specs.Names.{◌⊕◌, f0}
 use Rattle.float.specs.Ops.{square, root}
-use Rattle.gradients.specs.declared.tv.Forward.{Forward}
+use Rattle.gradients.specs.declared.tv.ChannelForward.{ChannelForward}
 use Rattle.gradients.specs.Held.{live}
-use Rattle.gradients.specs.Tv.{Terms, bump, bump_unless, bottom_edge, tv_differences, tv_differences_at, g_norm_at, g_norm_of, px_idx, right_edge, store, store_at, tv_alpha, tv_channel_derivatives, tv_gradient, tv_gradient_px, tv_derivatives, tv_derivatives_at}
+use Rattle.gradients.specs.Tv.{Terms, forward_of, tv_difference, bump, bump_unless, bottom_edge, tv_differences, tv_differences_at, g_norm_at, g_norm_of, px_idx, right_edge, store, store_at, tv_alpha, tv_channel_derivatives, tv_gradient, tv_gradient_px, tv_derivatives, tv_derivatives_at}
 use Rattle.bounds.proofs.Magnitude.{Most, neg_most}
 use Rattle.bounds.proofs.Ratio.{Floor}
 use Rattle.bounds.proofs.Near.{Near, Over, Twice, near, near_both, twice_more, floor_one, square_zero, sum-zero, over_left, over_right}
-use Rattle.bounds.proofs.Good.{Good, AllGood, set_good, zeros_good, upto_inv, nest_inv}
+use Rattle.bounds.proofs.Good.{Good, AllGood, set_each, replicate_each, set_good, zero-good, upto_inv, nest_inv}
 use Rattle.bounds.proofs.Constants.{tv_alpha_most}
 use Rattle.bounds.proofs.Counted.{Counted, counted_more, counted_loop}
 use Rattle.bounds.proofs.Bumps.{Scale, live_ok, live_floor, live_over, live_fits, px_in, difference_good, sum_most, bump_counted, unless_counted, as_component}
 
 -- ---- the differences at a pixel
 
--- three values for each direction, at most 2 ^ m
-pub record ForwardGood (m : ℕ) (d : Forward) : Type 0 where
-  pub xs_long : length d.g_xs ≡ 3
-  pub ys_long : length d.g_ys ≡ 3
-  pub xs_good : AllGood (2 ^ m) d.g_xs
-  pub ys_good : AllGood (2 ^ m) d.g_ys
+-- three channels', both at most 2 ^ m
+abbrev pub BothGood : ℕ → ChannelForward → Type 0
+BothGood m s = Good (2 ^ m) s.g_x × Good (2 ^ m) s.g_y
+
+pub record ForwardGood (m : ℕ) (d : List ChannelForward) : Type 0 where
+  pub long : length d ≡ 3
+  pub good : (c : ℕ) → c < length d → BothGood m (forward_of d c)
 
 module _ (W H n m : ℕ) (held : ℕ → Bool) (small : m + 8 < 277) (plane : List Float) (long : length plane ≡ n * (W * H)) (g : AllGood (2 ^ m) plane) (y x : ℕ) (y-in : y < H) (x_in : x < W) where
   right_in : right_edge W x ≡ false → x + 1 < W
@@ -43,68 +44,71 @@ module _ (W H n m : ℕ) (held : ℕ → Bool) (small : m + 8 < 277) (plane : Li
   place : (c a b : ℕ) → c < n → a < H → b < W → px_idx W H c a b < length plane
   place c a b k l m = lt_of_lt_of_le (px_in W H n c a b k l m) (le_of_eq (sym long))
 
-  forward_at : (c : ℕ) (d : Forward) → c < n → ForwardGood (suc m) d → ForwardGood (suc m) (tv_differences_at W H plane y x c d)
+  forward_at : (c : ℕ) (d : List ChannelForward) → c < n → ForwardGood (suc m) d → ForwardGood (suc m) (tv_differences_at W H plane y x c d)
   unfolding tv_differences_at
   forward_at c d l r =
       record {
-        xs_long = simp length-set r.xs_long;
-        ys_long = simp length-set r.ys_long;
-        xs_good = set_good (2 ^ suc m) d.g_xs c _ r.xs_good
-            (difference_good m (right_edge W x) plane (px_idx W H c y (x + 1)) (px_idx W H c y x) (omega arith) g (λ e. place c y (x + 1) l y-in (right_in e)) (λ e. place c y x l y-in x_in));
-        ys_good = set_good (2 ^ suc m) d.g_ys c _ r.ys_good
-            (difference_good m (bottom_edge H y) plane (px_idx W H c (y + 1) x) (px_idx W H c y x) (omega arith) g (λ e. place c (y + 1) x l (below_in e) x_in) (λ e. place c y x l y-in x_in));
+        long = simp length-set r.long;
+        good =
+            set_each (λ k. BothGood (suc m)) _ d c (tv_difference W H plane y x c) r.good (
+              difference_good m (right_edge W x) plane (px_idx W H c y (x + 1)) (px_idx W H c y x) (omega arith) g (λ e. place c y (x + 1) l y-in (right_in e)) (λ e. place c y x l y-in x_in),
+              difference_good m (bottom_edge H y) plane (px_idx W H c (y + 1) x) (px_idx W H c y x) (omega arith) g (λ e. place c (y + 1) x l (below_in e) x_in) (λ e. place c y x l y-in x_in),
+            );
       }
 
   pub forward_good : ForwardGood (suc m) (tv_differences W H n held plane y x)
   unfolding tv_differences
   forward_good =
       upto_inv (λ c. ForwardGood (suc m)) (live held (tv_differences_at W H plane y x)) n
-      (λ c d l r. live_ok (ForwardGood (suc m)) held (tv_differences_at W H plane y x) c d r (λ e. forward_at c d l r)) (record { g_xs = replicate 3 f0; g_ys = replicate 3 f0 })
-      (record { xs_long = length-replicate 3 f0; ys_long = length-replicate 3 f0; xs_good = zeros_good (2 ^ suc m) 3; ys_good = zeros_good (2 ^ suc m) 3 })
+      (λ c d l r. live_ok (ForwardGood (suc m)) held (tv_differences_at W H plane y x) c d r (λ e. forward_at c d l r)) (replicate 3 zero)
+      (record { long = length-replicate 3 zero; good = replicate_each (BothGood (suc m)) _ zero 3 (zero-good (2 ^ suc m), zero-good (2 ^ suc m)) })
+    where
+      zero : ChannelForward
+      zero = record { g_x = f0; g_y = f0 }
 
 -- ---- the norm
 
-module _ (n m : ℕ) (held : ℕ → Bool) (few : n ≤ 3) (big : 74 ≤ m) (d : Forward) (r : ForwardGood m d) where
-  x_at : (c : ℕ) → c < n → Good (2 ^ m) (val d.g_xs c)
-  x_at c l = r.xs_good c (omega (arith, r.xs_long))
+module _ (n m : ℕ) (held : ℕ → Bool) (few : n ≤ 3) (big : 74 ≤ m) (d : List ChannelForward) (r : ForwardGood m d) where
+  x_at : (c : ℕ) → c < n → Good (2 ^ m) (forward_of d c).g_x
+  x_at c l = (r.good c (omega (arith, r.long))).0
 
-  y_at : (c : ℕ) → c < n → Good (2 ^ m) (val d.g_ys c)
-  y_at c l = r.ys_good c (omega (arith, r.ys_long))
+  y_at : (c : ℕ) → c < n → Good (2 ^ m) (forward_of d c).g_y
+  y_at c l = (r.good c (omega (arith, r.long))).1
 
-  x_zero : (c : ℕ) → c < n → Floor 0 (square (val d.g_xs c))
+  x_zero : (c : ℕ) → c < n → Floor 0 (square (forward_of d c).g_x)
   unfolding square
-  x_zero c l = square_zero (2 ^ m) (val d.g_xs c) (x_at c l).1
+  x_zero c l = square_zero (2 ^ m) (forward_of d c).g_x (x_at c l).1
 
-  y_zero : (c : ℕ) → c < n → Floor 0 (square (val d.g_ys c))
+  y_zero : (c : ℕ) → c < n → Floor 0 (square (forward_of d c).g_y)
   unfolding square
-  y_zero c l = square_zero (2 ^ m) (val d.g_ys c) (y_at c l).1
+  y_zero c l = square_zero (2 ^ m) (forward_of d c).g_y (y_at c l).1
 
   floor : (c : ℕ) (t : Float) → c < n → Floor 0 t → Floor 0 (g_norm_at d c t)
-  floor c t l z = sum-zero (t ⊕ square (val d.g_xs c)) (square (val d.g_ys c)) (sum-zero t (square (val d.g_xs c)) z (x_zero c l)) (y_zero c l)
+  floor c t l z = sum-zero (t ⊕ square (forward_of d c).g_x) (square (forward_of d c).g_y) (sum-zero t (square (forward_of d c).g_x) z (x_zero c l)) (y_zero c l)
 
   keeps : (c : ℕ) (t v : Float) → c < n → Over t v → Over (g_norm_at d c t) v
-  keeps c t v l o = over_left (t ⊕ square (val d.g_xs c)) (square (val d.g_ys c)) v (over_left t (square (val d.g_xs c)) v o (x_zero c l)) (y_zero c l)
+  keeps c t v l o = over_left (t ⊕ square (forward_of d c).g_x) (square (forward_of d c).g_y) v (over_left t (square (forward_of d c).g_x) v o (x_zero c l)) (y_zero c l)
 
-  x_own : (c : ℕ) (t : Float) → c < n → Floor 0 t → Over (g_norm_at d c t) (val d.g_xs c)
+  x_own : (c : ℕ) (t : Float) → c < n → Floor 0 t → Over (g_norm_at d c t) (forward_of d c).g_x
   unfolding square
   x_own c t l z =
-      let v = val d.g_xs c in
-      over_left (t ⊕ square v) (square (val d.g_ys c)) v (over_right t (square v) v z (λ i S f. f)) (y_zero c l)
+      let v = (forward_of d c).g_x in
+      over_left (t ⊕ square v) (square (forward_of d c).g_y) v (over_right t (square v) v z (λ i S f. f)) (y_zero c l)
 
-  y_own : (c : ℕ) (t : Float) → c < n → Floor 0 t → Over (g_norm_at d c t) (val d.g_ys c)
+  y_own : (c : ℕ) (t : Float) → c < n → Floor 0 t → Over (g_norm_at d c t) (forward_of d c).g_y
   unfolding square
-  y_own c t l z = over_right (t ⊕ square (val d.g_xs c)) (square (val d.g_ys c)) (val d.g_ys c) (sum-zero t (square (val d.g_xs c)) z (x_zero c l)) (λ i S f. f)
+  y_own c t l z = over_right (t ⊕ square (forward_of d c).g_x) (square (forward_of d c).g_y) (forward_of d c).g_y (sum-zero t (square (forward_of d c).g_x) z (x_zero c l)) (λ i S f. f)
 
   -- both differences of a channel that isn't held stand near a norm that isn't 0
-  near_norm : ne (g_norm_of n held d) f0 ≡ true → (c : ℕ) → c < n → held c ≡ false → Near m (g_norm_of n held d) (λ p. Twice (val d.g_xs c) p × Twice (val d.g_ys c) p)
+  near_norm : ne (g_norm_of n held d) f0 ≡ true → (c : ℕ) → c < n → held c ≡ false → Near m (g_norm_of n held d) (λ p. Twice (forward_of d c).g_x p × Twice (forward_of d c).g_y p)
   unfolding g_norm_of
   near_norm q c l e =
       let S = upto (live held (g_norm_at d)) n f0 in
-      let f = live_fits held (g_norm_at d) (λ c t. add-fits binary32 (t ⊕ square (val d.g_xs c)) (square (val d.g_ys c))) n in
+      let f = live_fits held (g_norm_at d) (λ c t. add-fits binary32 (t ⊕ square (forward_of d c).g_x) (square (forward_of d c).g_y)) n in
       let one = floor_one S f (live_floor held (g_norm_at d) n floor keeps) q in
-      near_both m (root S) (Twice (val d.g_xs c)) (Twice (val d.g_ys c)) (twice_more (val d.g_xs c)) (twice_more (val d.g_ys c))
-      (near m (val d.g_xs c) S big (x_at c l) (live_over held (g_norm_at d) n floor keeps c (val d.g_xs c) l e (λ t z. x_own c t l z)) one)
-      (near m (val d.g_ys c) S big (y_at c l) (live_over held (g_norm_at d) n floor keeps c (val d.g_ys c) l e (λ t z. y_own c t l z)) one)
+      near_both m (root S) (Twice (forward_of d c).g_x) (Twice (forward_of d c).g_y) (twice_more (forward_of d c).g_x) (twice_more (forward_of d c).g_y)
+      (near m (forward_of d c).g_x S big (x_at c l) (live_over held (g_norm_at d) n floor keeps c (forward_of d c).g_x l e (λ t z. x_own c t l z)) one)
+      (near m (forward_of d c).g_y S big (y_at c l) (live_over held (g_norm_at d) n floor keeps c (forward_of d c).g_y l e (λ t z. y_own c t l z)) one)
 
   -- ---- three changes a channel
 
@@ -139,14 +143,14 @@ module _ (n m : ℕ) (held : ℕ → Bool) (few : n ≤ 3) (big : 74 ≤ m) (d :
             counted_loop i 3 (live held (tv_derivatives_at W H alpha (g_norm_of n held d) d y x)) n
             (λ c t g l o.
             live_ok (Counted i (t + 3)) held (tv_derivatives_at W H alpha (g_norm_of n held d) d y x) c g (counted_more i t (t + 3) g (omega arith) o)
-            (λ live. changes_counted (g_norm_of n held d) (val d.g_xs c) (val d.g_ys c) (near_norm e c l live) c t g o)) t g o
+            (λ live. changes_counted (g_norm_of n held d) (forward_of d c).g_x (forward_of d c).g_y (near_norm e c l live) c t g o)) t g o
         go false e = counted_more i t (t + n * 3) g (omega arith) o
 
   -- the differences stored
-  store_good : (vs : List Float) → ((c : ℕ) → c < n → Good (2 ^ m) (val vs c)) → (W H y x : ℕ) (b : List Float) → AllGood (2 ^ m) b → AllGood (2 ^ m) (store W H n held vs y x b)
+  store_good : (v : ℕ → Float) → ((c : ℕ) → c < n → Good (2 ^ m) (v c)) → (W H y x : ℕ) (b : List Float) → AllGood (2 ^ m) b → AllGood (2 ^ m) (store W H n held v y x b)
   unfolding store
-  store_good vs h W H y x b o = upto_inv (λ c. AllGood (2 ^ m)) (live held (store_at W H vs y x)) n
-      (λ c a l r. live_ok (AllGood (2 ^ m)) held (store_at W H vs y x) c a r (λ e. set_good (2 ^ m) a (px_idx W H c y x) (val vs c) r (h c l))) b o
+  store_good v h W H y x b o = upto_inv (λ c. AllGood (2 ^ m)) (live held (store_at W H v y x)) n
+      (λ c a l r. live_ok (AllGood (2 ^ m)) held (store_at W H v y x) c a r (λ e. set_good (2 ^ m) a (px_idx W H c y x) (v c) r (h c l))) b o
 
 -- ---- the whole
 
@@ -168,8 +172,8 @@ module _ (i : ℕ) (u : Scale i) (W H n m : ℕ) (held : ℕ → Bool) (some : 1
         gradient_good =
             subst (λ (z : ℕ). Counted i z (tv_derivatives W H n held (tv_alpha n) (g_norm_of n held d) d y x b.gradient)) (add_assoc t (q * (n * 3)) (n * 3) ∙ ap (λ (z : ℕ). t + z) (sym (suc-mul q (n * 3))))
             (spread_counted n (suc m) held few big' d f i u W H (omega arith) (tv_alpha n) (tv_alpha_most n some) y x (t + q * (n * 3)) b.gradient r.gradient_good);
-        across_good = store_good n (suc m) held few big' d f d.g_xs (x_at n (suc m) held few big' d f) W H y x b.across r.across_good;
-        down_good = store_good n (suc m) held few big' d f d.g_ys (y_at n (suc m) held few big' d f) W H y x b.down r.down_good;
+        across_good = store_good n (suc m) held few big' d f (λ c. (forward_of d c).g_x) (x_at n (suc m) held few big' d f) W H y x b.across r.across_good;
+        down_good = store_good n (suc m) held few big' d f (λ c. (forward_of d c).g_y) (y_at n (suc m) held few big' d f) W H y x b.down r.down_good;
       }
 
   pub tv_good : (b : Terms) → Counted i t b.gradient → AllGood (2 ^ suc m) b.across → AllGood (2 ^ suc m) b.down → Terms-good (H * W) (tv_gradient W H n held plane b)

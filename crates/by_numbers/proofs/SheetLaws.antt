@@ -1,13 +1,10 @@
 -- From the enums of the reading calls to numbers.
 use mathlib.Core.Path.{◌≡◌, refl, sym, ap, ◌∙◌, subst}
 use Prim.Native.Nat.{ℕ, ◌≤◌, ◌<◌}
-use native.Mathlib.Omega.{arith}
 use mathlib.Core.Bool.{Bool, true, false, cond}
 use mathlib.Core.List.{List}
-use lib.ListN.{length}
 use mir.Val.{bool_byte}
-use borrow.Author.Tests.{eq-eqb, ne_eqb, le-leb, lt-leb}
-use Rattle.contents.specs.declared.Sheet.{Sheet}
+use borrow.Author.Tests.{le-leb, lt-leb}
 use Rattle.std.specs.Prelude.{Result, Ok, Err}
 use Rattle.refusal.specs.Refusal.{number_of}
 use Rattle.sheet.specs.declared.Lengths.{Lengths}
@@ -15,15 +12,9 @@ use Rattle.sheet.specs.declared.walk.Refused as walk
 use Rattle.contents.specs.declared.Reader.{Reader}
 use Rattle.contents.specs.Sheets.{Lent}
 use Rattle.sheet.specs.Reading.{Outcome, Contents}
-use Rattle.sheet.specs.Reading.Outcome.{Gives, Refused}
 use Rattle.sheet.specs.Walk.{said}
-use Rattle.sheet.specs.Calls.{sheet_in, lengths_of, fits, fitted, lent_after}
 use Rattle.contents.specs.Letters.{reader_from}
 use Rattle.by_numbers.specs.Sheets.{Measures, ReadsNumbers, by_reader}
-
-pub measured_lengths : (o : Outcome Lengths) (r : Result Lengths walk.Refused) (n : Lengths) (n₀ m₀ : ℕ) → said r ≡ o → r ≡ Ok n → Measures o n₀ n.levels m₀ n.tables 0 0
-measured_lengths o r n n₀ m₀ e p =
-    subst (λ (z : Outcome Lengths). Measures z n₀ n.levels m₀ n.tables 0 0) (sym (ap said p) ∙ e) (record { number = refl; line = refl; levels = refl; tables = refl })
 
 pub measured_refused : (o : Outcome Lengths) (r : Result Lengths walk.Refused) (f : walk.Refused) (n₀ m₀ : ℕ) → said r ≡ o → r ≡ Err f
     → Measures o n₀ n₀ m₀ m₀ f.line (number_of f.refusal)

@@ -13,13 +13,15 @@ use borrow.Author.Tests.{eq-eqb, ne_eqb, le-leb, lt-leb}
 use Rattle.start.specs.Coef.{Levels}
 use Rattle.calls.specs.Calls as Calls
 use Rattle.calls.specs.Calls.{lengths, all_six}
-use Rattle.std.specs.Prelude.{Result}
+use Rattle.std.specs.Prelude.{Result, Ok, Err}
 use Rattle.refusal.specs.declared.Refusal.{Refusal}
+use Rattle.refusal.specs.Refusal.{answer_number}
 use Rattle.record.specs.declared.Accepted.{Accepted}
 use Rattle.record.specs.Model.{answer_of}
 use Rattle.serve.specs.Serve.{byte_of}
 use Rattle.contents.specs.declared.Sheet.{Sheet}
-use Rattle.rounds.specs.Whole.{Whole, Loan, Ended, Ends}
+use Rattle.start.specs.Buffers.{Buffers}
+use Rattle.rounds.specs.Whole.{Whole, Loan, loan, six, Ended, Ends}
 use Rattle.rounds.proofs.Ends.{renumber}
 use Rattle.solve.specs.Solve.{all_legal, solve_refusal, whole_of, number_in, SolveIs}
 use Rattle.solve.proofs.Laws.{whole_channels}
@@ -102,6 +104,15 @@ module _ (ns : List ℕ) (levels : Levels) (tables : List ℕ) (L : Loan) (ks : 
                 λ f. absurd (f refl),
               )
 
+-- with each of the six buffers as its owner has it
+pub solve_lent : (ns : List ℕ) (levels : Levels) (tables : List ℕ) (L : Loan) (ks : List ℕ) (k : ℕ) (B' : Buffers) (T' : List Float) (ks' : List ℕ)
+    → SolveNumbers ns levels tables L ks k (loan B' T') ks' → {plane prior gradient across down saved : List Float}
+    → plane ≡ B'.plane → prior ≡ B'.prior → gradient ≡ B'.gradient → across ≡ B'.across → down ≡ B'.down → saved ≡ B'.saved
+    → SolveNumbers ns levels tables L ks k (loan (six plane prior gradient across down saved) T') ks'
+solve_lent ns levels tables L ks k B' T' ks' h p q r s t u =
+    subst (λ (z : Buffers). SolveNumbers ns levels tables L ks k (loan z T') ks')
+    (λ i. record { plane = sym p i; prior = sym q i; gradient = sym r i; across = sym s i; down = sym t i; saved = sym u i }) h
+
 -- ---- the picture
 
 module _ (n w h width height channels : ℕ) (planes : List Float) (rgb : List ℕ) where
@@ -113,9 +124,14 @@ module _ (n w h width height channels : ℕ) (planes : List Float) (rgb : List �
   unfolding finishing_by
   by_letter l = rw (le-leb n 1 l)
 
+  -- an answer's number is its verdict's
+  same_number : (r : Result Unit Refusal) → answer_number r ≡ verdict_number (verdict r)
+  same_number (Ok x) = refl
+  same_number (Err e) = refl
+
   pub finished : n ≤ 1 → (x : Rounding) → x ≡ rounding_from n → (rgb' : List ℕ) (r : Result Unit Refusal) (k : ℕ)
-      → ◌≡◌ {A = Finished} (record { answer = verdict r; bytes = rgb' }) (finishing x w h width height channels planes rgb) → k ≡ verdict_number (verdict r)
+      → ◌≡◌ {A = Finished} (record { answer = verdict r; bytes = rgb' }) (finishing x w h width height channels planes rgb) → k ≡ answer_number r
       → FinishNumbers n w h width height channels planes rgb k rgb'
   finished l x q rgb' r k e p =
       let f = e ∙ ap (λ (x : Rounding). finishing x w h width height channels planes rgb) q ∙ by_letter l in
-      record { number = p ∙ ap (λ (o : Finished). verdict_number o.answer) f; bytes = ap (λ (o : Finished). o.bytes) f }
+      record { number = p ∙ same_number r ∙ ap (λ (o : Finished). verdict_number o.answer) f; bytes = ap (λ (o : Finished). o.bytes) f }

@@ -8,26 +8,26 @@ pub mod stitches;
 ghost use Rattle.std.specs.Prelude.{◌≡◌};
 ghost use Rattle.by_numbers.specs.Sheets.{numbers_of, weight_bits};
 
-use contents::{Sheet, Weight, channel_at, chosen, held_after, of_three};
+use contents::{Sheet, Weight, chosen, held_after};
 
 // How many numbers a sheet's record has.
 pub const NUMBERS: usize = 32;
 
 // The bits of a weight's f32.
+// Kept: two calls that stand together in six places; `f32::to_bits` says nothing of a NaN's bits, and a weight can have any.
 fn weight_bits(w: Weight) -> u32
     ensures { result ≡ weight_bits w }
 {
-    float::bits::to_bits(contents::weight_value(w))
+    float::bits::to_bits(f32::from(w))
 }
 
+// Kept: as `header_from` of sheets.rt: a `From` between an array and `Sheet` can't stand here, since neither is this crate's.
 // A sheet's record as numbers; a setting's letter by its meaning: 1 for the second, 0 for the first and for no line.
 pub fn numbers(s: Sheet) -> [u32; NUMBERS]
     ensures { result ≡ numbers_of s }
 {
     let h = s.header;
-    let a = channel_at(s, 0);
-    let b = channel_at(s, 1);
-    let c = channel_at(s, 2);
+    let [a, b, c] = s.channels;
     [
         h.width,
         h.height,
@@ -38,12 +38,12 @@ pub fn numbers(s: Sheet) -> [u32; NUMBERS]
         h.iterations[0],
         h.iterations[1],
         h.iterations[2],
-        weight_bits(of_three(0, h.smoothing)),
-        weight_bits(of_three(1, h.smoothing)),
-        weight_bits(of_three(2, h.smoothing)),
-        weight_bits(of_three(0, h.data_weights)),
-        weight_bits(of_three(1, h.data_weights)),
-        weight_bits(of_three(2, h.data_weights)),
+        weight_bits(h.smoothing[0]),
+        weight_bits(h.smoothing[1]),
+        weight_bits(h.smoothing[2]),
+        weight_bits(h.data_weights[0]),
+        weight_bits(h.data_weights[1]),
+        weight_bits(h.data_weights[2]),
         a.width,
         a.height,
         a.across,

@@ -56,6 +56,7 @@ fn channel_from(numbers: &[u32; NUMBERS], at: usize) -> Channel
 }
 
 // The sheet that a record's numbers say.
+// Kept: as `header_from`.
 pub fn sheet_of(numbers: &[u32; NUMBERS]) -> Sheet
     ensures { result ≡ sheet_of_numbers numbers.now }
 {

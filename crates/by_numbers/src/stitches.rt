@@ -18,6 +18,7 @@ fn told(e: Refused, which: &mut u32, line: &mut usize) -> u32
     u32::from(e.refusal)
 }
 
+// Kept: this and `stitch` are the bodies of two functions for C, whose answers are numbers.
 // The output's length. A refusal leaves it as it was. Ruled out: 16 for a right text that is itself refused; the line of the left text with the right's number.
 pub fn measure(
     left: &[u8],

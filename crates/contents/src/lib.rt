@@ -6,14 +6,39 @@ ghost use Rattle.contents.specs.Weights.{value_of};
 ghost use Rattle.contents.specs.Three.{three_at};
 ghost use Rattle.contents.specs.Letters.{chosen, letter_from, reader_from};
 ghost use Rattle.contents.specs.Hold.{measured, hold_at};
-ghost use Rattle.contents.specs.Sheets.{channel_at, channels_of};
+ghost use Rattle.contents.specs.Sheets.{no_weight, channel_at, channels_of};
 ghost use Rattle.contents.specs.Marks.{blocks_in, blocks_before, block_of, has_block};
+
+use std::num::f32_from_bits_with_nan;
 
 // A weight: the bits of an f32, or a whole number.
 #[derive(Clone, Copy, Debug, PartialEq, Eq)]
 pub enum Weight {
     Bits(u32),
     Whole(u8),
+}
+
+// The whole number 0. Ruled out: the bits of 0; the whole number 1.
+impl Default for Weight {
+    ghost is_default = { λ w. w ≡ no_weight };
+
+    fn default() -> Weight {
+        Weight::Whole(0)
+    }
+}
+
+// The weight as an f32: by its bits, or the whole number exactly. Bits that no legal weight has count too; all NaNs are one.
+// Ruled out: the bits 1 of a whole weight 1; another sign of zero for w0.
+impl From<Weight> for f32 {
+    ghost from_gives = { λ w r. r ≡ value_of w };
+
+    #[tactic(auto, unfolding(crate::specs::Weights::value_of))]
+    fn from(w: Weight) -> f32 {
+        match w {
+            Weight::Bits(b) => f32_from_bits_with_nan(b),
+            Weight::Whole(n) => f32::from(n),
+        }
+    }
 }
 
 // What a caller allows: the largest full side and the most iterations.
@@ -24,7 +49,7 @@ pub struct Limits {
 }
 
 // A header line: full sides, picture sides, channels, mode, and three each of iterations, smoothing and data weights.
-#[derive(Clone, Copy, Debug, PartialEq, Eq)]
+#[derive(Clone, Copy, Debug, Default, PartialEq, Eq)]
 pub struct Header {
     pub width: u32,
     pub height: u32,
@@ -39,7 +64,7 @@ pub struct Header {
 }
 
 // A channel line but for its quantisers: own sides and factors.
-#[derive(Clone, Copy, Debug, PartialEq, Eq)]
+#[derive(Clone, Copy, Debug, Default, PartialEq, Eq)]
 pub struct Channel {
     pub width: u32,
     pub height: u32,
@@ -48,6 +73,8 @@ pub struct Channel {
 }
 
 // The first or the second of the two letters that a setting's line may have.
+// Kept: ordinals, since `from`, `chosen`, `lines::letter_in` and `seam::same_letters` treat F's t and n as they treat A's m and o; with an enum for each setting there would be two of each of these.
+// Their meanings have names where `chosen` chooses: `Rounding` of `picture`, `Reorder` of `start`.
 #[derive(Clone, Copy, Debug, PartialEq, Eq)]
 pub enum Letter {
     First,
@@ -55,6 +82,7 @@ pub enum Letter {
 }
 
 // By number: 1 is the second letter, every other number the first.
+// Kept: no `TryFrom`, since `by_numbers::sheets::sheet_of` makes a sheet of any numbers and refuses none: it would need a letter for the refused ones, which is this one.
 impl From<u32> for Letter {
     ghost from_gives = { λ n r. r ≡ letter_from n };
 
@@ -69,7 +97,7 @@ impl From<u32> for Letter {
 }
 
 // The settings, each where a line says it: F, the rounding, t or n; A, the start, m or o; H, after how many steps each of three channels is held.
-#[derive(Clone, Copy, Debug, PartialEq, Eq)]
+#[derive(Clone, Copy, Debug, Default, PartialEq, Eq)]
 pub struct Settings {
     pub rounding: Option<Letter>,
     pub start: Option<Letter>,
@@ -92,6 +120,7 @@ pub enum Reader {
 }
 
 // By number: 1 is a partner, every other number staff.
+// Kept: no `TryFrom`, which would refuse numbers above 1; a public function that couldn't fail still can't, by a rule of the project. C's call refuses them before, as 2 at line 0.
 impl From<u32> for Reader {
     ghost from_gives = { λ n r. r ≡ reader_from n };
 
@@ -106,6 +135,7 @@ impl From<u32> for Reader {
 }
 
 // A sheet but for its levels and quantisers. With one channel the second and third are zero.
+// Kept: three channels, and in the header their count: there is no heap; `in_use` gives those in use.
 #[derive(Clone, Copy, Debug, PartialEq, Eq)]
 pub struct Sheet {
     pub header: Header,
@@ -123,33 +153,12 @@ impl Sheet {
     }
 }
 
-// The weight as an f32: by its bits, or the whole number exactly. Bits that no legal weight has count too; all NaNs are one.
-// Ruled out: the bits 1 of a whole weight 1; another sign of zero for w0.
-pub fn weight_value(w: Weight) -> f32
-    ensures { result ≡ value_of w }
-{
-    match w {
-        Weight::Bits(b) => {
-            if 0x7f80_0000 < b % 0x8000_0000 {
-                0.0 / 0.0
-            } else {
-                f32::from_bits(b)
-            }
-        }
-        Weight::Whole(n) => n as f32,
-    }
-}
-
 // The one of three values at the place c; every number above 1 is the third place.
 // Ruled out: the second for place 0; the first for the numbers above 2.
 pub fn of_three<T: Copy>(c: u32, values: [T; 3]) -> T
     ensures { (none : T) → result ≡ three_at none c values }
 {
-    match c {
-        0 => values[0],
-        1 => values[1],
-        _ => values[2],
-    }
+    values[c.min(2) as usize]
 }
 
 // By a setting's letter the first or the second value.
@@ -200,6 +209,7 @@ fn blocks_in(c: Channel) -> u64
 }
 
 // How many blocks the channels before channel c have.
+// Kept: for every number c, and with a bound; `s.channels[..c.min(2) as usize].iter().map(blocks_in).sum()` asks beforehand that the sum fits, and its contract tells no bound.
 fn blocks_before(s: Sheet, c: u32) -> u64
     ensures { (result ≡ blocks_before s c) × (result < 576460752303423488) }
 {

@@ -54,7 +54,7 @@ impl<'a> Writer<'a> {
     }
 
     // The decimal digits of n, at most k of them.
-    // Kept: `write!` asks for an impl of `fmt::Write`, which may require nothing of the count that goes on past the output's end, and answers an error that never comes.
+    // Kept: `write!` asks for an impl of `fmt::Write`, which may require nothing of the count that goes on past the output's end, and answers an error that never comes; `itoa` of the kit writes every digit, where `decimal` has the last six of a longer number.
     fn put_digits(&mut self, k: usize, n: usize)
         requires { self.old.at + length (digits_of k n) < 2 ^ 64 }
         ensures { Put self.old (digits_of k n) self.new }
@@ -86,6 +86,7 @@ pub fn count(text: &[u8], b: u8) -> usize
 }
 
 // The place after the n-th byte b, or the text's end where there are fewer.
+// Kept: `enumerate().filter(..).nth(n - 1)` tells the byte's place, and leaves n 0, the place behind it and a text with fewer as three cases around it.
 fn place_after(text: &[u8], b: u8, n: usize) -> usize
     ensures within { result ≤ length text.now }
     ensures before { take result text.now ≡ up_to b n text.now }

@@ -10,6 +10,7 @@ ghost use Rattle.dqt.specs.Dqt.{val, framed, start, started, head_ok, non_zero, 
 
 use answers::tables_ok;
 use refusal::Refusal;
+use zigzag::put_each;
 
 // The marker, and a stated length that is that of the bytes after it and at least 67.
 #[tactic(auto, unfolding(crate::specs::Dqt::framed))]
@@ -25,33 +26,11 @@ fn framed(s: &[u8]) -> bool
     }
 }
 
-// How many tables the segment has, with one that it breaks off.
-fn started(s: &[u8]) -> usize
-    ensures { result ≡ started s.now }
-{
-    s.len().saturating_sub(4).div_ceil(65)
-}
-
 // Precision 0 and a destination of at most 3.
 fn head_ok(b: u8) -> bool
     ensures { result ≡ head_ok b }
 {
     b / 16 == 0 && b % 16 <= 3
-}
-
-// Kept: this and `any` of `rows` are each one call of the library with a test of its own; a function that takes the test would be that call again.
-fn non_zero(s: &[u8]) -> bool
-    ensures { result ≡ all non_zero s.now }
-{
-    s.iter().all(|&b| b != 0)
-}
-
-// The segment from table t on.
-fn from_table(s: &[u8], t: usize) -> &[u8]
-    requires { start t ≤ length s.now }
-    ensures { result.now ≡ drop (start t) s.now }
-{
-    &s[4 + t * 65..]
 }
 
 // What is wrong with the table that `rest` starts with.
@@ -66,62 +45,62 @@ fn fault(rest: &[u8]) -> Result<(), Refusal>
     if rest.len() < 65 {
         return Err(Refusal::Segment);
     }
-    if !non_zero(&rest[1..65]) {
+    if rest[1..65].contains(&0) {
         return Err(Refusal::Table);
     }
     Ok(())
 }
 
-// The first fault, table by table.
+// The first fault, table by table; the last may be cut short.
 fn faults(s: &[u8]) -> Result<(), Refusal>
+    requires { 4 ≤ length s.now }
     ensures { answer_number result ≡ faults s.now }
 {
-    for t in 0..started(s) {
-        fault(from_table(s, t))?;
+    for table in s[4..].chunks(65) {
+        fault(table)?;
     }
     Ok(())
 }
 
 // A table row by row, from its bytes in zigzag order.
+// Kept: two lengths: as arrays both cuts would be unwrapped, `rest[1..65].as_array().unwrap()` and `tables[low..low + 64].as_mut_array().unwrap()`.
 #[tactic(auto, using(zigzag::proofs::Places::zigzag_small))]
 fn unzigzag(bytes: &[u8], table: &mut [u16])
     requires { (length bytes.now ≡ 64) × (length table.old ≡ 64) }
     ensures { table.new ≡ unzigzagged bytes.now }
 {
-    for (p, quantiser) in table.iter_mut().enumerate() {
-        let k = zigzag::zigzag(p);
-        *quantiser = u16::from(bytes[k]);
-    }
+    put_each(table, |p| u16::from(bytes[zigzag::zigzag(p)]));
 }
 
 // The table that `rest` starts with, stored at its destination.
 #[tactic(auto, using(crate::proofs::Frames::head_small))]
-fn store(rest: &[u8], tables: &mut [u16])
-    requires { (65 ≤ length rest.now) × (head_ok (val rest.now 0) ≡ true) × (length tables.old ≡ 256) }
+fn store(rest: &[u8], tables: &mut [u16; 256])
+    requires { (65 ≤ length rest.now) × (head_ok (val rest.now 0) ≡ true) }
     ensures { tables.new ≡ stored rest.now 0 tables.old }
 {
     let low = usize::from(rest[0]) * 64;
     unzigzag(&rest[1..65], &mut tables[low..low + 64]);
 }
 
-fn store_all(s: &[u8], tables: &mut [u16])
-    requires { (faults s.now ≡ 0) × (length tables.old ≡ 256) }
-    ensures { tables.new ≡ imported s.now tables.old }
+// The tables of a segment without faults, each stored at its destination.
+fn store_all(segment: &[u8], tables: &mut [u16; 256])
+    requires { (4 ≤ length segment.now) × (faults segment.now ≡ 0) }
+    ensures { tables.new ≡ imported segment.now tables.old }
 {
-    for t in 0..started(s) {
-        store(from_table(s, t), tables);
+    for table in segment[4..].chunks(65) {
+        store(table, tables);
     }
 }
 
 // The tables of a segment, each stored at its destination; the others keep theirs.
 // Ruled out: quantisers left in zigzag order; and the first table of a segment stored whose second one is refused.
-#[tactic(auto, unfolding(crate::specs::Dqt::importing))]
+#[tactic(auto, using(crate::proofs::Frames::framed_long), unfolding(crate::specs::Dqt::importing))]
 pub fn import(segment: &[u8], tables: &mut [u16]) -> Result<(), Refusal>
     ensures { filled (answer_number result) tables.new ≡ importing segment.now tables.old }
 {
-    if tables.len() != 256 {
+    let Some(tables) = tables.as_mut_array::<256>() else {
         return Err(Refusal::Length);
-    }
+    };
     if !framed(segment) {
         return Err(Refusal::Segment);
     }
@@ -133,8 +112,7 @@ pub fn import(segment: &[u8], tables: &mut [u16]) -> Result<(), Refusal>
 // Four tables whose quantisers a segment can have.
 #[derive(Clone, Copy)]
 struct FourTables<'a> {
-    quantisers: &'a [u16],
-    ghost four: { length quantisers.now ≡ 256 },
+    quantisers: &'a [u16; 256],
     ghost each_ok: { all table_ok quantisers.now ≡ true },
 }
 
@@ -154,6 +132,7 @@ fn table_byte(tables: FourTables, d: usize, j: usize) -> u8
 const HEAD: [u8; 4] = [0xFF, 0xDB, 0x01, 0x06];
 
 // Byte i of the segment of the four tables.
+// Kept: byte by byte, as the definition: of `out` after a loop over `out[4..].chunks_exact_mut(65)` a proof knows the length alone, as in `row` of `picture`.
 #[tactic(auto, unfolding(crate::specs::Dqt::exported_at))]
 fn exported_at(tables: FourTables, i: usize) -> u8
     requires { i < 264 }
@@ -166,14 +145,10 @@ fn exported_at(tables: FourTables, i: usize) -> u8
     }
 }
 
-// Kept: as `archive::rearrange_all`: a closure would be no plainer than this loop of one line.
-fn export_all(tables: FourTables, out: &mut [u8])
-    requires { length out.old ≡ 264 }
+fn export_all(tables: FourTables, out: &mut [u8; 264])
     ensures { out.new ≡ exported tables.entry.quantisers.now }
 {
-    for (i, byte) in out.iter_mut().enumerate() {
-        *byte = exported_at(tables, i);
-    }
+    put_each(out, |i| exported_at(tables, i));
 }
 
 // The four tables as one segment of 264 bytes, destinations rising.
@@ -182,9 +157,12 @@ fn export_all(tables: FourTables, out: &mut [u8])
 pub fn export(tables: &[u16], out: &mut [u8]) -> Result<(), Refusal>
     ensures { filled (answer_number result) out.new ≡ exporting tables.now out.old }
 {
-    if tables.len() != 256 || out.len() != 264 {
+    let Some(tables) = tables.as_array::<256>() else {
         return Err(Refusal::Length);
-    }
+    };
+    let Some(out) = out.as_mut_array::<264>() else {
+        return Err(Refusal::Length);
+    };
     if !tables_ok(tables) {
         return Err(Refusal::Table);
     }

@@ -5,15 +5,17 @@ ghost use Rattle.start.specs.AsCoef.{as_coef};
 ghost use Rattle.interval.specs.Interval.{mid};
 ghost use Rattle.fidelity.specs.DctGradient.{cosb_of, cosbs_of, spread_block, dct_gradient, data_gradient};
 
+use interval::Interval;
 use start::coef::{Coef, Sample};
 use utils::dct::{Transform, transform8x8};
 
 // A coefficient's difference from half sum × quantiser, over the quantiser's square.
-fn cosb_of(low: i16, high: i16, q: u16, cosb: f32) -> f32
-    ensures { result ≡ cosb_of (mid low high) q cosb }
+#[tactic(auto, unfolding(crate::specs::DctGradient::cosb_of))]
+fn cosb_of(interval: Interval, cosb: f32) -> f32
+    ensures { result ≡ cosb_of (mid interval.low interval.high) interval.quantiser cosb }
 {
-    let quant = q as f32;
-    wide::mul_add(interval::mid(low, high), -quant, cosb) / float::powi2(quant)
+    let quant = f32::from(interval.quantiser);
+    wide::mul_add(interval.mid(), -quant, cosb) / float::powi2(quant)
 }
 
 // A copy of block i of the saved coefficients, differenced and transformed.
@@ -21,11 +23,11 @@ fn cosbs_of(cos: &[f32], coef: &Coef, i: usize) -> [f32; 64]
     requires { (i * 64 + 64 ≤ px_count coef.now.own) × (i * 64 + 64 ≤ length cos.now) }
     ensures { result ≡ cosbs_of (as_coef coef.now).middle coef.now.table.now cos.now i }
 {
-    let at = i * 64;
+    let scalar = coef.scalar();
     let mut cosbs = [0.0f32; 64];
-    cosbs.copy_from_slice(&cos[at..at + 64]);
-    for (j, &q) in coef.table.iter().enumerate() {
-        cosbs[j] = cosb_of(coef.lows[at + j], coef.highs[at + j], q, cosbs[j]);
+    cosbs.copy_from_slice(&cos[i * 64..i * 64 + 64]);
+    for (j, cosb) in cosbs.iter_mut().enumerate() {
+        *cosb = cosb_of(scalar.interval(i, j), *cosb);
     }
     transform8x8(&mut cosbs, Transform::Inverse);
     cosbs
@@ -33,8 +35,15 @@ fn cosbs_of(cos: &[f32], coef: &Coef, i: usize) -> [f32; 64]
 
 // v, times alpha, is added at the places of each of the 64 own samples of the block (bx, by), v being that sample's value.
 // Kept: with the gradient as a field of a struct, the clause on its length would give way to one that the field is still the slice that was lent.
-fn spread_block(gradient: &mut [f32], coef: &Coef, alpha: f32, cosbs: &[f32], by: usize, bx: usize)
-    requires { (by < block_h coef.now.own) × (bx < block_w coef.now.own) × (length cosbs.now ≡ 64) × (length gradient.old ≡ coef.now.w * coef.now.h) }
+fn spread_block(
+    gradient: &mut [f32],
+    coef: &Coef,
+    alpha: f32,
+    cosbs: &[f32; 64],
+    by: usize,
+    bx: usize,
+)
+    requires { (by < block_h coef.now.own) × (bx < block_w coef.now.own) × (length gradient.old ≡ coef.now.w * coef.now.h) }
     ensures { gradient.new ≡ spread_block coef.now.own coef.now.w alpha cosbs.now by bx gradient.old }
 {
     for y in 0..8 {

@@ -14,6 +14,8 @@ pub fn read_full<R: Read>(input: &mut R, buf: &mut [u8]) -> io::Result<usize>
     ensures bound { IfOk result (λ n. n ≤ length buf.old) }
 {
     let mut done = 0;
+    // Kept: each loop is proved to end. Tried `while done < buf.len()`: a read that a signal interrupts leaves `done` as it was, so that no measure gets less, and nothing says that
+    // such reads come to an end. `read_to_end` needs a heap, and after an error of `read_exact` nothing is known of how much was read.
     for _ in 0..u64::MAX {
         if done >= buf.len() {
             break;

@@ -109,7 +109,7 @@ pub closest_even : (n u m : ℕ) → 0 < u → gap n (closest n u * u) ≡ gap n
 closest_even n u m U = tie n u (n / u) (n % u) (div-add-mod' n u) (mod-lt n U) (compare (n % u * 2) u) (cmp (n % u * 2) u) m
 
 -- ---- a fraction n / c kept to p digits: Q * 2 ^ k, where k digits of its whole part are dropped
-gap_mul : (a b c : ℕ) → gap (a * c) (b * c) ≡ gap a b * c
+pub gap_mul : (a b c : ℕ) → gap (a * c) (b * c) ≡ gap a b * c
 gap_mul a b c = ap₂ (λ (x y : ℕ). x + y) (sym (sub-mul a b c)) (sym (sub-mul b a c)) ∙ sym (add-mul (a - b) (b - a) c)
 
 farther : (n g b y : ℕ) → gap n g ≤ gap n b → b ≤ n → y < b → gap n g ≡ gap n y → ⊥

@@ -51,7 +51,7 @@ ceiling : (x a b : ℕ) → gap x a ≤ gap x b → x ≤ b → a ≤ b
 ceiling x a b l o = omega arith
 
 -- ---- the format's values of 68 digits or more are multiples of 2 ^ 43
-coarse : (k : ℕ) → Held binary32 k → (k ≡ k / 2 ^ 43 * 2 ^ 43) ⊎ (k < 2 ^ 67)
+pub coarse : (k : ℕ) → Held binary32 k → (k ≡ k / 2 ^ 43 * 2 ^ 43) ⊎ (k < 2 ^ 67)
 coarse k H = go (order 43 H.j)
   where
     go : (43 ≤ H.j) ⊎ (H.j < 43) → (k ≡ k / 2 ^ 43 * 2 ^ 43) ⊎ (k < 2 ^ 67)

@@ -9,10 +9,11 @@ pub mod parts;
 pub mod root;
 pub mod round;
 
-ghost use Rattle.std.specs.Prelude.{◌≡◌, ℕ, Float};
-ghost use Rattle.float.specs.Ops.{clamp, fused, midpoint, mul_add, root, root_of, square};
-ghost use Rattle.float.specs.Whole.{IsPositive};
+ghost use Rattle.std.specs.Prelude.{◌≡◌};
+ghost use Rattle.float.specs.Ops.{clamp, fused, midpoint, mul_add, root, square};
 
+// Kept: document 01 asks that the method `mul_add` round "from whole numbers" and that "leading zeros of a u64 give the shift in the fused product, root and midpoint"; so do this, `midpoint` and `sqrt`. `wide` comes to this where f64
+// can't decide; a step's constants go by the other two.
 // The method `mul_add`: a * b + c, rounded once.
 // Ruled out: the product rounded before the sum (0 for 1 + 2^-23, 1 - 2^-23, -1); -0 where the exact sum cancels.
 #[tactic(auto, using(crate::proofs::Values::fused_value, crate::proofs::Values::fused_left, crate::proofs::Values::fused_right, crate::proofs::Values::fused_last, crate::proofs::Fields::not_finite, crate::proofs::Fields::is_finite))]
@@ -38,6 +39,7 @@ pub fn mul_add(a: f32, b: f32, c: f32) -> f32
     )
 }
 
+// Kept: as `mul_add`, by document 01.
 // The function `f32::midpoint`: (a + b) / 2, rounded once.
 // Ruled out: an infinity for two largest values, whose sum overflows; a half sum of subnormals that loses its last digit before it is rounded.
 #[tactic(auto, using(crate::proofs::Values::midpoint_left, crate::proofs::Values::midpoint_right, crate::proofs::Values::midpoint_value, crate::proofs::Fields::not_finite))]
@@ -52,20 +54,11 @@ pub fn midpoint(a: f32, b: f32) -> f32
     add::add_round(p.neg, p.m, p.x + 276, q.neg, q.m, q.x + 276)
 }
 
+// Kept: as `mul_add`, by document 01: "a significand is brought to its leading one before rounding".
 // The method `sqrt`: the square root, rounded once.
-// Ruled out: the root cut off where the next value is nearer; +0 for -0.
-pub fn sqrt(x: f32) -> f32
-    ensures { result ≡ root x }
-{
-    sqrt_by(x, root::root_of)
-}
-
-// The method `sqrt`, where `positive_root(m, k)` gives the root of m * 2^k of the format's smallest values.
-// Ruled out: the root of a value below 0 taken as that of its size; +0 for -0.
+// Ruled out: the root cut off where the next value is nearer; the root of a value below 0 taken as that of its size; +0 for -0.
 #[tactic(auto, using(crate::proofs::RootCases::root_infinite, crate::proofs::RootCases::root_none, crate::proofs::RootCases::root_zero, crate::proofs::RootCases::root_negative, crate::proofs::RootCases::root_value, crate::proofs::Fields::not_finite))]
-pub fn sqrt_by<F: Fn(u64, u32) -> f32>(x: f32, positive_root: F) -> f32
-    requires callable { (m k : ℕ) → IsPositive m k → F.pre positive_root m k }
-    requires gives { (m k : ℕ) (r : Float) → IsPositive m k → F.post positive_root m k r → r ≡ root_of m k }
+pub fn sqrt(x: f32) -> f32
     ensures { result ≡ root x }
 {
     if !parts::is_finite(x) {
@@ -81,7 +74,7 @@ pub fn sqrt_by<F: Fn(u64, u32) -> f32>(x: f32, positive_root: F) -> f32
     if p.neg {
         return f32::NAN;
     }
-    positive_root(p.m, p.x)
+    root::root_of(p.m, p.x)
 }
 
 // The macro `mul_add!`: the product is rounded, then the sum.
@@ -95,13 +88,14 @@ pub fn mul_add_rounded(a: f32, b: f32, c: f32) -> f32
 
 // The method `powi(2)`: one rounded square.
 // Ruled out: |x|; an exact square that is not rounded to f32.
-#[tactic(auto, unfolding(crate::specs::Ops::square))]
+#[tactic(auto, using(crate::proofs::SquareStd::square_std))]
 pub fn powi2(x: f32) -> f32
     ensures { result ≡ square x }
 {
-    x * x
+    x.powi(2)
 }
 
+// Kept: std's `x.clamp(low, high)` requires that low is at most high, and so that neither is a NaN; this asks nothing of its callers.
 // The method `clamp`: x, or the end that it lies beyond; a NaN stays.
 // Ruled out: an end for a NaN; +0 for a -0 that equals an end.
 #[tactic(auto, unfolding(crate::specs::Ops::clamp))]

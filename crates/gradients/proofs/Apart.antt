@@ -16,11 +16,11 @@ use Rattle.fold.proofs.Choice.{neither}
 use Rattle.fold.proofs.Loops.{upto_ext}
 use Rattle.float.specs.Ops.{fused, fused_at, mul_add, midpoint}
 use Rattle.float.specs.Names.{◌⊕◌, ◌⊖◌, ◌⊗◌, ◌⊘◌, ◌⊞◌, d0, f0, f2, val}
-use Rattle.gradients.specs.declared.tv.Forward.{Forward}
-use Rattle.gradients.specs.declared.tgv.Second.{Second}
+use Rattle.gradients.specs.declared.tv.ChannelForward.{ChannelForward}
+use Rattle.gradients.specs.declared.tgv.ChannelSecond.{ChannelSecond}
 use Rattle.gradients.specs.Held.{live}
-use Rattle.gradients.specs.Tv.{Terms, right_edge, bottom_edge, difference, bump, bump_unless, tv_differences, tv_differences_at, g_norm_of, tv_channel_derivatives, tv_derivatives, tv_derivatives_at, store, store_at, tv_alpha, tv_gradient_px, tv_gradient_row, tv_gradient, tv_total_px, tv_total}
-use Rattle.gradients.specs.Tgv.{left_edge, top_edge, tgv_differences, tgv_differences_at, g2_norm_of, tgv_beside, tgv_up_down, tgv_corners, tgv_channel_derivatives, tgv_derivatives, tgv_derivatives_at, tgv_alpha, tgv_gradient_px, tgv_gradient, tgv_total_px, tgv_total}
+use Rattle.gradients.specs.Tv.{Terms, forward_of, right_edge, bottom_edge, difference, bump, bump_unless, tv_differences, tv_differences_at, g_norm_of, tv_channel_derivatives, tv_derivatives, tv_derivatives_at, store, store_at, tv_alpha, tv_gradient_px, tv_gradient_row, tv_gradient, tv_total_px, tv_total}
+use Rattle.gradients.specs.Tgv.{second_of, left_edge, top_edge, tgv_differences, tgv_differences_at, g2_norm_of, tgv_beside, tgv_up_down, tgv_corners, tgv_channel_derivatives, tgv_derivatives, tgv_derivatives_at, tgv_alpha, tgv_gradient_px, tgv_gradient, tgv_total_px, tgv_total}
 use Rattle.gradients.specs.Blend.{blended, totals}
 use Rattle.gradients.specs.Apart.{EqualAt, Alike, AllAlike, NotWritten, NotRead}
 use Rattle.gradients.proofs.Laws.{bump_length}
@@ -184,10 +184,11 @@ module _ (W H n : ℕ) (held : ℕ → Bool) where
         live_same (tv_differences_at W H p y x) (tv_differences_at W H q y x) c d
         (λ free.
         λ i.
-        record {
-          g_xs = set d.g_xs c (difference_same (right_edge W x) p q c (y * W + x) (y * W + (x + 1)) a free right here i);
-          g_ys = set d.g_ys c (difference_same (bottom_edge H y) p q c (y * W + x) ((y + 1) * W + x) a free below here i);
-        }))
+        set d c
+        (record {
+          g_x = difference_same (right_edge W x) p q c (y * W + x) (y * W + (x + 1)) a free right here i;
+          g_y = difference_same (bottom_edge H y) p q c (y * W + x) ((y + 1) * W + x) a free below here i;
+        })))
 
     tgv_differences_same : (p q r s : List Float) → Alike area held p q → Alike area held r s
         → tgv_differences W H n held p r y x ≡ tgv_differences W H n held q s y x
@@ -198,13 +199,12 @@ module _ (W H n : ℕ) (held : ℕ → Bool) where
         live_same (tgv_differences_at W H p r y x) (tgv_differences_at W H q s y x) c d
         (λ free.
         λ i.
-        record {
-          g_xxs = set d.g_xxs c (flat p q a c free (left_edge x) (y * W + (x - 1)) left i);
-          g_xy_syms =
-              set d.g_xy_syms c
-              (midpoint (flat p q a c free (top_edge y) ((y - 1) * W + x) above i) (flat r s b c free (left_edge x) (y * W + (x - 1)) left i));
-          g_yys = set d.g_yys c (flat r s b c free (top_edge y) ((y - 1) * W + x) above i);
-        }))
+        set d c
+        (record {
+          g_xx = flat p q a c free (left_edge x) (y * W + (x - 1)) left i;
+          g_xy_sym = midpoint (flat p q a c free (top_edge y) ((y - 1) * W + x) above i) (flat r s b c free (left_edge x) (y * W + (x - 1)) left i);
+          g_yy = flat r s b c free (top_edge y) ((y - 1) * W + x) above i;
+        })))
       where
         -- from a place before to here
         flat : (p q : List Float) → Alike area held p q → (c : ℕ) → held c ≡ false → (edge : Bool) (o : ℕ) → o < area
@@ -221,16 +221,16 @@ module _ (W H n : ℕ) (held : ℕ → Bool) where
         (bump_unless_apart area held (right_edge W x) alpha g-x g-norm c (y * W + (x + 1)) right free))
         (bump_unless_apart area held (bottom_edge H y) alpha g-y g-norm c ((y + 1) * W + x) below free)
 
-    tv_derivatives_apart : (alpha g-norm : Float) (d : Forward) → Apart area held (λ g. tv_derivatives W H n held alpha g-norm d y x g)
+    tv_derivatives_apart : (alpha g-norm : Float) (d : List ChannelForward) → Apart area held (λ g. tv_derivatives W H n held alpha g-norm d y x g)
     unfolding tv_derivatives
     tv_derivatives_apart alpha g-norm d =
         either_apart (ne g-norm f0)
-        (channels (tv_derivatives_at W H alpha g-norm d y x) n (λ c free. tv_channel_apart alpha g-norm (val d.g_xs c) (val d.g_ys c) c free))
+        (channels (tv_derivatives_at W H alpha g-norm d y x) n (λ c free. tv_channel_apart alpha g-norm (forward_of d c).g_x (forward_of d c).g_y c free))
         stay
 
-    store_apart : (vs : List Float) → Apart area held (λ b. store W H n held vs y x b)
+    store_apart : (v : ℕ → Float) → Apart area held (λ b. store W H n held v y x b)
     unfolding store
-    store_apart vs = channels (store_at W H vs y x) n (λ c free. set_apart area held c (y * W + x) here free (val vs c))
+    store_apart v = channels (store_at W H v y x) n (λ c free. set_apart area held c (y * W + x) here free (v c))
 
     above_right : (right_edge W x || top_edge y) ≡ false → (y - 1) * W + (x + 1) < area
     above_right e = px_in W H (y - 1) (x + 1) (omega arith) (omega (arith, leb-false (W - 1) x (neither (right_edge W x) (top_edge y) e).0))
@@ -263,12 +263,12 @@ module _ (W H n : ℕ) (held : ℕ → Bool) where
       unfolding tgv_channel_derivatives
       tgv_channel_apart = after (after beside_apart up_down_apart) corners_apart
 
-    tgv_derivatives_apart : (alpha g2-norm : Float) (d : Second) → Apart area held (λ g. tgv_derivatives W H n held alpha g2-norm d y x g)
+    tgv_derivatives_apart : (alpha g2-norm : Float) (d : List ChannelSecond) → Apart area held (λ g. tgv_derivatives W H n held alpha g2-norm d y x g)
     unfolding tgv_derivatives
     tgv_derivatives_apart alpha g2-norm d =
         either_apart (eq g2-norm f0) stay
         (channels (tgv_derivatives_at W H alpha g2-norm d y x) n
-        (λ c free. tgv_channel_apart alpha g2-norm (val d.g_xxs c) (val d.g_xy_syms c) (val d.g_yys c) c free))
+        (λ c free. tgv_channel_apart alpha g2-norm (second_of d c).g_xx (second_of d c).g_xy_sym (second_of d c).g_yy c free))
 
   -- ---- tv_gradient, list by list
 
@@ -276,10 +276,10 @@ module _ (W H n : ℕ) (held : ℕ → Bool) where
   tv_px plane y x g = let d = tv_differences W H n held plane y x in tv_derivatives W H n held (tv_alpha n) (g_norm_of n held d) d y x g
 
   abbrev across_px : List Float → ℕ → ℕ → List Float → List Float
-  across_px plane y x g = store W H n held (tv_differences W H n held plane y x).g_xs y x g
+  across_px plane y x g = store W H n held (λ c. (forward_of (tv_differences W H n held plane y x) c).g_x) y x g
 
   abbrev down_px : List Float → ℕ → ℕ → List Float → List Float
-  down_px plane y x g = store W H n held (tv_differences W H n held plane y x).g_ys y x g
+  down_px plane y x g = store W H n held (λ c. (forward_of (tv_differences W H n held plane y x) c).g_y) y x g
 
   module _ (plane : List Float) (b : Terms) where
     tv_part : (π : Terms → List Float) (f : ℕ → ℕ → List Float → List Float)
@@ -305,10 +305,10 @@ module _ (W H n : ℕ) (held : ℕ → Bool) where
   tv_apart plane = pass_apart (tv_px plane) (λ y x l m. let d = tv_differences W H n held plane y x in tv_derivatives_apart y x l m (tv_alpha n) (g_norm_of n held d) d)
 
   across_apart : (plane : List Float) → Apart area held (λ g. pass (across_px plane) g)
-  across_apart plane = pass_apart (across_px plane) (λ y x l m. store_apart y x l m (tv_differences W H n held plane y x).g_xs)
+  across_apart plane = pass_apart (across_px plane) (λ y x l m. store_apart y x l m (λ c. (forward_of (tv_differences W H n held plane y x) c).g_x))
 
   down_apart : (plane : List Float) → Apart area held (λ g. pass (down_px plane) g)
-  down_apart plane = pass_apart (down_px plane) (λ y x l m. store_apart y x l m (tv_differences W H n held plane y x).g_ys)
+  down_apart plane = pass_apart (down_px plane) (λ y x l m. store_apart y x l m (λ c. (forward_of (tv_differences W H n held plane y x) c).g_y))
 
   abbrev tgv_px : Float → List Float → List Float → ℕ → ℕ → List Float → List Float
   tgv_px second across down y x g = tgv_gradient_px W H n held (tgv_alpha n second) across down y x g
@@ -353,15 +353,15 @@ module _ (W H n : ℕ) (held : ℕ → Bool) where
         record {
           in_gradient =
               both_are (gradient_is p a) (gradient_is q b)
-              (pass_alike (tv_px p) (tv_px q) (λ y x l m g. ap (λ (d : Forward). tv_derivatives W H n held (tv_alpha n) (g_norm_of n held d) d y x g) (ds y x l m)) (tv_apart q)
+              (pass_alike (tv_px p) (tv_px q) (λ y x l m g. ap (λ (d : List ChannelForward). tv_derivatives W H n held (tv_alpha n) (g_norm_of n held d) d y x g) (ds y x l m)) (tv_apart q)
               a.gradient b.gradient all.in_gradient);
           in_across =
               both_are (across_is p a) (across_is q b)
-              (pass_alike (across_px p) (across_px q) (λ y x l m g. ap (λ (d : Forward). store W H n held d.g_xs y x g) (ds y x l m)) (across_apart q)
+              (pass_alike (across_px p) (across_px q) (λ y x l m g. ap (λ (d : List ChannelForward). store W H n held (λ c. (forward_of d c).g_x) y x g) (ds y x l m)) (across_apart q)
               a.across b.across all.in_across);
           in_down =
               both_are (down_is p a) (down_is q b)
-              (pass_alike (down_px p) (down_px q) (λ y x l m g. ap (λ (d : Forward). store W H n held d.g_ys y x g) (ds y x l m)) (down_apart q)
+              (pass_alike (down_px p) (down_px q) (λ y x l m g. ap (λ (d : List ChannelForward). store W H n held (λ c. (forward_of d c).g_y) y x g) (ds y x l m)) (down_apart q)
               a.down b.down all.in_down);
         }
       where
@@ -375,7 +375,7 @@ module _ (W H n : ℕ) (held : ℕ → Bool) where
     unfolding tgv_gradient tgv_gradient_px
     tgv_alike =
         pass_alike (tgv_px second s.across s.down) (tgv_px second t.across t.down)
-        (λ y x l m g. ap (λ (d : Second). tgv_derivatives W H n held (tgv_alpha n second) (g2_norm_of n held d) d y x g) (second_same y x l m))
+        (λ y x l m g. ap (λ (d : List ChannelSecond). tgv_derivatives W H n held (tgv_alpha n second) (g2_norm_of n held d) d y x g) (second_same y x l m))
         (tgv_apart second t.across t.down) s.gradient t.gradient tv_alike.in_gradient
 
     totals_same : totals W H n held second p a ≡ totals W H n held second q b
@@ -385,10 +385,10 @@ module _ (W H n : ℕ) (held : ℕ → Bool) where
         record {
           tv =
               pass_same (tv_total_px W H n held (tv_alpha n) p) (tv_total_px W H n held (tv_alpha n) q)
-              (λ y x l m v. ap (λ (d : Forward). fused_at binary64 (tv_alpha n) (g_norm_of n held d) v) (tv_differences_same y x l m p q like)) d0 i;
+              (λ y x l m v. ap (λ (d : List ChannelForward). fused_at binary64 (tv_alpha n) (g_norm_of n held d) v) (tv_differences_same y x l m p q like)) d0 i;
           tgv =
               pass_same (tgv_total_px W H n held (tgv_alpha n second) s.across s.down) (tgv_total_px W H n held (tgv_alpha n second) t.across t.down)
-              (λ y x l m v. ap (λ (d : Second). v ⊞ (tgv_alpha n second ⊗ g2_norm_of n held d)) (second_same y x l m)) d0 i;
+              (λ y x l m v. ap (λ (d : List ChannelSecond). v ⊞ (tgv_alpha n second ⊗ g2_norm_of n held d)) (second_same y x l m)) d0 i;
         }
 
     pub not_read : NotRead W H n held second p q a b

@@ -2,5 +2,6 @@
 pub mod Places
 pub mod Laws
 pub mod Edges
+pub mod Turns
 pub mod Examples
 pub mod Apart

@@ -9,17 +9,9 @@ ghost use Rattle.gradients.specs.Grid.{Inside, Fills};
 ghost use Rattle.gradients.specs.Tgv.{tgv_differences, g2_norm_of, tgv_beside, tgv_up_down, tgv_corners, tgv_channel_derivatives, tgv_derivatives, tgv_gradient_px, tgv_total_px, tgv_alpha, tgv_gradient, tgv_total};
 
 use crate::grid;
-use crate::grid::{Grid, Pixel};
+use crate::grid::{ChannelPixel, Grid, Pixel};
 
-// g_xxs, g_xy_syms and g_yys: a pixel's differences of differences, by channel.
-#[derive(Clone, Copy)]
-pub struct Second {
-    pub g_xxs: [f32; 3],
-    pub g_xy_syms: [f32; 3],
-    pub g_yys: [f32; 3],
-}
-
-// One channel's.
+// g_xx, g_xy_sym and g_yy: a channel's differences of differences at a pixel.
 #[derive(Clone, Copy)]
 pub struct ChannelSecond {
     pub g_xx: f32,
@@ -28,7 +20,7 @@ pub struct ChannelSecond {
 }
 
 // The backward differences x and y of the differences at (x, y), and their mixed one made symmetric, of each channel.
-fn differences(across: &[f32], down: &[f32], g: Grid, y: usize, x: usize) -> Second
+fn differences(across: &[f32], down: &[f32], g: Grid, y: usize, x: usize) -> [ChannelSecond; 3]
     requires { (g.n ≤ 3) × Inside g y x × Fills g (length across.now) × Fills g (length down.now) }
     ensures { result ≡ tgv_differences g.w g.h g.n (flag g.held) across.now down.now y x }
 {
@@ -36,24 +28,27 @@ fn differences(across: &[f32], down: &[f32], g: Grid, y: usize, x: usize) -> Sec
     let held = g.held;
     let left = x.saturating_sub(1);
     let above = y.saturating_sub(1);
-    let mut g_xxs = [0.0f32; 3];
-    let mut g_xy_syms = [0.0f32; 3];
-    let mut g_yys = [0.0f32; 3];
+    let mut d = [ChannelSecond {
+        g_xx: 0.0,
+        g_xy_sym: 0.0,
+        g_yy: 0.0,
+    }; 3];
     for c in 0..n {
         if held[c] {
             continue;
         }
-        g_xxs[c] = grid::difference(x == 0, across, g, c, y, x, y, left);
+        let g_xx = grid::difference(x == 0, across, g, c, y, x, y, left);
         let g_yx = grid::difference(x == 0, down, g, c, y, x, y, left);
-        g_yys[c] = grid::difference(y == 0, down, g, c, y, x, above, x);
+        let g_yy = grid::difference(y == 0, down, g, c, y, x, above, x);
         let g_xy = grid::difference(y == 0, across, g, c, y, x, above, x);
-        g_xy_syms[c] = wide::midpoint(g_xy, g_yx);
+        let g_xy_sym = wide::midpoint(g_xy, g_yx);
+        d[c] = ChannelSecond {
+            g_xx,
+            g_xy_sym,
+            g_yy,
+        };
     }
-    Second {
-        g_xxs,
-        g_xy_syms,
-        g_yys,
-    }
+    d
 }
 
 // What a channel adds to g2_norm. Rules out: the mixed square taken once, and the squares added in another order.
@@ -67,21 +62,17 @@ pub fn square_of(g_xx: f32, g_xy_sym: f32, g_yy: f32) -> f32
     )
 }
 
-// Kept: the count over c, under which four arrays are read; by `zip` each turn takes a pair within a pair within a pair apart.
 // g2_norm: √ of what each channel adds.
-fn g2_norm_of(n: usize, held: [bool; 3], d: Second) -> f32
+fn g2_norm_of(n: usize, held: [bool; 3], d: [ChannelSecond; 3]) -> f32
     requires { n ≤ 3 }
     ensures { result ≡ g2_norm_of n (flag held) d }
 {
-    let g_xxs = d.g_xxs;
-    let g_xy_syms = d.g_xy_syms;
-    let g_yys = d.g_yys;
     let mut g2_norm = 0.0f32;
-    for c in 0..n {
-        if held[c] {
+    for (held, d) in held[..n].iter().zip(&d) {
+        if *held {
             continue;
         }
-        g2_norm += square_of(g_xxs[c], g_xy_syms[c], g_yys[c]);
+        g2_norm += square_of(d.g_xx, d.g_xy_sym, d.g_yy);
     }
     wide::sqrt(g2_norm)
 }
@@ -93,73 +84,67 @@ pub fn middle(g_xx: f32, g_xy_sym: f32, g_yy: f32) -> f32
     -float::mul_add_rounded(2.0, g_yy, float::mul_add_rounded(2.0, g_xx, 2.0 * g_xy_sym))
 }
 
-// "compute derivatives" of channel c: own place, left, right.
-fn beside(gradient: &mut [f32], p: Pixel, d: ChannelSecond, c: usize)
-    requires { (c < p.g.n) × Fills p.g (length gradient.old) }
-    ensures { gradient.new ≡ tgv_beside p.g.w p.g.h p.alpha p.norm d.g_xx d.g_xy_sym d.g_yy p.y p.x c gradient.old }
-{
-    let g = p.g;
-    let y = p.y;
-    let x = p.x;
-    let own = middle(d.g_xx, d.g_xy_sym, d.g_yy);
-    let side = d.g_xy_sym + d.g_xx;
-    grid::bump(gradient, g, c, y, x, p.alpha, own, p.norm);
-    if x != 0 {
-        grid::bump(gradient, g, c, y, x - 1, p.alpha, side, p.norm);
+impl ChannelPixel {
+    // "compute derivatives" of a channel: own place, left, right.
+    fn beside(self, gradient: &mut [f32], d: ChannelSecond)
+        requires { Fills self.p.g (length gradient.old) }
+        ensures { gradient.new ≡ tgv_beside self.p.g.w self.p.g.h self.p.alpha self.p.norm d.g_xx d.g_xy_sym d.g_yy self.p.y self.p.x self.c gradient.old }
+    {
+        let p = self.p;
+        let side = d.g_xy_sym + d.g_xx;
+        self.bump(gradient, p.y, p.x, middle(d.g_xx, d.g_xy_sym, d.g_yy));
+        if p.x != 0 {
+            self.bump(gradient, p.y, p.x - 1, side);
+        }
+        if p.x < p.g.w - 1 {
+            self.bump(gradient, p.y, p.x + 1, side);
+        }
     }
-    if x < g.w - 1 {
-        grid::bump(gradient, g, c, y, x + 1, p.alpha, side, p.norm);
+
+    // Above, below.
+    fn up_down(self, gradient: &mut [f32], d: ChannelSecond)
+        requires { Fills self.p.g (length gradient.old) }
+        ensures { gradient.new ≡ tgv_up_down self.p.g.w self.p.g.h self.p.alpha self.p.norm d.g_xy_sym d.g_yy self.p.y self.p.x self.c gradient.old }
+    {
+        let p = self.p;
+        let end = d.g_yy + d.g_xy_sym;
+        if p.y != 0 {
+            self.bump(gradient, p.y - 1, p.x, end);
+        }
+        if p.y < p.g.h - 1 {
+            self.bump(gradient, p.y + 1, p.x, end);
+        }
+    }
+
+    // Above right, below left.
+    fn corners(self, gradient: &mut [f32], d: ChannelSecond)
+        requires { Fills self.p.g (length gradient.old) }
+        ensures { gradient.new ≡ tgv_corners self.p.g.w self.p.g.h self.p.alpha self.p.norm d.g_xy_sym self.p.y self.p.x self.c gradient.old }
+    {
+        let p = self.p;
+        let corner = -d.g_xy_sym;
+        if p.x < p.g.w - 1 && p.y != 0 {
+            self.bump(gradient, p.y - 1, p.x + 1, corner);
+        }
+        if p.x != 0 && p.y < p.g.h - 1 {
+            self.bump(gradient, p.y + 1, p.x - 1, corner);
+        }
     }
 }
 
-// Above, below.
-fn up_down(gradient: &mut [f32], p: Pixel, d: ChannelSecond, c: usize)
-    requires { (c < p.g.n) × Fills p.g (length gradient.old) }
-    ensures { gradient.new ≡ tgv_up_down p.g.w p.g.h p.alpha p.norm d.g_xy_sym d.g_yy p.y p.x c gradient.old }
-{
-    let g = p.g;
-    let y = p.y;
-    let x = p.x;
-    let end = d.g_yy + d.g_xy_sym;
-    if y != 0 {
-        grid::bump(gradient, g, c, y - 1, x, p.alpha, end, p.norm);
-    }
-    if y < g.h - 1 {
-        grid::bump(gradient, g, c, y + 1, x, p.alpha, end, p.norm);
-    }
-}
-
-// Above right, below left.
-fn corners(gradient: &mut [f32], p: Pixel, d: ChannelSecond, c: usize)
-    requires { (c < p.g.n) × Fills p.g (length gradient.old) }
-    ensures { gradient.new ≡ tgv_corners p.g.w p.g.h p.alpha p.norm d.g_xy_sym p.y p.x c gradient.old }
-{
-    let g = p.g;
-    let y = p.y;
-    let x = p.x;
-    let corner = -d.g_xy_sym;
-    if x < g.w - 1 && y != 0 {
-        grid::bump(gradient, g, c, y - 1, x + 1, p.alpha, corner, p.norm);
-    }
-    if x != 0 && y < g.h - 1 {
-        grid::bump(gradient, g, c, y + 1, x - 1, p.alpha, corner, p.norm);
-    }
-}
-
-// Kept: what is changed, by which pixel, with which differences and in which channel; the three parts take the same four, and a struct of them would be taken apart at once.
-// "compute derivatives" of channel c: all seven, in this order. Rules out: a corner left out, and a change beyond an edge.
-pub fn channel_derivatives(gradient: &mut [f32], p: Pixel, d: ChannelSecond, c: usize)
-    requires { (c < p.g.n) × Fills p.g (length gradient.old) }
+// "compute derivatives" of a channel: all seven, in this order. Rules out: a corner left out, and a change beyond an edge.
+pub fn channel_derivatives(gradient: &mut [f32], own: ChannelPixel, d: ChannelSecond)
+    requires { Fills own.p.g (length gradient.old) }
     ensures { gradient.new
-        ≡ tgv_channel_derivatives p.g.w p.g.h p.alpha p.norm d.g_xx d.g_xy_sym d.g_yy p.y p.x c gradient.old }
+        ≡ tgv_channel_derivatives own.p.g.w own.p.g.h own.p.alpha own.p.norm d.g_xx d.g_xy_sym d.g_yy own.p.y own.p.x own.c gradient.old }
 {
-    beside(gradient, p, d, c);
-    up_down(gradient, p, d, c);
-    corners(gradient, p, d, c);
+    own.beside(gradient, d);
+    own.up_down(gradient, d);
+    own.corners(gradient, d);
 }
 
 // "compute derivatives": each channel's, unless g2_norm is 0.
-fn derivatives(gradient: &mut [f32], p: Pixel, d: Second)
+fn derivatives(gradient: &mut [f32], p: Pixel, d: [ChannelSecond; 3])
     requires { (p.g.n ≤ 3) × Fills p.g (length gradient.old) }
     ensures { gradient.new ≡ tgv_derivatives p.g.w p.g.h p.g.n (flag p.g.held) p.alpha p.norm d p.y p.x gradient.old }
 {
@@ -172,12 +157,7 @@ fn derivatives(gradient: &mut [f32], p: Pixel, d: Second)
         if held[c] {
             continue;
         }
-        let channel = ChannelSecond {
-            g_xx: d.g_xxs[c],
-            g_xy_sym: d.g_xy_syms[c],
-            g_yy: d.g_yys[c],
-        };
-        channel_derivatives(gradient, p, channel, c);
+        channel_derivatives(gradient, ChannelPixel { p, c }, d[c]);
     }
 }
 
@@ -213,7 +193,8 @@ fn tgv_gradient_px(
     float::double::add_product(tv2, alpha, norm)
 }
 
-// alpha /= (nchannel as f32).sqrt(), the same in each pixel. Rules out: alpha undivided, and its product with 1 / √n, which rounds twice.
+// alpha /= (nchannel as f32).sqrt(), the same in each pixel; tv.rs has it of 1.0.
+// Rules out: alpha undivided, the root of the channels that aren't held, and its product with 1 / √n, which rounds twice.
 pub fn alpha_of(n: usize, alpha: f32) -> f32
     requires { n ≤ 3 }
     ensures { result ≡ tgv_alpha n alpha }
@@ -221,6 +202,7 @@ pub fn alpha_of(n: usize, alpha: f32) -> f32
     alpha / steps::solve::root_of(n as u32)
 }
 
+// Kept: this and `tv::tv_gradient`, where the line says why.
 // tgv_gradient: every pixel, row by row. The total is returned. Rules out: alpha not divided by √n, a NaN norm taken for 0,
 // and a total of products that are not rounded to f32 first.
 pub fn tgv_gradient(across: &[f32], down: &[f32], gradient: &mut [f32], g: Grid, alpha: f32) -> f64

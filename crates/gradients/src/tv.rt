@@ -3,102 +3,97 @@
 ghost use Rattle.std.specs.Prelude.{◌≡◌, ◌<◌, ◌≤◌, length};
 ghost use Rattle.gradients.specs.Held.{flag};
 ghost use Rattle.gradients.specs.Grid.{Inside, Fills};
-ghost use Rattle.gradients.specs.Tv.{tv_differences, g_norm_of, tv_channel_derivatives, tv_derivatives, store, tv_gradient_px, tv_total_px, tv_alpha, tv_gradient, tv_total};
+ghost use Rattle.gradients.specs.Tv.{tv_differences, g_norm_of, tv_channel_derivatives, tv_derivatives, forward_of, store, tv_gradient_px, tv_total_px, tv_gradient, tv_total};
 
-use crate::grid;
-use crate::grid::{Grid, Pixel};
+use crate::grid::{ChannelPixel, Grid, Pixel};
+use crate::{grid, tgv};
 
-// g_xs and g_ys: a pixel's forward differences, by channel.
+// g_x and g_y: a channel's forward differences at a pixel.
 #[derive(Clone, Copy)]
-pub struct Forward {
-    pub g_xs: [f32; 3],
-    pub g_ys: [f32; 3],
+pub struct ChannelForward {
+    pub g_x: f32,
+    pub g_y: f32,
 }
 
 // The forward differences at (x, y) of each channel.
-fn differences(plane: &[f32], g: Grid, y: usize, x: usize) -> Forward
+// Kept: the test of `held` within the loop, here, in two below and in two of tgv.rt: `for c in (0..n).filter(|&c| !held[c])` has the same test, in a closure, and says no more plainly that these channels are passed over.
+fn differences(plane: &[f32], g: Grid, y: usize, x: usize) -> [ChannelForward; 3]
     requires { (g.n ≤ 3) × Inside g y x × Fills g (length plane.now) }
     ensures { result ≡ tv_differences g.w g.h g.n (flag g.held) plane.now y x }
 {
     let n = g.n;
     let held = g.held;
-    let w = g.w;
-    let h = g.h;
-    let right = x >= w - 1;
-    let bottom = y >= h - 1;
-    let mut g_xs = [0.0f32; 3];
-    let mut g_ys = [0.0f32; 3];
+    let right = x >= g.w - 1;
+    let bottom = y >= g.h - 1;
+    let mut d = [ChannelForward { g_x: 0.0, g_y: 0.0 }; 3];
     for c in 0..n {
         if held[c] {
             continue;
         }
-        g_xs[c] = grid::difference(right, plane, g, c, y, x + 1, y, x);
-        g_ys[c] = grid::difference(bottom, plane, g, c, y + 1, x, y, x);
+        d[c] = ChannelForward {
+            g_x: grid::difference(right, plane, g, c, y, x + 1, y, x),
+            g_y: grid::difference(bottom, plane, g, c, y + 1, x, y, x),
+        };
     }
-    Forward { g_xs, g_ys }
+    d
 }
 
-// Kept: the count over c, under which three arrays are read; by `held[..n].iter().zip(d.g_xs).zip(d.g_ys)` each turn takes a pair within a pair apart.
+// Kept: that the channels are three at most, here and where a grid's are: the arrays of channels have three places. In `Grid` it would ask more of `px`, `difference` and `bump`, which promise for every number of channels.
 // g_norm: √ of the squares of both differences, added channel by channel.
-fn g_norm_of(n: usize, held: [bool; 3], d: Forward) -> f32
+fn g_norm_of(n: usize, held: [bool; 3], d: [ChannelForward; 3]) -> f32
     requires { n ≤ 3 }
     ensures { result ≡ g_norm_of n (flag held) d }
 {
-    let g_xs = d.g_xs;
-    let g_ys = d.g_ys;
     let mut g_norm = 0.0f32;
-    for c in 0..n {
-        if held[c] {
+    for (held, d) in held[..n].iter().zip(&d) {
+        if *held {
             continue;
         }
-        g_norm += float::powi2(g_xs[c]);
-        g_norm += float::powi2(g_ys[c]);
+        g_norm += float::powi2(d.g_x);
+        g_norm += float::powi2(d.g_y);
     }
     wide::sqrt(g_norm)
 }
 
 // Kept: that the planes fill the gradient, in each contract; a struct of the lent buffer would need in its place, as `copying::Writer` does, that it is still the same buffer.
-// "compute derivatives" of channel c, whose differences are g_x and g_y: own place, right, below.
+// "compute derivatives" of a channel: own place, right, below.
 // Rules out: two of the three exchanged, and a change beyond an edge.
-pub fn channel_derivatives(gradient: &mut [f32], p: Pixel, g_x: f32, g_y: f32, c: usize)
-    requires { (c < p.g.n) × Fills p.g (length gradient.old) }
-    ensures { gradient.new ≡ tv_channel_derivatives p.g.w p.g.h p.alpha p.norm g_x g_y p.y p.x c gradient.old }
+pub fn channel_derivatives(gradient: &mut [f32], own: ChannelPixel, d: ChannelForward)
+    requires { Fills own.p.g (length gradient.old) }
+    ensures { gradient.new ≡ tv_channel_derivatives own.p.g.w own.p.g.h own.p.alpha own.p.norm d.g_x d.g_y own.p.y own.p.x own.c gradient.old }
 {
-    let g = p.g;
-    let y = p.y;
-    let x = p.x;
-    grid::bump(gradient, g, c, y, x, p.alpha, -(g_x + g_y), p.norm);
-    if x < g.w - 1 {
-        grid::bump(gradient, g, c, y, x + 1, p.alpha, g_x, p.norm);
+    let p = own.p;
+    own.bump(gradient, p.y, p.x, -(d.g_x + d.g_y));
+    if p.x < p.g.w - 1 {
+        own.bump(gradient, p.y, p.x + 1, d.g_x);
     }
-    if y < g.h - 1 {
-        grid::bump(gradient, g, c, y + 1, x, p.alpha, g_y, p.norm);
+    if p.y < p.g.h - 1 {
+        own.bump(gradient, p.y + 1, p.x, d.g_y);
     }
 }
 
 // "compute derivatives": each channel's, if g_norm isn't 0.
-fn derivatives(gradient: &mut [f32], p: Pixel, d: Forward)
+fn derivatives(gradient: &mut [f32], p: Pixel, d: [ChannelForward; 3])
     requires { (p.g.n ≤ 3) × Fills p.g (length gradient.old) }
     ensures { gradient.new ≡ tv_derivatives p.g.w p.g.h p.g.n (flag p.g.held) p.alpha p.norm d p.y p.x gradient.old }
 {
     let n = p.g.n;
     let held = p.g.held;
-    let g_xs = d.g_xs;
-    let g_ys = d.g_ys;
     if p.norm != 0.0 {
         for c in 0..n {
             if held[c] {
                 continue;
             }
-            channel_derivatives(gradient, p, g_xs[c], g_ys[c], c);
+            channel_derivatives(gradient, ChannelPixel { p, c }, d[c]);
         }
     }
 }
 
-// "store for the second-order TGV pass": one of the two differences of (x, y), each channel's.
-fn store(buffer: &mut [f32], g: Grid, vs: [f32; 3], y: usize, x: usize)
-    requires { (g.n ≤ 3) × Inside g y x × Fills g (length buffer.old) }
-    ensures { buffer.new ≡ store g.w g.h g.n (flag g.held) vs y x buffer.old }
+// "store for the second-order TGV pass": both differences of (x, y), each channel's.
+fn store(across: &mut [f32], down: &mut [f32], g: Grid, d: [ChannelForward; 3], y: usize, x: usize)
+    requires { (g.n ≤ 3) × Inside g y x × Fills g (length across.old) × Fills g (length down.old) }
+    ensures { (across.new ≡ store g.w g.h g.n (flag g.held) (λ c. (forward_of d c).g_x) y x across.old)
+        × (down.new ≡ store g.w g.h g.n (flag g.held) (λ c. (forward_of d c).g_y) y x down.old) }
 {
     let n = g.n;
     let held = g.held;
@@ -107,7 +102,8 @@ fn store(buffer: &mut [f32], g: Grid, vs: [f32; 3], y: usize, x: usize)
             continue;
         }
         let k = grid::px(g, c, y, x);
-        buffer[k] = vs[c];
+        across[k] = d[c].g_x;
+        down[k] = d[c].g_y;
     }
 }
 
@@ -143,21 +139,11 @@ fn tv_gradient_px(
         x,
     };
     derivatives(gradient, p, d);
-    let g_xs = d.g_xs;
-    let g_ys = d.g_ys;
-    store(across, g, g_xs, y, x);
-    store(down, g, g_ys, y, x);
+    store(across, down, g, d, y, x);
     float::double::mul_add(alpha, norm, tv)
 }
 
-// alpha = 1.0 / (nchannel as f32).sqrt(), the same in each pixel. Rules out: 1.0 / nchannel, and the root of the channels that aren't held.
-pub fn alpha_of(n: usize) -> f32
-    requires { n ≤ 3 }
-    ensures { result ≡ tv_alpha n }
-{
-    1.0 / steps::solve::root_of(n as u32)
-}
-
+// Kept: this and `tgv::tgv_gradient`. A function of both would take a pixel's part as a closure that writes lent buffers, three here and one there, of which a proof knows nothing after the call; what it would hold is the two `for`s.
 // tv_gradient: every pixel, row by row. The total is returned. Rules out: a norm of each channel alone, a pixel whose differences are left as they were,
 // a total of rounded products, or one summed in f32 or channel by channel, and a held channel in the norm or out of the divisor.
 pub fn tv_gradient(
@@ -177,7 +163,7 @@ pub fn tv_gradient(
     let n = g.n;
     let w = g.w;
     let h = g.h;
-    let alpha = alpha_of(n);
+    let alpha = tgv::alpha_of(n, 1.0);
     let mut tv = 0.0f64;
     for y in 0..h {
         for x in 0..w {

@@ -11,7 +11,7 @@ use lib.IntN.{ℤ, pos}
 use Rattle.hiding.specs.Shown.{hidden_by, shown_by}
 
 -- The loop: what is shown up to place i, then what is left to show
-pub record Hiding (bits : List ℕ) (all now : List ℤ) (i : ℕ) : Type 0 where
+pub record Hiding (bits : List Bool) (all now : List ℤ) (i : ℕ) : Type 0 where
   pub long : length now ≡ length all
   pub upto : i ≤ length now
   pub value : take i now ++ shown_by bits i (drop i now) ≡ shown_by bits 0 all
@@ -49,7 +49,7 @@ snoc : (xs : List ℤ) (z : ℤ) (ys : List ℤ) → (xs ++ z ∷ []) ++ ys ≡ 
 snoc [] z ys = refl
 snoc (x ∷ xs) z ys = ap (λ (r : List ℤ). x ∷ r) (snoc xs z ys)
 
-module _ {bits : List ℕ} {all now : List ℤ} {i : ℕ} (h : Hiding bits all now i) where
+module _ {bits : List Bool} {all now : List ℤ} {i : ℕ} (h : Hiding bits all now i) where
   pub hide_step : i < length now → (x : Bool) → x ≡ hidden_by bits i → Hiding bits all (cond x (set now i (pos 0)) now) (i + 1)
   hide_step k x e =
       let v = cond x (pos 0) (get_or now i (pos 0)) in

@@ -18,12 +18,15 @@ use Rattle.text.specs.declared.field.Field.{Field}
 use Rattle.text.specs.declared.field.Field.TheVariants as field
 use Rattle.text.specs.Numbers.{number_at}
 use Rattle.text.specs.Levels.{level_of, level_value}
-use Rattle.text.specs.Fields.{low_field, field_of}
+use Rattle.std.specs.Int.Signed.{le_z}
+use Rattle.text.specs.Fields.{letter, low_field, high_field, field_of}
 use Rattle.contents.specs.declared.Limits.{Limits}
 use Rattle.contents.specs.declared.Header.{Header}
-use Rattle.lines.specs.Lines.{count, factor, own_side, header_rules, hold_rules, any_number, mark_rules, channel_rules, block_rules, pair_rules, range_rules}
+use Rattle.lines.specs.declared.Tag.{Tag}
+use Rattle.lines.specs.declared.Tag.TheVariants as tags
+use Rattle.lines.specs.Lines.{letter_of, rules_of, count, factor, own_side, header_rules, choice_rules, hold_rules, any_number, mark_rules, channel_rules, block_rules, pair_rules, range_rules}
 use Rattle.contents.specs.Hold.{measured}
-use Rattle.lines.specs.Said.{said_before, low_said, range_rule}
+use Rattle.lines.specs.Said.{said_before, range_rule}
 
 -- Rules by place
 
@@ -116,38 +119,80 @@ module _ (d : Rule) where
       let q : 2 + 2 * j ≡ suc (suc (2 * j)) = omega arith in
       rw e (pair_high n (drop 2 fs) j (omega arith) ∙ ap (λ (f : List ℕ). rule.High (level_value (level_of f))) (get_or-drop 2 fs (2 * j) [] ∙ ap (λ (k : ℕ). get_or fs k []) q))
 
-low_value : (r : Result ℤ Refusal) (x : Field) → Ok x ≡ low_field r → low_said x ≡ level_value r
-low_value (Ok z) x e = let same : x ≡ field.Low z = cc in rw same
-low_value (Err k) x e = cc
-
-low-said : (f : List ℕ) (x : Field) → Ok x ≡ field_of rule.Low f → low_said x ≡ level_value (level_of f)
+-- the rule of the next field, by what a field said: after a low its high, after another a low
+after_low : (i : ℕ) (f : List ℕ) (x : Field) → Ok x ≡ field_of rule.Low f → range_rule i x ≡ rule.High (level_value (level_of f))
 unfolding field_of
-low-said f x e = low_value (level_of f) x e
+after_low i f x e = two (level_of f) e
+  where
+    two : (r : Result ℤ Refusal) → Ok x ≡ low_field r → range_rule i x ≡ rule.High (level_value r)
+    two (Ok z) e = let same : x ≡ field.Low z = cc in rw same
+    two (Err k) e = cc
+
+after_high : (i : ℕ) (low : ℤ) (f : List ℕ) (x : Field) → Ok x ≡ field_of (rule.High low) f → range_rule (suc i) x ≡ rule.Low
+unfolding field_of
+after_high i low f x e = two (level_of f) e
+  where
+    two : (r : Result ℤ Refusal) → Ok x ≡ high_field low r → range_rule (suc i) x ≡ rule.Low
+    two (Ok z) e = fits (le_z low z) e
+      where
+        fits : (b : Bool) → Ok x ≡ cond b (Ok (field.High z)) (Err refusal.Range) → range_rule (suc i) x ≡ rule.Low
+        fits true e = let same : x ≡ field.High z = cc in rw (same, ne_eqb (suc i) 0 (λ q. omega arith))
+        fits false e = cc
+    two (Err k) e = cc
+
+after_tag : (i t : ℕ) (f : List ℕ) (x : Field) → Ok x ≡ field_of (rule.Tag t) f → range_rule (suc i) x ≡ rule.Low
+unfolding field_of
+after_tag i t f x e = two (letter t f) e
+  where
+    two : (b : Bool) → Ok x ≡ cond b (Ok field.Good) (Err refusal.Form) → range_rule (suc i) x ≡ rule.Low
+    two true e = let same : x ≡ field.Good = cc in rw (same, ne_eqb (suc i) 0 (λ q. omega arith))
+    two false e = cc
+
+-- behind the tag the place says nothing
+range_later : (i : ℕ) (x : Field) → range_rule 1 x ≡ range_rule (suc i) x
+range_later i (field.Low z) = refl
+range_later i (field.Quantiser q) = sym (ap (λ (b : Bool). cond b (rule.Tag 71) rule.Low) (ne_eqb (suc i) 0 (λ q. omega arith)))
+range_later i (field.Level z) = sym (ap (λ (b : Bool). cond b (rule.Tag 71) rule.Low) (ne_eqb (suc i) 0 (λ q. omega arith)))
+range_later i (field.High z) = sym (ap (λ (b : Bool). cond b (rule.Tag 71) rule.Low) (ne_eqb (suc i) 0 (λ q. omega arith)))
+range_later i field.Good = sym (ap (λ (b : Bool). cond b (rule.Tag 71) rule.Low) (ne_eqb (suc i) 0 (λ q. omega arith)))
 
 -- the rule of field i of a line G is the one by the field before
-pub range_at : (fs : List (List ℕ)) (i : ℕ) (last : Field) → i < 129 → Ok last ≡ said_before (range_rules fs) fs i → range_rule i last ≡ get_or (range_rules fs) i (rule.Tag 0)
-range_at fs zero last h e = refl
-range_at fs (suc k) last h e = rw (ne_eqb (suc k) 0 (λ q. omega arith)) (turn (eqb (suc k % 2) 1) refl)
+range_at : (fs : List (List ℕ)) (i : ℕ) (last : Field) → i < 129 → Ok last ≡ said_before (range_rules fs) fs i → range_rule i last ≡ get_or (range_rules fs) i (rule.Tag 0)
+range_at fs zero last h e = let same : last ≡ field.Good = cc in rw same
+range_at fs (suc zero) last h e = after_tag 0 71 (get_or fs 0 []) last e
+range_at fs (suc (suc k)) last h e = turn (eqb (k % 2) 0) refl
   where
-    -- a low
-    even : (j : ℕ) → k ≡ 2 * j → rule.Low ≡ get_or (range_rules fs) (suc k) (rule.Tag 0)
-    even j q = sym (ap (λ (n : ℕ). get_or (range_rules fs) (suc n) (rule.Tag 0)) q ∙ pair_low (rule.Tag 0) 64 (drop 1 fs) j (omega arith))
+    said : (n : ℕ) (r : Rule) → suc k ≡ n → get_or (range_rules fs) n (rule.Tag 0) ≡ r → Ok last ≡ field_of r (get_or fs n [])
+    said n r q p = e ∙ ap (λ (n : ℕ). field_of (get_or (range_rules fs) n (rule.Tag 0)) (get_or fs n [])) q ∙ ap (λ (r : Rule). field_of r (get_or fs n [])) p
 
-    -- a high: the field before is its low
-    odd : (j : ℕ) → k ≡ suc (2 * j) → rule.High (low_said last) ≡ get_or (range_rules fs) (suc k) (rule.Tag 0)
+    -- a low, after a high
+    odd : (j : ℕ) → k ≡ suc (2 * j) → range_rule (suc (suc k)) last ≡ get_or (range_rules fs) (suc (suc k)) (rule.Tag 0)
     odd j q =
-        let n : j < 64 = omega arith in
-        let f = get_or fs (suc (2 * j)) [] in
-        let low : get_or (range_rules fs) (suc (2 * j)) (rule.Tag 0) ≡ rule.Low = pair_low (rule.Tag 0) 64 (drop 1 fs) j n in
-        let said : Ok last ≡ field_of rule.Low f = e ∙ ap (λ (n : ℕ). field_of (get_or (range_rules fs) n (rule.Tag 0)) (get_or fs n [])) q ∙ ap (λ (r : Rule). field_of r f) low in
-        let one : 1 + 2 * j ≡ suc (2 * j) = omega arith in
-        let same : get_or (drop 1 fs) (2 * j) [] ≡ f = get_or-drop 1 fs (2 * j) [] ∙ ap (λ (n : ℕ). get_or fs n []) one in
-        ap rule.High (low-said f last said)
-        ∙ sym (ap (λ (n : ℕ). get_or (range_rules fs) (suc n) (rule.Tag 0)) q ∙ pair_high (rule.Tag 0) 64 (drop 1 fs) j n ∙ ap (λ (f : List ℕ). rule.High (level_value (level_of f))) same)
+        let fs' = drop 1 fs in
+        let n : suc k ≡ suc (suc (2 * j)) = omega (arith, q) in
+        let m : suc k ≡ 2 * suc j = omega (arith, q) in
+        after_high (suc k) _ _ last (said _ _ n (pair_high (rule.Tag 0) 64 fs' j (omega (arith, q, h))))
+        ∙ sym (ap (λ (n : ℕ). get_or (range_rules fs) (suc n) (rule.Tag 0)) m ∙ pair_low (rule.Tag 0) 64 fs' (suc j) (omega (arith, q, h)))
 
-    turn : (b : Bool) → eqb (suc k % 2) 1 ≡ b → cond b rule.Low (rule.High (low_said last)) ≡ get_or (range_rules fs) (suc k) (rule.Tag 0)
-    turn true q = even (k / 2) (omega (arith, eqb-true (suc k % 2) 1 q))
-    turn false q = odd (k / 2) (omega (arith, eqb-false (suc k % 2) 1 q))
+    -- a high, after its low
+    even : (j : ℕ) → k ≡ 2 * j → range_rule (suc (suc k)) last ≡ get_or (range_rules fs) (suc (suc k)) (rule.Tag 0)
+    even j q =
+        let fs' = drop 1 fs in
+        let n : suc k ≡ suc (2 * j) = omega (arith, q) in
+        let f = get_or fs (suc (2 * j)) [] in
+        let one : 1 + 2 * j ≡ suc (2 * j) = omega arith in
+        let same : get_or fs' (2 * j) [] ≡ f = get_or-drop 1 fs (2 * j) [] ∙ ap (λ (n : ℕ). get_or fs n []) one in
+        after_low (suc (suc k)) f last (said _ _ n (pair_low (rule.Tag 0) 64 fs' j (omega (arith, q, h))))
+        ∙ sym (ap (λ (n : ℕ). get_or (range_rules fs) (suc n) (rule.Tag 0)) n ∙ pair_high (rule.Tag 0) 64 fs' j (omega (arith, q, h)) ∙ ap (λ (f : List ℕ). rule.High (level_value (level_of f))) same)
+
+    turn : (b : Bool) → eqb (k % 2) 0 ≡ b → range_rule (suc (suc k)) last ≡ get_or (range_rules fs) (suc (suc k)) (rule.Tag 0)
+    turn true q = even (k / 2) (omega (arith, eqb-true (k % 2) 0 q))
+    turn false q = odd (k / 2) (omega (arith, eqb-false (k % 2) 0 q))
+
+-- the same behind the tag, where the code doesn't ask for the place
+pub range_behind : (fs : List (List ℕ)) (i : ℕ) (last : Field) → (i ≡ 0 → ⊥) → i < 129 → Ok last ≡ said_before (range_rules fs) fs i → range_rule 1 last ≡ get_or (range_rules fs) i (rule.Tag 0)
+range_behind fs zero last o h e = absurd (o refl)
+range_behind fs (suc i) last o h e = range_later i last ∙ range_at fs (suc i) last h e
 
 module _ (h : Header) (i : ℕ) where
   pub hold_most : (c : ℕ) → 1 ≤ i → i < 4 → c ≡ i - 1 → rule.Range refusal.Hold 0 (measured h c) ≡ get_or (hold_rules h) i (rule.Tag 0)
@@ -171,4 +216,25 @@ module _ (i : ℕ) where
       three (suc (suc (suc zero))) o k = refl
       three (suc (suc (suc (suc j)))) o k = let z : ⊥ = omega arith in absurd z
 
-pub ruleset rules = (mark_number, hold_most, header_side, header_shown, header_count, header_weight, channel_side, channel_factor)
+-- the rule of the first field is the line's tag
+pub first_rule : (t : Tag) (limits : Limits) (h : Header) (fs : List (List ℕ)) → rule.Tag (letter_of t) ≡ get_or (rules_of (letter_of t) limits h fs) 0 (rule.Tag 0)
+unfolding rules_of
+first_rule tags.Header limits h fs = refl
+first_rule tags.Rounding limits h fs = refl
+first_rule tags.Start limits h fs = refl
+first_rule tags.Hold limits h fs = refl
+first_rule tags.Channel limits h fs = refl
+first_rule tags.Block limits h fs = refl
+first_rule tags.Range limits h fs = refl
+first_rule tags.Mark limits h fs = refl
+first_rule tags.End limits h fs = refl
+
+-- the second of two letters' rules
+pub choice_second : (tag a b i : ℕ) → (i ≡ 0 → ⊥) → i < 2 → rule.Letters a b ≡ get_or (choice_rules tag a b) i (rule.Tag 0)
+choice_second tag a b zero o k = absurd (o refl)
+choice_second tag a b (suc zero) o k = refl
+choice_second tag a b (suc (suc i)) o k = let z : ⊥ = omega arith in absurd z
+
+pub ruleset later_rules = (choice_second, block_level, mark_number)
+
+pub ruleset rules = (hold_most, header_side, header_shown, header_count, header_weight, channel_side, channel_factor)

@@ -1,5 +1,5 @@
 -- What the field before a field said: by it the rule of a high has its low.
-use Rattle.std.specs.Prelude.{ℕ, zero, suc, ◌%◌, List, [], cond, eqb, ℤ, pos, get_or, Ok, Result}
+use Rattle.std.specs.Prelude.{ℕ, zero, suc, List, [], cond, eqb, get_or, Ok, Result}
 use Rattle.refusal.specs.declared.Refusal.{Refusal}
 use Rattle.text.specs.declared.field.Rule.{Rule}
 use Rattle.text.specs.declared.field.Rule.TheVariants as rule
@@ -12,13 +12,10 @@ abbrev pub said_before : List Rule → List (List ℕ) → ℕ → Result Field 
 said_before rs fs zero = Ok field.Good
 said_before rs fs (suc i) = field_of (get_or rs i (rule.Tag 0)) (get_or fs i [])
 
--- The rule of field i of a line `G`, by what the field before it said
-abbrev pub low_said : Field → ℤ
-low_said (field.Quantiser q) = pos 0
-low_said (field.Level z) = pos 0
-low_said (field.Low z) = z
-low_said (field.High z) = pos 0
-low_said field.Good = pos 0
-
+-- The rule of field i of a line `G`, by what the field before it said: after a low its high, else a low, and first the tag
 abbrev pub range_rule : ℕ → Field → Rule
-range_rule i last = cond (eqb i 0) (rule.Tag 71) (cond (eqb (i % 2) 1) rule.Low (rule.High (low_said last)))
+range_rule i (field.Low z) = rule.High z
+range_rule i (field.Quantiser q) = cond (eqb i 0) (rule.Tag 71) rule.Low
+range_rule i (field.Level z) = cond (eqb i 0) (rule.Tag 71) rule.Low
+range_rule i (field.High z) = cond (eqb i 0) (rule.Tag 71) rule.Low
+range_rule i field.Good = cond (eqb i 0) (rule.Tag 71) rule.Low

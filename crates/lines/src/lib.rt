@@ -1,12 +1,13 @@
 // The lines: the rule of each field, and what a good line holds.
 #![tactic(auto)]
 
-ghost use Rattle.std.specs.Prelude.{◌≡◌, [], ◌<◌, get_or, Ok};
+ghost use Rattle.std.specs.Prelude.{◌≡◌, [], ◌∷◌, ◌+◌, ◌<◌, get_or, Ok};
 ghost use Rattle.text.specs.Pieces.{split};
-ghost use Rattle.lines.specs.Lines.{header_rules, choice_rules, letter_of, letter_in, hold_rules, hold_of, mark_rules, mark_of, channel_rules, block_rules, rules_of, field_count, header_of, channel_of, record_of};
-ghost use Rattle.lines.specs.Said.{said_before, low_said, range_rule};
+ghost use Rattle.text.specs.Weights.{weight_at};
+ghost use Rattle.lines.specs.Lines.{header_rules, letter_of, letter_in, hold_rules, hold_of, mark_of, channel_rules, rules_of, field_count, header_of, channel_of, record_of};
+ghost use Rattle.lines.specs.Said.{said_before, range_rule};
 
-use contents::{Channel, Header, Letter, Limits, Mark, measured_by};
+use contents::{Channel, Header, Letter, Limits, Mark, Weight, measured_by};
 use refusal::Refusal;
 use text::field::{Field, Rule};
 use text::{field, number, weight};
@@ -80,13 +81,14 @@ pub fn field_count(tag: Tag) -> usize
     }
 }
 
+// The rule of a header's field behind the tag.
+// Kept: that it stands behind the tag, here and in the rules of a channel and of the held counts: the tag's rule, that of place 0, is `rule_at`'s own; the places are those of the line's fields, whose first is the tag, as in `header_of` and in document 01's examples.
 #[tactic(auto, using(crate::proofs::LineLaws::rules))]
 fn header_rule(i: usize, limits: Limits, row: &[u8]) -> Rule
-    requires { i < 16 }
+    requires { (0 < i) × (i < 16) }
     ensures { result ≡ get_or (header_rules limits (split 9 row.now)) i (Rule.Tag 0) }
 {
     match i {
-        0 => Rule::Tag(b'S'),
         1 | 2 => Rule::Side(limits.side),
         3 | 4 => Rule::Range {
             fault: Refusal::Size,
@@ -102,11 +104,10 @@ fn header_rule(i: usize, limits: Limits, row: &[u8]) -> Rule
 
 #[tactic(auto, using(crate::proofs::LineLaws::rules))]
 fn channel_rule(i: usize) -> Rule
-    requires { i < 69 }
+    requires { (0 < i) × (i < 69) }
     ensures { result ≡ get_or channel_rules i (Rule.Tag 0) }
 {
     match i {
-        0 => Rule::Tag(b'C'),
         1 | 2 => Rule::Side(999999),
         3 | 4 => Rule::Range {
             fault: Refusal::Factor,
@@ -117,57 +118,22 @@ fn channel_rule(i: usize) -> Rule
     }
 }
 
-fn block_rule(i: usize) -> Rule
-    requires { i < 65 }
-    ensures { result ≡ get_or block_rules i (Rule.Tag 0) }
-{
-    if i == 0 { Rule::Tag(b'B') } else { Rule::Level }
-}
-
-// The low that a field said; 0 where it said another thing.
-fn low_said(last: Field) -> i16
-    ensures { result ≡ low_said last }
+// A block with 64 pairs: behind the tag low and high by turns. A high's rule has the low before it.
+fn range_rule(last: Field) -> Rule
+    ensures { result ≡ range_rule 1 last }
 {
     match last {
-        Field::Low(z) => z,
-        Field::Quantiser(_) | Field::Level(_) | Field::High(_) | Field::Good => 0,
-    }
-}
-
-// A block with 64 pairs: tag, then low and high by turns. A high's rule has the low before it.
-fn range_rule(i: usize, last: Field) -> Rule
-    ensures { result ≡ range_rule i last }
-{
-    if i == 0 {
-        return Rule::Tag(b'G');
-    }
-    if i % 2 == 1 {
-        return Rule::Low;
-    }
-    Rule::High(low_said(last))
-}
-
-// A setting with one of two letters.
-fn choice_rule(i: usize, tag: Tag, a: u8, b: u8) -> Rule
-    requires { i < 2 }
-    ensures { result ≡ get_or (choice_rules (letter_of tag) a b) i (Rule.Tag 0) }
-{
-    if i == 0 {
-        Rule::Tag(tag.letter())
-    } else {
-        Rule::Letters(a, b)
+        Field::Low(low) => Rule::High(low),
+        _ => Rule::Low,
     }
 }
 
 // Three held counts, each against its iteration count.
 #[tactic(auto, using(crate::proofs::LineLaws::rules))]
 fn hold_rule(i: usize, header: Header) -> Rule
-    requires { i < 4 }
+    requires { (0 < i) × (i < 4) }
     ensures { result ≡ get_or (hold_rules header) i (Rule.Tag 0) }
 {
-    if i == 0 {
-        return Rule::Tag(b'H');
-    }
     Rule::Range {
         fault: Refusal::Hold,
         low: 0,
@@ -175,39 +141,39 @@ fn hold_rule(i: usize, header: Header) -> Rule
     }
 }
 
-// A mark: three numbers, with no range of their own.
-#[tactic(auto, using(crate::proofs::LineLaws::rules))]
-fn mark_rule(i: usize) -> Rule
-    requires { i < 4 }
-    ensures { result ≡ get_or mark_rules i (Rule.Tag 0) }
-{
-    if i == 0 {
-        return Rule::Tag(b'N');
-    }
-    Rule::Range {
-        fault: Refusal::Form,
-        low: 0,
-        high: 999999,
-    }
-}
-
 // The rule of field i of a line after this header. The field before it said `last`, so that a rule can depend on it and nothing is read twice.
-#[tactic(auto, unfolding(crate::specs::Lines::rules_of, crate::specs::Lines::field_count))]
+#[tactic(auto, using(crate::proofs::LineLaws::first_rule, crate::proofs::LineLaws::later_rules), unfolding(crate::specs::Lines::rules_of, crate::specs::Lines::field_count))]
 pub fn rule_at(tag: Tag, i: usize, limits: Limits, header: Header, last: Field, row: &[u8]) -> Rule
     requires { (i < field_count (letter_of tag)) × (Ok last ≡ said_before (rules_of (letter_of tag) limits header (split 9 row.now)) (split 9 row.now) i) }
     ensures { result ≡ get_or (rules_of (letter_of tag) limits header (split 9 row.now)) i (Rule.Tag 0) }
 {
+    if i == 0 {
+        return Rule::Tag(tag.letter());
+    }
     match tag {
         Tag::Header => header_rule(i, limits, row),
-        Tag::Rounding => choice_rule(i, tag, b't', b'n'),
-        Tag::Start => choice_rule(i, tag, b'm', b'o'),
+        Tag::Rounding => Rule::Letters(b't', b'n'),
+        Tag::Start => Rule::Letters(b'm', b'o'),
         Tag::Hold => hold_rule(i, header),
         Tag::Channel => channel_rule(i),
-        Tag::Block => block_rule(i),
-        Tag::Range => range_rule(i, last),
-        Tag::Mark => mark_rule(i),
-        Tag::End => Rule::Tag(b'E'),
+        Tag::Block => Rule::Level,
+        Tag::Range => range_rule(last),
+        Tag::Mark => Rule::Range {
+            fault: Refusal::Form,
+            low: 0,
+            high: 999999,
+        },
+        // its tag is its one field
+        Tag::End => unreachable!(),
     }
+}
+
+// The three weights from field i on.
+fn weights_at(row: &[u8], i: usize) -> [Weight; 3]
+    requires { i < 14 }
+    ensures { result ≡ weight_at (split 9 row.now) i ∷ weight_at (split 9 row.now) (i + 1) ∷ weight_at (split 9 row.now) (i + 2) ∷ [] }
+{
+    [i, i + 1, i + 2].map(|k| weight::weight_at(row, k))
 }
 
 #[tactic(auto, unfolding(crate::specs::Lines::header_of))]
@@ -221,21 +187,9 @@ fn header_of(row: &[u8]) -> Header
         picture_height: number::number_at(row, 4),
         channels: number::number_at(row, 5),
         joint: field::letter_at(row, 6, b'j'),
-        iterations: [
-            number::number_at(row, 7),
-            number::number_at(row, 8),
-            number::number_at(row, 9),
-        ],
-        smoothing: [
-            weight::weight_at(row, 10),
-            weight::weight_at(row, 11),
-            weight::weight_at(row, 12),
-        ],
-        data_weights: [
-            weight::weight_at(row, 13),
-            weight::weight_at(row, 14),
-            weight::weight_at(row, 15),
-        ],
+        iterations: [7, 8, 9].map(|i| number::number_at(row, i)),
+        smoothing: weights_at(row, 10),
+        data_weights: weights_at(row, 13),
     }
 }
 
@@ -266,11 +220,7 @@ fn letter_in(row: &[u8], i: usize, a: u8) -> Letter
 fn hold_of(row: &[u8]) -> [u32; 3]
     ensures { result ≡ hold_of (split 9 row.now) }
 {
-    [
-        number::number_at(row, 1),
-        number::number_at(row, 2),
-        number::number_at(row, 3),
-    ]
+    [1, 2, 3].map(|i| number::number_at(row, i))
 }
 
 // The mark of a line N: its channel, row and column. Ruled out: the column as the row; the line's first field as its channel.
@@ -286,6 +236,8 @@ pub fn mark_of(row: &[u8]) -> Mark
 }
 
 // What a good line holds.
+// Kept: E, which holds nothing, is answered as a block's line, which holds nothing but what went to the buffers: `sheet::walk` leaves its loop at E before it asks, a clause that says so would ask more of
+// callers, and as an Option the answer would be opened there for a None that never comes.
 #[tactic(auto, unfolding(crate::specs::Lines::record_of))]
 pub fn record_of(tag: Tag, row: &[u8]) -> Record
     ensures { result ≡ record_of (letter_of tag) (split 9 row.now) }

@@ -36,10 +36,13 @@ unfolding decimal
 refusal_text number line = ended (numbers_line 88 number line ∷ [])
 
 -- M-103: "`T`, channel of the run's start (0 in joint mode), step from 1, and both totals as 16 lowercase hexadecimal digits of their bits (a NaN as
--- 7ff8000000000000)", which is what `to_bits` gives of a NaN. k counts the run's steps from 0, and `totals` has two places for each.
+-- 7ff8000000000000)", which is what `to_bits` gives of a NaN. k counts the run's steps from 0
+abbrev pub total_line : ℕ → ℕ → Float → Float → List ℕ
+total_line channel k x y = joined ((84 ∷ []) ∷ decimal channel ∷ decimal (k + 1) ∷ hex_of 16 (to_bits binary64 x) ∷ hex_of 16 (to_bits binary64 y) ∷ [])
+
+-- `totals` has two places for each step
 abbrev pub step_line : ℕ → List Float → ℕ → List ℕ
-step_line channel totals k =
-    joined ((84 ∷ []) ∷ decimal channel ∷ decimal (k + 1) ∷ hex_of 16 (to_bits binary64 (get_or totals (k * 2) nan)) ∷ hex_of 16 (to_bits binary64 (get_or totals (k * 2 + 1) nan)) ∷ [])
+step_line channel totals k = total_line channel k (get_or totals (k * 2) nan) (get_or totals (k * 2 + 1) nan)
 
 -- the lines of a run's steps
 unfoldable pub totals_text : ℕ → ℕ → List Float → List ℕ

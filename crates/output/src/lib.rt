@@ -1,17 +1,17 @@
 // The text that the program `smooth` prints, written to a lent output from its place on.
 #![tactic(auto)]
 
-ghost use Rattle.std.specs.Prelude.{[], ◌∷◌, ◌+◌, ◌*◌, ◌^◌, ◌≤◌, ◌<◌, ◌≡◌, length};
-ghost use Rattle.std.specs.Float.{binary64};
+ghost use Rattle.std.specs.Prelude.{[], ◌∷◌, ◌+◌, ◌*◌, ◌^◌, ◌≤◌, ◌<◌, ◌≡◌, ◌/◌, length, get_or};
+ghost use Rattle.std.specs.Float.{nan, binary64};
 ghost use Rattle.std.specs.Float.Ieee.{to_bits};
-ghost use Rattle.digits.specs.Written.{decimal, hex_byte, hex_of, ended};
+ghost use Rattle.digits.specs.Written.{decimal, hex_byte, hex_of, joined, ended};
 ghost use Rattle.copying.specs.Parts.{Put};
-ghost use Rattle.output.specs.Output.{numbers_line, pixel, row_line, picture_text, picture_room, picture_fits, picture_into, refusal_into, step_line, totals_text, totals_fits, totals_into, clipped_fits, clipped_into, refusal_fits, room, Adds};
+ghost use Rattle.output.specs.Output.{each, numbers_line, pixel, picture_text, picture_room, picture_fits, picture_into, refusal_into, total_line, totals_text, totals_fits, totals_into, clipped_fits, clipped_into, refusal_fits, room, Adds};
 
 use copying::Writer;
 
 // A tab and a number.
-// Kept: it is two calls of the writer's, a tab and a number; see `Writer::put_digits`.
+// Kept: nothing is printed by hand here: it is `put_byte` and `put_decimal` of the `Writer`, whose digits are kept for the reason at `Writer::put_digits`.
 fn put_number(n: usize, to: &mut Writer)
     requires { to.old.at + (1 + length (decimal n)) < 2 ^ 64 }
     ensures { Put to.old (9 ∷ decimal n) to.new }
@@ -54,7 +54,7 @@ fn hex_digit(d: u8) -> u8
 }
 
 // The last k hexadecimal digits of a number.
-// Kept: as `Writer::put_digits`.
+// Kept: as `Writer::put_digits`; and `hex::encode_to_slice` of the kit writes into a buffer that is just as long, so that both its uses here would need a buffer, an `unwrap` and a `put`.
 fn put_hex(k: usize, n: u64, to: &mut Writer)
     requires { to.old.at + k < 2 ^ 64 }
     ensures { Put to.old (hex_of k n) to.new }
@@ -76,45 +76,46 @@ fn put_total(x: f64, to: &mut Writer)
 }
 
 // The line of the two totals of step k, which counts from 0.
-fn put_step(channel: usize, totals: &[f64], k: usize, to: &mut Writer)
-    requires { (channel ≤ 9) × (k ≤ 9998) × (k * 2 + 2 ≤ length totals.now) × (to.old.at + 43 < 2 ^ 64) }
-    ensures { Put to.old (ended (step_line channel totals.now k ∷ [])) to.new }
+fn put_step(channel: usize, k: usize, pair: [f64; 2], to: &mut Writer)
+    requires { (channel ≤ 9) × (k ≤ 9998) × (to.old.at + 43 < 2 ^ 64) }
+    ensures { Put to.old (ended (total_line channel k (get_or pair 0 nan) (get_or pair 1 nan) ∷ [])) to.new }
 {
     put_head(b'T', channel, k + 1, to);
-    put_total(totals[k * 2], to);
-    put_total(totals[k * 2 + 1], to);
+    put_total(pair[0], to);
+    put_total(pair[1], to);
     to.put_byte(b'\n');
 }
 
-// The lines of a run's steps that fit.
-fn put_totals(channel: usize, steps: usize, totals: &[f64], to: &mut Writer)
-    requires { (channel ≤ 9) × (steps ≤ 9999) × (length totals.now ≡ steps * 2) × (steps * 43 ≤ room to.old) }
-    ensures { Put to.old (totals_text channel steps totals.now) to.new }
+// The lines of a run's steps that fit, two totals for each.
+fn put_totals(channel: usize, totals: &[f64], to: &mut Writer)
+    requires { (channel ≤ 9) × (length totals.now / 2 ≤ 9999) × (length totals.now / 2 * 43 ≤ room to.old) }
+    ensures { Put to.old (totals_text channel (length totals.now / 2) totals.now) to.new }
 {
-    for k in 0..steps {
-        put_step(channel, totals, k, to);
+    let (pairs, _) = totals.as_chunks::<2>();
+    for (k, pair) in pairs.iter().enumerate() {
+        put_step(channel, k, *pair, to);
     }
 }
 
-// A tab and pixel k.
-fn put_pixel(rgb: &[u8], k: usize, to: &mut Writer)
-    requires { (3 * k + 3 ≤ length rgb.now) × (to.old.at + 7 < 2 ^ 64) }
-    ensures { Put to.old (9 ∷ pixel rgb.now k) to.new }
+// A tab and a pixel: its red, green and blue byte.
+fn put_pixel(rgb: [u8; 3], to: &mut Writer)
+    requires { to.old.at + 7 < 2 ^ 64 }
+    ensures { Put to.old (9 ∷ pixel rgb 0) to.new }
 {
     to.put_byte(b'\t');
-    put_hex(2, u64::from(rgb[3 * k]), to);
-    put_hex(2, u64::from(rgb[3 * k + 1]), to);
-    put_hex(2, u64::from(rgb[3 * k + 2]), to);
+    put_hex(2, u64::from(rgb[0]), to);
+    put_hex(2, u64::from(rgb[1]), to);
+    put_hex(2, u64::from(rgb[2]), to);
 }
 
-// The line of the row whose first pixel is number k.
-fn put_row(width: usize, rgb: &[u8], k: usize, to: &mut Writer)
-    requires { (3 * (k + width) ≤ length rgb.now) × (to.old.at + (7 * width + 2) < 2 ^ 64) }
-    ensures { Put to.old (ended (row_line width rgb.now k ∷ [])) to.new }
+// The line of a row of pixels.
+fn put_row(row: &[[u8; 3]], to: &mut Writer)
+    requires { to.old.at + (7 * length row.now + 2) < 2 ^ 64 }
+    ensures { Put to.old (ended (joined ((82 ∷ []) ∷ each (λ x. pixel (get_or row.now x []) 0) (length row.now)) ∷ [])) to.new }
 {
     to.put_byte(b'R');
-    for x in 0..width {
-        put_pixel(rgb, k + x, to);
+    for rgb in row {
+        put_pixel(*rgb, to);
     }
     to.put_byte(b'\n');
 }
@@ -125,8 +126,10 @@ fn put_picture(width: usize, height: usize, rgb: &[u8], to: &mut Writer)
     ensures { Put to.old (picture_text width height rgb.now) to.new }
 {
     put_numbers(b'I', width, height, to);
+    let (pixels, _) = rgb.as_chunks::<3>();
+    // Kept: `chunks_exact(width)` asks for a width above 0; at width 0 the text still has a line `R` for each row, and `chunks_exact` would give no row.
     for y in 0..height {
-        put_row(width, rgb, y * width, to);
+        put_row(&pixels[y * width..(y + 1) * width], to);
     }
 }
 
@@ -172,7 +175,7 @@ pub fn write_totals(channel: usize, steps: usize, totals: &[f64], to: &mut Write
     ensures { Adds to.old (totals_into channel steps totals.now (room to.old)) to.new }
 {
     if totals_fit(channel, steps, totals.len(), room(to)) {
-        put_totals(channel, steps, totals, to);
+        put_totals(channel, totals, to);
     }
 }
 

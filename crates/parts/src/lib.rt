@@ -155,13 +155,15 @@ impl<'a> Handed<'a> {
 }
 
 // Whether a channel is blown: a value of its plane or a saved coefficient is NaN or infinite.
+#[tactic(auto, unfolding(projection::specs::Blown::is_blown))]
 pub fn blown_part(turn: Turn, plane: &[f32], saved: &[f32]) -> bool
     requires { Whole turn.legal.run plane.now × Whole turn.legal.run saved.now }
     ensures { result ≡ is_blown (coefs (sheet_of turn.legal.run) turn.c) (part_of (turn.legal.run.w * turn.legal.run.h) turn.c plane.now)
         (part_of (turn.legal.run.w * turn.legal.run.h) turn.c saved.now) }
 {
     let s = turn.span();
-    projection::blown::is_blown(&plane[s.from..s.to], &saved[s.from..s.to], turn.coefs())
+    let saved = &saved[s.from..s.to];
+    projection::blown::is_blown(&plane[s.from..s.to], &saved[..turn.coefs()])
 }
 
 // What job 5 tells of a held channel, whose values stay (M-108): the test for the mark, and the number kept before.

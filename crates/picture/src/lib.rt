@@ -16,6 +16,8 @@ pub enum Rounding {
 }
 
 // The rounding of a letter's number: 1 is the nearest, any other number truncated. Ruled out: the nearest for 2, and for 0.
+// Kept: each number has its rounding, as in the definitions. By `TryFrom` the one caller would have `let Ok(rounding) = Rounding::try_from(rounding) else`, with the same refusal
+// after it, in the place of `if 1 < rounding`, and the definitions a second word for which numbers fail.
 impl From<u32> for Rounding {
     ghost use Rattle.picture.specs.Finish.{rounding_from};
 
@@ -128,6 +130,7 @@ fn pixel(rounding: Rounding, planes: Planes, at: usize) -> [u8; 3]
 }
 
 // The first pixels of the planes' row y, as many as the picture is wide.
+// Kept: tried with `out.chunks_exact_mut(3).enumerate()`, and the proof didn't close: of `out` after that loop only the length is known, and not what was stored in each part.
 fn row(rounding: Rounding, planes: Planes, y: usize, width: usize, out: &mut [u8])
     requires { (y < planes.h) × (width ≤ planes.w) × (length out.old ≡ width * 3) }
     ensures { out.new ≡ row (to_byte rounding) planes.entry.channels (planes.entry.w * planes.entry.h) planes.entry.values.now (y * planes.entry.w) width }
@@ -139,6 +142,7 @@ fn row(rounding: Rounding, planes: Planes, y: usize, width: usize, out: &mut [u8
 }
 
 // The top left part of the planes, row by row.
+// Kept: as `row`, with parts of `width * 3` bytes.
 fn rows(rounding: Rounding, planes: Planes, width: usize, height: usize, rgb: &mut [u8])
     requires { (width ≤ planes.w) × (height ≤ planes.h) × (length rgb.old ≡ height * (width * 3)) }
     ensures { rgb.new ≡ picture (to_byte rounding) planes.entry.w planes.entry.h width height planes.entry.channels planes.entry.values.now }
@@ -151,6 +155,7 @@ fn rows(rounding: Rounding, planes: Planes, width: usize, height: usize, rgb: &m
 }
 
 // A full side: a multiple of 8, 8 to 512.
+// Kept: `record` has this one line too, and says there why.
 fn side(n: u32) -> bool
     ensures { result ≡ side n }
 {
@@ -199,6 +204,7 @@ impl Shape {
 // The picture's bytes, pixel by pixel from the top left, made of the lent planes, which are only read.
 // Ruled out: 57 for green at planes 0, 0, 100, which is 56.586 before it is truncated, and 56 where the nearest is asked for; the second row
 // of a narrower picture taken from place `width` of the planes instead of place `w`; bytes changed, or 8 given, where the channel count is 2.
+// Kept: C lends the five numbers one by one, and `program` has them as fields of a header; a `Shape` handed in would only move its making to both callers.
 pub fn finish(
     rounding: Rounding,
     w: u32,

@@ -6,6 +6,7 @@ ghost use Rattle.gradients.specs.Blend.{blended, totals};
 ghost use Rattle.start.specs.Auxiliary.{aux_init};
 ghost use Rattle.projection.specs.Blown.{is_blown};
 ghost use Rattle.start.specs.Coef.{Covers, Lent, coef, pairs, reorder_from};
+ghost use Rattle.start.specs.AsCoef.{as_coef};
 ghost use Rattle.fidelity.specs.DctGradient.{data_gradient};
 ghost use Rattle.projection.specs.Projection.{clipped, project_onto_box, transformed};
 ghost use Rattle.probe.specs.Jobs.{own, bits_of};
@@ -13,6 +14,37 @@ ghost use Rattle.probe.specs.Jobs.{own, bits_of};
 use gradients::grid::Grid;
 use start::coef::{Coef, Own, Reorder};
 use steps::solve::step_constants;
+
+// A channel's coefficients, of the numbers and slices that three of the functions for C are lent.
+fn coef_of<'a>(
+    width: usize,
+    height: usize,
+    fx: usize,
+    fy: usize,
+    w: usize,
+    h: usize,
+    lows: &'a [i16],
+    highs: &'a [i16],
+    table: &'a [u16],
+) -> Coef<'a>
+    requires { Covers (own width height fx fy) w h × Lent (own width height fx fy) (pairs lows.now highs.now) table.now }
+    ensures coef { as_coef result ≡ coef (own width height fx fy) (pairs lows.now highs.now) table.now }
+    ensures full { (result.w ≡ w) × (result.h ≡ h) }
+{
+    Coef {
+        own: Own {
+            width,
+            height,
+            horizontal: fx,
+            vertical: fy,
+        },
+        w,
+        h,
+        lows,
+        highs,
+        table,
+    }
+}
 
 // Start of one channel: own sides `width` and `height`, factors fx across and fy down, full sides w and h, and reordered once where `reorder` is 1.
 // Kept: a function for C takes numbers and slices alone, so the facts that a `Coef` carries stand here, and in the contracts of probe_data and probe_project.
@@ -49,20 +81,7 @@ pub extern "C" fn probe_start(
     }
         ≡ aux_init (reorder_from reorder) (coef (own width height fx fy) (pairs lows.now highs.now) table.now) w h }
 {
-    let own = Own {
-        width,
-        height,
-        horizontal: fx,
-        vertical: fy,
-    };
-    let coef = Coef {
-        own,
-        w,
-        h,
-        lows,
-        highs,
-        table,
-    };
+    let coef = coef_of(width, height, fx, fy, w, h, lows, highs, table);
     let order = Reorder::from(reorder);
     start::auxiliary::start(plane, prior, gradient, across, down, saved, &coef, order);
 }
@@ -110,20 +129,7 @@ pub extern "C" fn probe_data(
         ≡ data_gradient (coef (own width height fx fy) (pairs lows.now highs.now) table.now)
         w h weight saved.now }
 {
-    let own = Own {
-        width,
-        height,
-        horizontal: fx,
-        vertical: fy,
-    };
-    let coef = Coef {
-        own,
-        w,
-        h,
-        lows,
-        highs,
-        table,
-    };
+    let coef = coef_of(width, height, fx, fy, w, h, lows, highs, table);
     fidelity::dct_gradient::data(saved, gradient, &coef, weight);
 }
 
@@ -208,28 +214,16 @@ pub extern "C" fn probe_project(
         (transformed (coef (own width height fx fy) (pairs lows.now highs.now) table.now) w h
         (record { plane = plane.old; across = across.old; down = down.old; saved = saved.old }))) }
 {
-    let own = Own {
-        width,
-        height,
-        horizontal: fx,
-        vertical: fy,
-    };
-    let coef = Coef {
-        own,
-        w,
-        h,
-        lows,
-        highs,
-        table,
-    };
+    let coef = coef_of(width, height, fx, fy, w, h, lows, highs, table);
     projection::projection::project_onto_box(plane, across, down, saved, &coef)
 }
 
 // The condition of job 5, of the plane and the n saved coefficients: 1 where it holds, 0 where not.
+#[tactic(auto, unfolding(projection::specs::Blown::is_blown))]
 #[unsafe(no_mangle)]
 pub extern "C" fn probe_blown(plane: &[f32], saved: &[f32], n: usize) -> u32
     requires { n ≤ length saved.now }
     ensures { result ≡ cond (is_blown n plane.now saved.now) 1 0 }
 {
-    u32::from(projection::blown::is_blown(plane, saved, n))
+    u32::from(projection::blown::is_blown(plane, &saved[..n]))
 }

@@ -77,7 +77,3 @@ one_written f u v w c below small big early b =
     let same : length v.out.now ≡ length u.out.now = wrote_length early.0.wrote within in
     let line = adds_as (clipped-into c (f c) (room v) (omega arith) (omega arith) (omega (arith, early.1))) b in
     (rw add-one (adds_more within early.0 line), omega (arith, early.1, line.wrote.count, clipped_room_32 c (f c) (omega arith) (omega arith)))
-
--- all of them
-pub lines_end : (f : ℕ → ℕ) {c n : ℕ} → c ≡ n → clipped_lines c f ≡ clipped_lines n f
-lines_end f e = ap (λ (k : ℕ). clipped_lines k f) e

@@ -36,7 +36,9 @@ use Rattle.record.specs.declared.Accepted.TheVariants.{Done}
 use Rattle.record.specs.Model.{answer_of}
 use Rattle.calls.proofs.Tests.{sized_names}
 use Rattle.rounds.specs.Whole.{Loan, loan, ClippedAre, Ended, Ends}
-use Rattle.solve.specs.Solve.{blend_count, whole_of, planes, blows, totals_of, clipped_at, number_in, SolveIs}
+use Rattle.solve.specs.Solve.{blend_count, whole_of, planes, blows, totals_of, clipped_at, number_in, answered, SolveIs}
+use Rattle.solve.specs.declared.Solved.{Solved}
+use Rattle.solve.specs.declared.Solved.TheVariants as solved
 use Rattle.rounds.proofs.Ends.{is_done, not_done}
 use Rattle.solve.proofs.Laws.{whole_channels}
 use Rattle.picture.specs.declared.Rounding.{Rounding}
@@ -75,15 +77,14 @@ paints f h l ps long rgb rgb' room t e u v m w =
 
 -- ---- solved_with: how solving a legal sheet ends
 
--- accepted, by what was accepted
-pub is_accepted : (a : Result Accepted Refusal) (f : Accepted) → a ≡ Ok f → f ≡ Done → a ≡ Ok Done
-is_accepted a f e p = e ∙ ap Ok p
+pub is_ok : (a : Result Solved Refusal) → IsOk (answered a) → IsOk a
+is_ok (Ok x) p = refl
+is_ok (Err r) p = p
 
-pub not_accepted : (a : Result Accepted Refusal) (f : Accepted) → a ≡ Ok f → (f ≡ Done → ⊥) → a ≡ Ok Done → ⊥
-not_accepted a f e other q = other (ok_same f Done (sym e ∙ q))
-  where
-    ok_same : (f g : Accepted) → ◌≡◌ {A = Result Accepted Refusal} (Ok f) (Ok g) → f ≡ g
-    ok_same f g p = cc
+-- without numbers it is not done
+pub none_done : (x : Solved) → ((ks : List ℕ) → x ≡ solved.Done ks → ⊥) → answered (Ok x) ≡ Ok Done → ⊥
+none_done (solved.Done ks) f e = f ks refl
+none_done solved.Blown f e = let z : ◌≡◌ {A = ℕ} 0 1 = cc e in absurd (omega arith)
 
 module _ (S : Sheet) (b : Lent) (l : LegalSheet limits S b) (B : Buffers)
     (long : SixLong S.header B.plane B.prior B.gradient B.across B.down B.saved) (T₀ : List Float) (room : length T₀ ≡ blend_count S * 2)
@@ -236,13 +237,6 @@ room_small text n m e = by (read_text limits text) refl e
         )
     by (Refused k at) q e = absurd (let z : ◌≡◌ {A = ℕ} 0 1 = cc in omega arith)
 
--- the front of a list, as a part from place 0
-pub front_long : {A : Type 0} (n : ℕ) (xs : List A) → n ≤ length xs → length (take (n - 0) xs) ≡ n
-front_long n xs h = let e : n - 0 ≡ n = omega arith in rw e (length-take-le n xs h)
-
-pub same_room : (o : Outcome Lengths) (n m n' m' : ℕ) → o ≡ Gives (record { levels = n; tables = m }) → n' ≡ n → m' ≡ m → o ≡ Gives (record { levels = n'; tables = m' })
-same_room o n m n' m' e p q = e ∙ (λ i. Gives (record { levels = sym p i; tables = sym q i }))
-
 -- ---- answer: the refusal of measuring is that of reading
 
 -- the code's constant
@@ -252,9 +246,6 @@ decided = 39294
 pub decisive_32 : decisive 32 ≡ decided
 unfolding decisive longest decimal
 decisive_32 = refl
-
-pub measured_room : (o : Outcome Lengths) (r : Result Lengths walk.Refused) (n : Lengths) → Walk.said r ≡ o → r ≡ Ok n → o ≡ Gives n
-measured_room o r n e p = sym e ∙ ap Walk.said p
 
 pub refusal-text : (text : List ℕ) → length text ≤ decisive 32 → (r : Result Lengths walk.Refused) (f : walk.Refused) → Walk.said r ≡ measuring limits text → r ≡ Err f → (k : ℕ) → k ≡ number_of f.refusal
     → (u v : Writer) → most_printed ≤ space u → Adds u (refusal_into k f.line (space u)) v → Adds u (printed text) v

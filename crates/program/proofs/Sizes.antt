@@ -25,9 +25,6 @@ module _ (h : Header) (l : LegalHeader limits h) where
   pub values_small : h.channels * (h.width * h.height) ≤ 3072
   values_small = mul-le-mul (at-most h.channels l.channels) area_small
 
-  pub shown_small : h.picture_width * h.picture_height ≤ 1024
-  shown_small = mul-le-mul {n₂ = 32} {m₂ = 32} (omega (arith, l.shown_width.top, l.width.top)) (omega (arith, l.shown_height.top, l.height.top))
-
   -- finish does its work
   side_test : (n : ℕ) → LegalSide 32 n → T (Finish.side n)
   side_test n s = full_test n (wider 32 512 n s (omega arith))

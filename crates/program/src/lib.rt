@@ -4,7 +4,7 @@
 ghost use Rattle.std.specs.Prelude.{◌≡◌, ℕ, ◌+◌, ◌*◌, ◌≤◌, ◌<◌, false, length};
 ghost use Rattle.fold.specs.Join.{join_upto};
 ghost use Rattle.contents.specs.Sheets.{lent};
-ghost use Rattle.start.specs.Coef.{pairs};
+ghost use Rattle.record.specs.Lent.{levels_in, six_of};
 ghost use Rattle.sheet.specs.Calls.{measuring};
 ghost use Rattle.sheet.specs.declared.Lengths.{Lengths};
 ghost use Rattle.grammar.specs.Longest.{decisive};
@@ -17,12 +17,11 @@ ghost use Rattle.program.specs.Printed.{limits, painted, run_lines, totals_lines
 use contents::{Header, Limits, Reader, Sheet, chosen};
 use copying::Writer;
 use picture::Rounding;
-use record::Accepted;
 use record::lent::{Buffers, Given};
 use refusal::Refusal;
 use sheet::Lengths;
 use solve::counts::{blend_count, iterations_at, steps_before};
-use solve::solve;
+use solve::{Solved, solve};
 
 // So many bytes of a text decide what is printed for it: `decisive 32`.
 const DECISIVE: usize = 39294;
@@ -61,6 +60,7 @@ fn write_sums(s: Sheet, totals: &[f64], to: &mut Writer)
 }
 
 // The lines `K` of n channels.
+// Kept: n and three numbers, as `solve` gives them; `number_in`, by which the contract is said, is of those three.
 fn write_numbers(n: u32, clipped: [u32; 3], to: &mut Writer)
     requires { (n ≤ 3) × ((c : ℕ) → c < n → number_in clipped c ≤ 1024) × (27 + most_picture ≤ room to.old) }
     ensures { AddsTo 27 to.old (clipped_lines n (number_in clipped)) to.new }
@@ -98,53 +98,27 @@ fn paint(rounding: Rounding, h: Header, planes: &[f32], to: &mut Writer)
 // refuses nothing here.
 // Kept: `most_printed` is the room of an output that nothing is written to yet, here and in the four functions up to `smooth_text`. An array of `MOST_PRINTED` bytes
 // could say it, but then the three that write each make a `Writer` of it, and all five hand back how far it came; here one `Writer` goes through all.
-fn solved_with(
-    s: Sheet,
-    lows: &[i16],
-    highs: &[i16],
-    tables: &[u16],
-    plane: &mut [f32],
-    prior: &mut [f32],
-    gradient: &mut [f32],
-    across: &mut [f32],
-    down: &mut [f32],
-    saved: &mut [f32],
-    totals: &mut [f64],
-    to: &mut Writer,
-)
-    requires { LegalSheet limits s (lent lows.now highs.now tables.now) × SixLong s.header plane.old prior.old gradient.old across.old down.old saved.old
+fn solved_with(s: Sheet, given: Given, six: &mut Buffers, totals: &mut [f64], to: &mut Writer)
+    requires { let B = six_of six.old in
+        LegalSheet limits s (lent given.lows.now given.highs.now given.tables.now) × SixLong s.header B.plane B.prior B.gradient B.across B.down B.saved
         × (length totals.old ≡ blend_count s * 2) × (most_printed ≤ room to.old) }
-    ensures { Adds to.old (sheet_text s (pairs lows.now highs.now) tables.now) to.new }
+    ensures { Adds to.old (sheet_text s (levels_in given.entry) given.entry.tables.now) to.new }
 {
     let h = s.header;
     // Line F's letter; without it t holds.
     let rounding = chosen(s.settings.rounding, Rounding::Truncate, Rounding::Nearest);
-    let given = Given {
-        lows,
-        highs,
-        tables,
-    };
-    let mut lent = Buffers {
-        plane,
-        prior,
-        gradient,
-        across,
-        down,
-        saved,
-    };
-    let t = solve(s, given, &mut lent, totals);
-    let Accepted::Done = t.answer.unwrap() else {
+    let Solved::Done(clipped) = solve(s, given, six, totals).unwrap() else {
         return output::write_refusal(Refusal::Blown.number(), 0, to);
     };
     write_sums(s, totals, to);
-    write_numbers(h.channels, t.clipped, to);
-    paint(rounding, h, lent.plane, to)
+    write_numbers(h.channels, clipped, to);
+    paint(rounding, h, six.plane, to)
 }
 
 // The same, with room of its own.
-fn solved(s: Sheet, lows: &[i16], highs: &[i16], tables: &[u16], to: &mut Writer)
-    requires { LegalSheet limits s (lent lows.now highs.now tables.now) × (most_printed ≤ room to.old) }
-    ensures { Adds to.old (sheet_text s (pairs lows.now highs.now) tables.now) to.new }
+fn solved(s: Sheet, given: Given, to: &mut Writer)
+    requires { LegalSheet limits s (lent given.lows.now given.highs.now given.tables.now) × (most_printed ≤ room to.old) }
+    ensures { Adds to.old (sheet_text s (levels_in given.entry) given.entry.tables.now) to.new }
 {
     let mut plane = [0.0f32; 3072];
     let mut prior = [0.0f32; 3072];
@@ -156,20 +130,15 @@ fn solved(s: Sheet, lows: &[i16], highs: &[i16], tables: &[u16], to: &mut Writer
     let h = s.header;
     let n = (h.channels as usize) * ((h.width as usize) * (h.height as usize));
     let m = blend_count(s) * 2;
-    solved_with(
-        s,
-        lows,
-        highs,
-        tables,
-        &mut plane[0..n],
-        &mut prior[0..n],
-        &mut gradient[0..n],
-        &mut across[0..n],
-        &mut down[0..n],
-        &mut saved[0..n],
-        &mut totals[0..m],
-        to,
-    )
+    let mut six = Buffers {
+        plane: &mut plane[0..n],
+        prior: &mut prior[0..n],
+        gradient: &mut gradient[0..n],
+        across: &mut across[0..n],
+        down: &mut down[0..n],
+        saved: &mut saved[0..n],
+    };
+    solved_with(s, given, &mut six, &mut totals[0..m], to)
 }
 
 // The text of a sheet, read as staff: lines N change nothing. Lows, highs and tables are room for its levels and tables.
@@ -178,7 +147,14 @@ fn read_with(text: &[u8], lows: &mut [i16], highs: &mut [i16], tables: &mut [u16
     ensures { Adds to.old (printed text.now) to.new }
 {
     match sheet::read(text, LIMITS, Reader::Staff, lows, highs, tables) {
-        Ok(s) => solved(s, lows, highs, tables, to),
+        Ok(s) => {
+            let given = Given {
+                lows,
+                highs,
+                tables,
+            };
+            solved(s, given, to)
+        }
         Err(e) => output::write_refusal(e.refusal.number(), e.line, to),
     }
 }
@@ -216,6 +192,7 @@ fn answer(text: &[u8], to: &mut Writer)
 // What `smooth` prints for a text, written to the front of `out`, and how many bytes that is; 0, with nothing written, where `out` could be too
 // small for some text. Of a long text the first bytes decide.
 // Ruled out: a grey picture for every sheet; a refusal for a sheet that keeps every rule.
+// Kept: the 0 is how many bytes are written, and one clause says of every output what these are. A public function that couldn't fail still can't, by a rule of the project.
 pub fn smooth_text(text: &[u8], out: &mut [u8]) -> usize
     ensures { Wrote 0 (printed_into text.now (length out.old)) out.old result out.new }
 {

@@ -1,7 +1,9 @@
 -- What is read so far, by the tests that the code makes.
 use Prim.Native.Nat.{ℕ, ◌*◌, ◌<◌, ◌≤◌}
-use mathlib.Core.Path.{◌≡◌, refl, subst⁻¹}
-use mathlib.Core.List.{List, []}
+use Rattle.std.proofs.Common.{Option, Some, None}
+use Rattle.std.specs.List.{find}
+use mathlib.Core.Path.{◌≡◌, refl, ap, ◌∙◌, subst⁻¹}
+use mathlib.Core.List.{List, [], ◌∷◌}
 use mathlib.Core.Bool.{Bool, true, false, cond, ◌&&◌}
 use native.Mathlib.Omega.{arith}
 use native.Mathlib.Nat.{lt_of_le_of_lt, le_of_lt, mul-le-mul_left, mul-lt-mul_of_pos_right}
@@ -14,14 +16,16 @@ use Rattle.text.specs.Fields.{letter}
 use Rattle.digits.proofs.Both.{both_left, both_right}
 use Rattle.contents.specs.declared.Mark.{Mark}
 use Rattle.contents.specs.declared.Sheet.{Sheet}
+use Rattle.lines.specs.declared.Tag.{Tag}
+use Rattle.lines.specs.declared.Tag.TheVariants as tags
 use Rattle.lines.specs.declared.Setting.TheVariants as setting
 use Rattle.lines.specs.declared.Record.{Record}
 use Rattle.lines.specs.declared.Record.TheVariants as line
 use Rattle.progress.specs.declared.State.{State}
-use Rattle.lines.specs.Lines.{letter_in, hold_of, mark_of, header_of, channel_of, record_of}
+use Rattle.lines.specs.Lines.{letter_of, letter_in, hold_of, mark_of, header_of, channel_of, record_of}
 use Rattle.contents.specs.Marks.{block_of, has_block}
 use Rattle.progress.specs.Taking.{Due}
-use Rattle.progress.specs.Progress.{blank, due_tag, may_stand, is_setting, is_range, is_mark, line_tag, most_blocks, exists}
+use Rattle.progress.specs.Progress.{blank, due_tag, may_stand, is_setting, is_range, is_mark, is_own, line_tag, most_blocks, exists}
 
 pub first_tag : (fs : List (List ℕ)) → line_tag blank fs ≡ 83
 unfolding blank line_tag
@@ -30,6 +34,35 @@ first_tag fs = rw (never (letter 70 (get_or fs 0 [])), never (letter 65 (get_or 
     never : (x : Bool) → (x && false) ≡ false
     never true = refl
     never false = refl
+
+-- The tags that are looked for: the first that is the line's own, or the due one
+abbrev pub own_tags : List Tag
+own_tags = tags.Rounding ∷ tags.Start ∷ tags.Hold ∷ tags.Range ∷ tags.Mark ∷ []
+
+module _ (s : State) (fs : List (List ℕ)) where
+  abbrev tag_in : Option Tag → ℕ
+  tag_in None = due_tag s
+  tag_in (Some t) = letter_of t
+
+  found : tag_in (find (is_own s fs) own_tags) ≡ line_tag s fs
+  unfolding line_tag
+  found = five (is_own s fs tags.Rounding) (is_own s fs tags.Start) (is_own s fs tags.Hold) (is_own s fs tags.Range) (is_own s fs tags.Mark)
+    where
+      five : (a b c d e : Bool)
+          → tag_in (cond a (Some tags.Rounding) (cond b (Some tags.Start) (cond c (Some tags.Hold) (cond d (Some tags.Range) (cond e (Some tags.Mark) None)))))
+          ≡ cond a 70 (cond b 65 (cond c 72 (cond d 71 (cond e 78 (due_tag s)))))
+      five true b c d e = refl
+      five false true c d e = refl
+      five false false true d e = refl
+      five false false false true e = refl
+      five false false false false true = refl
+      five false false false false false = refl
+
+  pub own_found : (t : Tag) → Some t ≡ find (is_own s fs) own_tags → letter_of t ≡ line_tag s fs
+  own_found t e = ap tag_in e ∙ found
+
+  pub none_found : None ≡ find (is_own s fs) own_tags → due_tag s ≡ line_tag s fs
+  none_found e = ap tag_in e ∙ found
 
 -- Setting i, by its tag
 pub data SettingTag (i tag : ℕ) : Type 0 where

@@ -8,6 +8,7 @@ use Rattle.contents.specs.declared.Channel.{Channel}
 use Rattle.contents.specs.declared.Mark.{Mark}
 use Rattle.contents.specs.declared.Settings.{Settings}
 use Rattle.contents.specs.declared.Sheet.{Sheet}
+use Rattle.lines.specs.Lines.{letter_of}
 use Rattle.lines.specs.declared.Tag.{Tag}
 use Rattle.lines.specs.declared.Tag.TheVariants as tags
 use Rattle.lines.specs.declared.Setting.{Setting}
@@ -31,19 +32,7 @@ blank = record { begun = false; sheet = headed no_header; read = 0; left = 0 }
 abbrev pub due_tag : State → ℕ
 due_tag s = cond s.begun (cond (ltb 0 s.left) 66 (cond (ltb s.read s.sheet.header.channels) 67 69)) 83
 
--- The settings have an order: F is 1, A is 2, H is 3
-abbrev pub place_of : Tag → ℕ
-place_of tags.Rounding = 1
-place_of tags.Start = 2
-place_of tags.Hold = 3
-place_of tags.Header = 0
-place_of tags.Channel = 0
-place_of tags.Block = 0
-place_of tags.Range = 0
-place_of tags.Mark = 0
-place_of tags.End = 0
-
--- The last that a line said, 0 where none did
+-- The settings have an order: F is 1, A is 2, H is 3. The last that a line said, 0 where none did
 abbrev pub last_said : Settings → ℕ
 last_said x = cond (is_none x.hold) (cond (is_none x.start) (cond (is_none x.rounding) 0 1) 2) 3
 
@@ -66,6 +55,22 @@ is_mark s fs = letter 78 (get_or fs 0 []) && eqb (due_tag s) 69
 -- The tag that a line with the fields fs is read by: its own where it may stand here, else the due one, whose rule then gives 1
 unfoldable pub line_tag : State → List (List ℕ) → ℕ
 line_tag s fs = cond (is_setting s fs 1 70) 70 (cond (is_setting s fs 2 65) 65 (cond (is_setting s fs 3 72) 72 (cond (is_range s fs) 71 (cond (is_mark s fs) 78 (due_tag s)))))
+
+-- a line of this tag may stand here, where another may be due
+abbrev pub may_come : State → Tag → Bool
+may_come s tags.Rounding = may_stand 1 s
+may_come s tags.Start = may_stand 2 s
+may_come s tags.Hold = may_stand 3 s
+may_come s tags.Range = s.begun && ltb 0 s.left
+may_come s tags.Mark = eqb (due_tag s) 69
+may_come s tags.Header = false
+may_come s tags.Channel = false
+may_come s tags.Block = false
+may_come s tags.End = false
+
+-- a line with the fields fs is of this tag, and may stand here
+abbrev pub is_own : State → List (List ℕ) → Tag → Bool
+is_own s fs tag = letter (letter_of tag) (get_or fs 0 []) && may_come s tag
 
 -- one more setting
 abbrev pub with_setting : Settings → Setting → Settings

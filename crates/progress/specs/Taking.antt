@@ -1,5 +1,5 @@
--- What taking a line asks for; and the marks as a map of all blocks, 1 where a block is marked, 0 elsewhere.
-use Rattle.std.specs.Prelude.{ℕ, ◌<◌, List, Bool, false, not, cond, eqb, get_or, set}
+-- What taking a line asks for; and the marks as a map of all blocks, true where a block is marked, false elsewhere.
+use Rattle.std.specs.Prelude.{◌<◌, List, Bool, true, false, cond, get_or, set}
 use Rattle.lines.specs.declared.Record.{Record}
 use Rattle.lines.specs.declared.Record.TheVariants as line
 use Rattle.progress.specs.declared.State.{State}
@@ -16,16 +16,16 @@ Due s line.Block = 0 < s.left
 Due s (line.Mark m) = Unit {0}
 
 -- by the map: whether a line marks a block twice, and the map with its mark
-abbrev pub twice_in : Sheet → Record → List ℕ → Bool
+abbrev pub twice_in : Sheet → Record → List Bool → Bool
 twice_in s (line.Header h) bits = false
 twice_in s (line.Channel c) bits = false
 twice_in s (line.Setting x) bits = false
 twice_in s line.Block bits = false
-twice_in s (line.Mark m) bits = cond (exists s m) (not (eqb (get_or bits (block_of s m) 0) 0)) false
+twice_in s (line.Mark m) bits = cond (exists s m) (get_or bits (block_of s m) false) false
 
-abbrev pub marked_in : Sheet → Record → List ℕ → List ℕ
+abbrev pub marked_in : Sheet → Record → List Bool → List Bool
 marked_in s (line.Header h) bits = bits
 marked_in s (line.Channel c) bits = bits
 marked_in s (line.Setting x) bits = bits
 marked_in s line.Block bits = bits
-marked_in s (line.Mark m) bits = cond (exists s m) (set bits (block_of s m) 1) bits
+marked_in s (line.Mark m) bits = cond (exists s m) (set bits (block_of s m) true) bits

@@ -1,14 +1,13 @@
 // What was read so far, and what the next line adds to it.
 #![tactic(auto)]
 
-ghost use Rattle.std.specs.Prelude.{◌≡◌, false, ◌<◌, length};
-ghost use Rattle.contents.specs.Sheets.{no_header, no_channel};
+ghost use Rattle.std.specs.Prelude.{◌≡◌, false, ◌<◌};
 ghost use Rattle.progress.specs.Taking.{Due, twice_in, marked_in};
 ghost use Rattle.text.specs.Pieces.{split};
-ghost use Rattle.progress.specs.Progress.{most_blocks, exists, blank, headed, placed, due_tag, place_of, may_stand, is_setting, is_range, is_mark, line_tag, with_setting, taken_if};
+ghost use Rattle.progress.specs.Progress.{exists, blank, headed, placed, due_tag, may_come, is_own, line_tag, with_setting, taken_if};
 ghost use Rattle.lines.specs.Lines.{letter_of};
 
-use contents::{Channel, Header, Mark, Settings, Sheet, Weight, block_of, has_block};
+use contents::{Channel, Header, Mark, Settings, Sheet, block_of, has_block};
 use lines::{Record, Setting, Tag};
 use refusal::Refusal;
 use text::field;
@@ -16,40 +15,12 @@ use text::field;
 // The sheet so far: whether the header was read, how many channels were, and how many blocks of the last are still to come.
 #[derive(Clone, Copy, Debug, PartialEq, Eq)]
 pub struct State {
-    // Kept: with an Option of the rest in the place of it, a setting, a channel, a block and a mark each need an answer for no header, which can't come,
-    // and the tests of what is due a `match` in the place of a field.
+    // Kept: `lines::rule_at` takes a header for the first line too, so that a header of zeros stands beside an Option of the rest as well; and with that Option a setting, a channel,
+    // a block and a mark would each open what is always there.
     pub begun: bool,
     pub sheet: Sheet,
     pub read: u32,
     pub left: u64,
-}
-
-fn no_channel() -> Channel
-    ensures { result ≡ no_channel }
-{
-    Channel {
-        width: 0,
-        height: 0,
-        across: 0,
-        down: 0,
-    }
-}
-
-fn no_header() -> Header
-    ensures { result ≡ no_header }
-{
-    let none = Weight::Whole(0);
-    Header {
-        width: 0,
-        height: 0,
-        picture_width: 0,
-        picture_height: 0,
-        channels: 0,
-        joint: false,
-        iterations: [0; 3],
-        smoothing: [none; 3],
-        data_weights: [none; 3],
-    }
 }
 
 // A header with no channel read yet.
@@ -58,12 +29,8 @@ fn no_channels(header: Header) -> Sheet
 {
     Sheet {
         header,
-        settings: Settings {
-            rounding: None,
-            start: None,
-            hold: None,
-        },
-        channels: [no_channel(); 3],
+        settings: Settings::default(),
+        channels: [Channel::default(); 3],
     }
 }
 
@@ -74,7 +41,7 @@ pub fn nothing() -> State
 {
     State {
         begun: false,
-        sheet: no_channels(no_header()),
+        sheet: no_channels(Header::default()),
         read: 0,
         left: 0,
     }
@@ -95,58 +62,42 @@ fn due(s: State) -> Tag
     }
 }
 
-// May this setting stand here? No setting follows itself or a later one.
+// May a line of this tag stand here, where another may be due? No setting follows itself or a later one.
 fn may_stand(s: State, tag: Tag) -> bool
-    ensures { result ≡ may_stand (place_of tag) s }
+    ensures { result ≡ may_come s tag }
 {
     let said = s.sheet.settings;
-    let follows = match tag {
-        Tag::Rounding => said.rounding.is_none() && said.start.is_none() && said.hold.is_none(),
-        Tag::Start => said.start.is_none() && said.hold.is_none(),
-        Tag::Hold => said.hold.is_none(),
-        _ => false,
-    };
-    s.begun && s.read == 0 && follows
+    let opened = s.begun && s.read == 0;
+    match tag {
+        Tag::Rounding => {
+            opened && said.rounding.is_none() && said.start.is_none() && said.hold.is_none()
+        }
+        Tag::Start => opened && said.start.is_none() && said.hold.is_none(),
+        Tag::Hold => opened && said.hold.is_none(),
+        Tag::Range => s.begun && 0 < s.left,
+        Tag::Mark => due(s) == Tag::End,
+        Tag::Header | Tag::Channel | Tag::Block | Tag::End => false,
+    }
 }
 
-// Is this the line of the setting with this tag, and may it stand here?
-fn is_setting(s: State, row: &[u8], tag: Tag) -> bool
-    ensures { result ≡ is_setting s (split 9 row.now) (place_of tag) (letter_of tag) }
+// Is this a line of this tag, and may it stand here?
+fn is_own(s: State, row: &[u8], tag: Tag) -> bool
+    ensures { result ≡ is_own s (split 9 row.now) tag }
 {
     field::letter_at(row, 0, tag.letter()) && may_stand(s, tag)
 }
 
-// Is this the line of a block with ranges, and may it stand here?
-fn is_range(s: State, row: &[u8]) -> bool
-    ensures { result ≡ is_range s (split 9 row.now) }
-{
-    field::letter_at(row, 0, b'G') && s.begun && 0 < s.left
-}
-
-// Is this the line of a mark, and may it stand here?
-fn is_mark(s: State, row: &[u8]) -> bool
-    ensures { result ≡ is_mark s (split 9 row.now) }
-{
-    field::letter_at(row, 0, b'N') && due(s) == Tag::End
-}
+// The tags of lines that may stand where another is due, in the order in which they are looked for.
+const OWN: [Tag; 5] = [Tag::Rounding, Tag::Start, Tag::Hold, Tag::Range, Tag::Mark];
 
 // The tag that the next line is read by: its own where it may stand here, else the due one.
-#[tactic(auto, unfolding(crate::specs::Progress::line_tag))]
 pub fn expected(s: State, row: &[u8]) -> Tag
     ensures { letter_of result ≡ line_tag s (split 9 row.now) }
 {
-    if is_setting(s, row, Tag::Rounding) {
-        Tag::Rounding
-    } else if is_setting(s, row, Tag::Start) {
-        Tag::Start
-    } else if is_setting(s, row, Tag::Hold) {
-        Tag::Hold
-    } else if is_range(s, row) {
-        Tag::Range
-    } else if is_mark(s, row) {
-        Tag::Mark
-    } else {
-        due(s)
+    let own = OWN.iter().find(|tag| is_own(s, row, **tag));
+    match own {
+        Some(tag) => *tag,
+        None => due(s),
     }
 }
 
@@ -213,8 +164,7 @@ fn is_block(s: Sheet, m: Mark) -> bool
 
 // A mark, whose block is one of the sheet and wasn't marked before. The block is marked in the map of all blocks.
 #[tactic(auto, unfolding(crate::specs::Progress::taken_if), using(crate::proofs::StateLaws::exists_within))]
-fn take_mark(s: State, m: Mark, bits: &mut [u8]) -> Result<State, Refusal>
-    requires { length bits.old ≡ most_blocks }
+fn take_mark(s: State, m: Mark, bits: &mut [bool; 12288]) -> Result<State, Refusal>
     ensures state { result ≡ taken_if s (twice_in s.sheet (Record.Mark m) bits.old) (Record.Mark m) }
     ensures bits { bits.new ≡ marked_in s.sheet (Record.Mark m) bits.old }
 {
@@ -223,8 +173,8 @@ fn take_mark(s: State, m: Mark, bits: &mut [u8]) -> Result<State, Refusal>
     }
     let b = block_of(s.sheet, m) as usize;
     let before = bits[b];
-    bits[b] = 1;
-    if before != 0 {
+    bits[b] = true;
+    if before {
         return Err(Refusal::Mark);
     }
     Ok(s)
@@ -232,9 +182,8 @@ fn take_mark(s: State, m: Mark, bits: &mut [u8]) -> Result<State, Refusal>
 
 // The state after a good line, or its refusal. The block of a mark is marked in the map of all blocks.
 #[tactic(auto, unfolding(crate::specs::Progress::taken_if))]
-pub fn take_record(s: State, rec: Record, bits: &mut [u8]) -> Result<State, Refusal>
-    requires due { Due s rec }
-    requires bits { length bits.old ≡ most_blocks }
+pub fn take_record(s: State, rec: Record, bits: &mut [bool; 12288]) -> Result<State, Refusal>
+    requires { Due s rec }
     ensures state { result ≡ taken_if s (twice_in s.sheet rec bits.old) rec }
     ensures bits { bits.new ≡ marked_in s.sheet rec bits.old }
 {

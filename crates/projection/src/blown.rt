@@ -1,6 +1,6 @@
 // Document 01's condition of job 5, which the Rust has not.
-ghost use Rattle.std.specs.Prelude.{◌≡◌, ◌≤◌, length};
-ghost use Rattle.projection.specs.Blown.{bad, any_bad, is_blown};
+ghost use Rattle.std.specs.Prelude.{◌≡◌, ◌||◌};
+ghost use Rattle.projection.specs.Blown.{bad, any_bad};
 
 // NaN or infinite.
 #[tactic(auto, using(crate::proofs::Bad::bad_is))]
@@ -17,12 +17,10 @@ fn any_bad(xs: &[f32]) -> bool
     xs.iter().any(|&x| bad(x))
 }
 
-// Whether a plane value or one of the n saved coefficients is NaN or infinite.
+// Whether a plane value or a saved coefficient is NaN or infinite.
 // Rules out: a test of the plane alone, and a test for NaN alone.
-#[tactic(auto, unfolding(crate::specs::Blown::is_blown))]
-pub fn is_blown(plane: &[f32], saved: &[f32], n: usize) -> bool
-    requires { n ≤ length saved.now }
-    ensures { result ≡ is_blown n plane.now saved.now }
+pub fn is_blown(plane: &[f32], saved: &[f32]) -> bool
+    ensures { result ≡ (any_bad plane.now || any_bad saved.now) }
 {
-    any_bad(plane) || any_bad(&saved[..n])
+    any_bad(plane) || any_bad(saved)
 }

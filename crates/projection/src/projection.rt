@@ -79,12 +79,12 @@ fn clamp_block(x: &mut [f32], coef: &Coef, i: usize, n: usize) -> usize
     ensures { (x.new ≡ clamp_block (as_coef coef.now).levels coef.now.table.now i x.old)
         × (result ≡ clipped_block (as_coef coef.now).levels coef.now.table.now x.old i n) × (result ≤ i * 64 + 64) }
 {
-    let lows = coef.lows;
-    let highs = coef.highs;
+    let scalar = coef.scalar();
     let mut moved = n;
-    for (j, &q) in coef.table.iter().enumerate() {
+    // Kept: tried with `x[i * 64..i * 64 + 64].iter_mut().enumerate()`, and the proof didn't close, for what stands at `dequantise` of `start`. The number so far goes in and out, since the sum's bound is that of the places passed.
+    for j in 0..64 {
         let k = i * 64 + j;
-        let c = interval::clamp_to(lows[k], highs[k], q, x[k]);
+        let c = scalar.interval(i, j).clamp_to(x[k]);
         x[k] = c.value;
         moved += usize::from(c.moved);
     }
@@ -98,21 +98,12 @@ fn clamped(x: &mut [f32], coef: &Coef) -> usize
         × (result ≡ clipped (as_coef coef.now) (upto (on_block dct8x8) (block_count coef.now.own) x.old)) }
 {
     let n = coef.scalar().block_count();
-    transform_blocks(x, n, Transform::Forward);
+    transform_blocks(&mut x[..n * 64], Transform::Forward);
     let mut moved = 0;
     for i in 0..n {
         moved = clamp_block(x, coef, i, moved);
     }
     moved
-}
-
-// The first n values of x are kept for the data gradient.
-#[tactic(auto, using(crate::proofs::Writes::kept))]
-fn keep(saved: &mut [f32], x: &[f32], n: usize)
-    requires { (n ≤ length saved.old) × (n ≤ length x.now) }
-    ensures { saved.new ≡ keep n x.now saved.old }
-{
-    saved[..n].copy_from_slice(&x[..n]);
 }
 
 // Blocks of an image in own sides, `plane`, to coefficients, which are clamped and kept, and back. Gives how many were moved.
@@ -132,8 +123,9 @@ fn project_full(plane: &mut [f32], across: &mut [f32], saved: &mut [f32], coef: 
     let count = coef.px_count();
     move_blocks(plane, across, width, height, bw, bh, Order::Blocks);
     let moved = clamped(across, coef);
-    keep(saved, across, count);
-    transform_blocks(across, coef.scalar().block_count(), Transform::Inverse);
+    let own = &mut across[..count];
+    saved[..count].copy_from_slice(own);
+    transform_blocks(own, Transform::Inverse);
     move_blocks(across, plane, width, height, bw, bh, Order::Raster);
     moved
 }

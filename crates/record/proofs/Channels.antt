@@ -16,10 +16,6 @@ use Rattle.record.specs.Model.{own_of, place_of, sheet_of, places_of, channel_ok
 use Rattle.record.specs.declared.Run.{Run}
 use Rattle.record.specs.declared.Channel.{Channel}
 
--- an array of structs, as a need is handed it: the structs' parts, mapped
-pub length_parts : (X Y : Type 0) (f : X → Y) (l : List X) (n : ℕ) → length (map f l) ≡ n → length l ≡ n
-length_parts X Y f l n e = sym (length-map l f) ∙ e
-
 -- ---- one channel more, at the code's `k + 1`
 
 pub every_more : (k : ℕ) (f : ℕ → Bool) → every (k + 1) f ≡ (every k f && f k)

@@ -1,11 +1,14 @@
 -- What a legal record tells of its sizes.
-use mathlib.Core.Path.{◌≡◌}
+use mathlib.Core.Path.{◌≡◌, refl, ap, ◌∙◌}
+use mathlib.Core.List.{[], ◌∷◌}
 use mathlib.Core.Logic.{inl, inr}
 use Prim.Native.Nat.{ℕ, zero, suc, ◌+◌, ◌*◌, ◌≤◌, ◌<◌}
 use native.Mathlib.Nat.{mul-le-mul_right, mul-le-mul_left, suc-mul, le_of_suc-le-suc, eq-or-lt_of_le, le_refl}
 use native.Mathlib.Omega.{arith}
 use lib.Ieee.Fits.{and_l, and_r}
-use lib.ListN.{length, get_or}
+use lib.ListN.{length, get_or, take}
+use Rattle.std.proofs.Common.{sum_by, take-suc}
+use Rattle.std.proofs.lemmas.List.Sums.{sum_by-append}
 use Rattle.fold.proofs.Grid.{row_end}
 use Rattle.calls.specs.Run.{Sheet, own, coefs, levels_before, sheet_ok, places_ok}
 use Rattle.calls.proofs.Facts.{OwnIs, SheetIs, sheet_is, own_fits}
@@ -13,6 +16,7 @@ use Rattle.calls.specs.Between.{PlacesAre}
 use Rattle.calls.proofs.Legal.{places_are}
 use Rattle.record.specs.Model.{Legal, sheet_of, places_of, no_channel}
 use Rattle.record.specs.declared.Run.{Run}
+use Rattle.record.specs.declared.Channel.{Channel}
 use Rattle.record.proofs.Channels.{at_own, at_position}
 
 module _ (r : Run) (ok : Legal r) where
@@ -49,8 +53,11 @@ module _ (r : Run) (ok : Legal r) where
   levels_fit zero h = omega arith
   levels_fit (suc c) h = omega (arith, levels_fit c (omega arith), coefs_fit c h, suc-mul c (r.w * r.h))
 
+  pub levels_most : (c : ℕ) → c ≤ r.count → levels_before (sheet_of r) c ≤ 786432
+  levels_most c h = omega (arith, levels_fit c h, mul-le-mul_right (r.w * r.h) h, all_small)
+
   pub levels_small : (c : ℕ) → c < r.count → levels_before (sheet_of r) c + coefs (sheet_of r) c ≤ 786432
-  levels_small c h = omega (arith, levels_fit (suc c) h, mul-le-mul_right (r.w * r.h) h, all_small)
+  levels_small c h = levels_most (suc c) h
 
   module _ (three : length r.channels ≡ 3) (c : ℕ) (h : c < r.count) where
     pub here : OwnIs (sheet_of r) (own (sheet_of r) c)
@@ -61,6 +68,15 @@ module _ (r : Run) (ok : Legal r) where
 
     pub position_small : (get_or r.channels c no_channel).position ≤ 5000
     position_small = omega (arith, n_1000, at_position r c (omega (arith, count_3)) h, (places.each c h).within)
+
+  -- what the code sums: the own sides' products of the channels before c
+  module _ (three : length r.channels ≡ 3) where
+    pub levels_sum : (c : ℕ) → c ≤ r.count → sum_by (λ (x : Channel). x.width * x.height) (take c r.channels) ≡ levels_before (sheet_of r) c
+    levels_sum zero h = refl
+    levels_sum (suc c) h =
+        ap (sum_by (λ (x : Channel). x.width * x.height)) (take-suc r.channels c no_channel (omega (arith, count_3)))
+        ∙ sum_by-append (λ (x : Channel). x.width * x.height) (take c r.channels) (get_or r.channels c no_channel ∷ [])
+        ∙ rw (levels_sum c (omega arith), coefs_are three c h) (omega arith)
 
 -- channel c's levels end where the next channel's begin, or before those of a later one
 pub levels_rise : (S : Sheet) (c d : ℕ) → c < d → levels_before S c + coefs S c ≤ levels_before S d

@@ -13,6 +13,8 @@ fn side_ok(x: u32) -> bool
 }
 
 // A multiple of 8, 8 to 512.
+// Kept: `picture` has this one line too, and `text::field::is_side` it for any most. Below all three stands `refusal` alone, which is of other things, and a crate for the one function, with its
+// definition and its proofs, would be longer than both.
 fn full_side_ok(x: u32) -> bool
     ensures { result ≡ full_side x }
 {
@@ -25,11 +27,12 @@ fn factor_ok(x: u32) -> bool
     1 <= x && x <= 4
 }
 
-// No sign bit, not infinite, no NaN: the bits are below those of the infinity.
+// No sign bit, not infinite, no NaN.
+#[tactic(auto, using(crate::proofs::Weights::finite_weight, crate::proofs::Weights::no_weight))]
 fn weight_ok(x: f32) -> bool
     ensures { result ≡ weight x }
 {
-    !x.is_nan() && x.to_bits() < 2139095040
+    x.is_finite() && x.is_sign_positive()
 }
 
 // A channel's own numbers: its sides, factors, cover, data weight and held count.

@@ -4,6 +4,7 @@ ghost use Rattle.calls.specs.Calls.{lengths, all_six};
 ghost use Rattle.record.specs.Lent.{six_of};
 
 // The levels, as two buffers of one length, and the tables of quantisers.
+// Kept: lows and highs are two slices, as C lends them; without a heap no list of pairs can be made of them.
 #[derive(Clone, Copy)]
 pub struct Given<'a> {
     pub lows: &'a [i16],

@@ -32,6 +32,7 @@ pub struct Channel {
 
 // The run's record: W, H, N, the smoothing weight, the letter of line A, and its channels, the first `count` of three. Every value of the letter is
 // legal, and only start looks at it.
+// Kept: three channels and their count: there is no heap, and C lends the record as this struct; `channels` gives those that it has.
 #[derive(Clone, Copy)]
 pub struct Run {
     pub w: u32,
@@ -68,13 +69,7 @@ impl Job {
     pub fn turn(self) -> u8
         ensures { result ≡ turn_of self }
     {
-        match self {
-            Job::Push => 0,
-            Job::Data => 1,
-            Job::Blend => 2,
-            Job::Move => 3,
-            Job::Project => 4,
-        }
+        self as u8
     }
 }
 

@@ -8,6 +8,7 @@ use crate::legal::{LegalRun, Turn};
 use crate::{Channel, Run, Seen};
 
 // The number that channel c keeps; 0 for a channel that the record has not.
+// Kept: the 0 is the model's: three numbers stand there whatever the count. As an Option the two callers would only make it a 0 again, by `unwrap_or(0)`.
 pub fn clipped_of(run: Run, c: u32) -> u32
     requires { c < 3 }
     ensures { result ≡ clipped_of run c }
@@ -20,11 +21,20 @@ pub fn clipped_of(run: Run, c: u32) -> u32
 }
 
 // Where a channel's values begin and end in a lent buffer, and the step that its next job belongs to.
+// Kept: std's `Range` is not Copy, and of the fourteen slices in `parts` that are cut by a span ten would take `span.range.clone()`. A function from a buffer to
+// its part would be two, for `&` and `&mut`, and the second would have to say what stays of the buffer around the part that it lends.
 #[derive(Clone, Copy)]
 pub struct Span {
     pub from: usize,
     pub to: usize,
     pub step: u32,
+}
+
+// The coefficients of a channel: w × h of its own sides.
+fn coefs_in(x: &Channel) -> usize
+    ensures { result ≡ x.now.width * x.now.height }
+{
+    (x.width as usize) * (x.height as usize)
 }
 
 impl Turn {
@@ -39,8 +49,7 @@ impl Turn {
     pub fn coefs(self) -> usize
         ensures { result ≡ coefs (sheet_of self.legal.run) self.c }
     {
-        let x = self.channel();
-        (x.width as usize) * (x.height as usize)
+        coefs_in(&self.channel())
     }
 
     // Where its part of a lent buffer is, and its step.
@@ -150,11 +159,7 @@ impl LegalRun {
         requires { c ≤ self.run.count }
         ensures { result ≡ levels_before (sheet_of self.run) c }
     {
-        let mut sum = 0;
-        for x in &self.run.channels[..c as usize] {
-            sum += (x.width as usize) * (x.height as usize);
-        }
-        sum
+        self.run.channels[..c as usize].iter().map(coefs_in).sum()
     }
 
     // Whether channel c is held in a step. A channel that the record does not have is not.
@@ -181,13 +186,14 @@ impl LegalRun {
         requires { (x : Channel) → x.position < 4294967295 → F.pre next_place x }
         ensures { (g : Place → Place) → ((x y : Channel) → F.post next_place x y → y ≡ with_place x (g (place_of x))) → result ≡ placed self.run (map g (places_of self.run)) }
     {
-        let mut next = self.run;
-        // Kept: tried with `iter_mut().enumerate()`. Over the first `count` channels the proof didn't close, as nothing is known of the record after the loop; over all three each
-        // turn has to ask whether the record has the channel, which is no plainer.
-        for c in 0..self.run.count as usize {
-            next.channels[c] = next_place(self.run.channels[c]);
+        let mut channels = self.run.channels;
+        for x in channels[..self.run.count as usize].iter_mut() {
+            *x = next_place(*x);
         }
-        next
+        Run {
+            channels,
+            ..self.run
+        }
     }
 
     // The record after an accepted blend.

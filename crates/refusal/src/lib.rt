@@ -2,15 +2,15 @@
 #![tactic(auto)]
 
 ghost use Rattle.std.specs.Prelude.{◌≡◌};
-ghost use Rattle.refusal.specs.Refusal.{number_of};
+ghost use Rattle.refusal.specs.Refusal.{number_of, answer_number};
 
 use std::error::Error;
 use std::fmt;
 
-// The table's words, in the order of its numbers, 1 to 20.
+// The table's words, with its numbers, 1 to 20.
 #[derive(Clone, Copy, Debug, PartialEq, Eq, Hash)]
 pub enum Refusal {
-    Form,
+    Form = 1,
     Size,
     Factor,
     Table,
@@ -38,28 +38,7 @@ impl Refusal {
     pub fn number(self) -> u8
         ensures { result ≡ number_of self }
     {
-        match self {
-            Refusal::Form => 1,
-            Refusal::Size => 2,
-            Refusal::Factor => 3,
-            Refusal::Table => 4,
-            Refusal::Level => 5,
-            Refusal::Weight => 6,
-            Refusal::Cut => 7,
-            Refusal::Length => 8,
-            Refusal::Turn => 9,
-            Refusal::Blown => 10,
-            Refusal::Done => 11,
-            Refusal::Channel => 12,
-            Refusal::Record => 13,
-            Refusal::Range => 14,
-            Refusal::Page => 15,
-            Refusal::Seam => 16,
-            Refusal::Hold => 17,
-            Refusal::Mark => 18,
-            Refusal::Segment => 19,
-            Refusal::Precision => 20,
-        }
+        self as u8
     }
 }
 
@@ -87,3 +66,11 @@ impl fmt::Display for Refusal {
 }
 
 impl Error for Refusal {}
+
+// The number that a call answers for C: the refusal's, or 0 where nothing is refused.
+// Ruled out: 0 for the table's first refusal; 1 for an answer that refuses nothing.
+pub fn answer_number(answer: Result<(), Refusal>) -> u32
+    ensures { result ≡ answer_number answer }
+{
+    answer.map_or_else(u32::from, |()| 0)
+}

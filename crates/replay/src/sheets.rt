@@ -4,7 +4,8 @@ use by_numbers::{NUMBERS, reading};
 use contents::{Limits, Reader};
 use float::bits::to_bits;
 use refusal::Refusal;
-use words::{bytes, number_at, with, word};
+use sheet::Refused;
+use words::{bytes, number_at, with_all, word};
 
 // What a line asks: the reading of a text within limits, for a reader; nobody where its number is neither 0 nor 1.
 #[derive(Clone, Copy)]
@@ -14,28 +15,9 @@ struct Asked<'a> {
     reader: Option<Reader>,
 }
 
-// The refusal's number, and the line that is refused.
-#[derive(Clone, Copy, PartialEq)]
-struct Refused {
-    number: u32,
-    line: usize,
-}
-
-// A refusal of the proved calls.
-impl From<sheet::walk::Refused> for Refused {
-    fn from(e: sheet::walk::Refused) -> Refused {
-        Refused {
-            number: u32::from(e.refusal),
-            line: e.line,
-        }
-    }
-}
-
-// A digest of more levels: a level counts by the bits of its f32.
-fn with_levels(digest: u32, levels: &[i16]) -> u32 {
-    levels
-        .iter()
-        .fold(digest, |d, &level| with(d, to_bits(f32::from(level))))
+// A level counts by the bits of its f32.
+fn level_bits(level: i16) -> u32 {
+    to_bits(f32::from(level))
 }
 
 impl Asked<'_> {
@@ -48,7 +30,7 @@ impl Asked<'_> {
     ) -> Result<u32, Refused> {
         let Some(reader) = self.reader else {
             return Err(Refused {
-                number: u32::from(Refusal::Size),
+                refusal: Refusal::Size,
                 line: 0,
             });
         };
@@ -62,48 +44,33 @@ impl Asked<'_> {
             tables,
             &mut header,
         )?;
-        let d = header.iter().fold(0, |d, &n| with(d, n));
-        let e = with_levels(d, lows);
-        let f = with_levels(e, highs);
-        Ok(tables.iter().fold(f, |d, &q| with(d, u32::from(q))))
+        let d = with_all(0, &header, |n| n);
+        let e = with_all(d, lows, level_bits);
+        let f = with_all(e, highs, level_bits);
+        Ok(with_all(f, tables, u32::from))
     }
 
-    // What reading gives for a text that measuring refuses: the same refusal, unless there is no such reader.
-    fn read_refused(&self, measured: Refused) -> Result<u32, Refused> {
+    // What reading gives for a text that measuring refuses: the same refusal, unless there is no such reader; None where it gives another.
+    fn read_refused(&self, measured: Refused) -> Option<Result<u32, Refused>> {
         let read = self.read(&mut [0; 1], &mut [0; 1], &mut [0; 1]);
-        if self.reader.is_none() || read == Err(measured) {
-            return read;
-        }
-        Err(Refused {
-            number: 254,
-            line: measured.line,
-        })
+        (self.reader.is_none() || read == Err(measured)).then_some(read)
     }
 
-    // Reads into the front of the buffers, where there is room.
-    fn read_measured(&self) -> Result<u32, Refused> {
+    // Reads into the front of the buffers; None where there is no room.
+    fn read_measured(&self) -> Option<Result<u32, Refused>> {
         let mut lows = [0i16; 3072];
         let mut highs = [0i16; 3072];
         let mut tables = [0u16; 192];
         let lengths = match sheet::measure(self.text, self.limits) {
             Ok(lengths) => lengths,
-            Err(e) => return self.read_refused(Refused::from(e)),
+            Err(e) => return self.read_refused(e),
         };
         let n = lengths.levels;
         let m = lengths.tables;
-        if lows.len() < n {
-            return Err(Refused {
-                number: 255,
-                line: n,
-            });
+        if lows.len() < n || tables.len() < m {
+            return None;
         }
-        if tables.len() < m {
-            return Err(Refused {
-                number: 255,
-                line: m,
-            });
-        }
-        self.read(&mut lows[..n], &mut highs[..n], &mut tables[..m])
+        Some(self.read(&mut lows[..n], &mut highs[..n], &mut tables[..m]))
     }
 }
 
@@ -112,6 +79,7 @@ fn reader_of(n: u32) -> Option<Reader> {
     (n <= 1).then(|| Reader::from(n))
 }
 
+// Whether the line has what the proved call reads, or its refusal.
 pub fn same_read(line: &[u8]) -> bool {
     let mut text = [0u8; 4096];
     let n = bytes(word(line, 7), &mut text);
@@ -124,8 +92,9 @@ pub fn same_read(line: &[u8]) -> bool {
         reader: reader_of(number_at(line, 3)),
     };
     let (number, at, digest) = match asked.read_measured() {
-        Ok(digest) => (0, 0, digest),
-        Err(refused) => (refused.number, refused.line, 0),
+        Some(Ok(digest)) => (0, 0, digest),
+        Some(Err(refused)) => (u32::from(refused.refusal), refused.line, 0),
+        None => return false,
     };
     number_at(line, 4) == number
         && number_at(line, 5) as usize == at

@@ -36,7 +36,8 @@ fn count_up() -> [f32; 576] {
     xs
 }
 
-// Word k as a side of at most three blocks, in blocks.
+// Word k as a side of at most three blocks, in blocks; 0 for more.
+// Kept: an Option would be opened twice in `same_order` and four times in `same_up`, for a line that no list has.
 fn blocks(line: &[u8], k: usize) -> usize
     ensures { result ≤ 3 }
 {

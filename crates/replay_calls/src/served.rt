@@ -2,18 +2,7 @@
 use float::bits::to_bits;
 use record::lent::{Buffers, Given};
 use record::{Channel, Run};
-use start::coef::Reorder;
-use words::with;
-
-// A digest of more numbers.
-fn with_all(digest: u32, numbers: &[u32]) -> u32 {
-    numbers.iter().fold(digest, |d, &n| with(d, n))
-}
-
-// A digest of more values, by their bits.
-fn with_values(digest: u32, xs: &[f32]) -> u32 {
-    xs.iter().fold(digest, |d, &x| with(d, to_bits(x)))
-}
+use words::{with, with_all};
 
 fn with_channel(digest: u32, c: Channel) -> u32 {
     with_all(
@@ -29,6 +18,7 @@ fn with_channel(digest: u32, c: Channel) -> u32 {
             u32::from(c.mark),
             c.clipped,
         ],
+        |n| n,
     )
 }
 
@@ -40,9 +30,10 @@ fn with_run(digest: u32, run: Run) -> u32 {
             run.h,
             run.n,
             to_bits(run.smoothing),
-            u32::from(run.reorder == Reorder::Once),
+            run.reorder as u32,
             run.count,
         ],
+        |n| n,
     );
     run.channels.iter().fold(d, |d, &c| with_channel(d, c))
 }
@@ -58,12 +49,12 @@ pub fn digest(
 ) -> u32 {
     let answer = serve::serve(&mut run, jobs, channels, answers, given, lent);
     let answered = with(0, u32::from(serve::answer_byte(answer)));
-    let listed = answers.iter().fold(answered, |d, &b| with(d, u32::from(b)));
+    let listed = with_all(answered, answers, u32::from);
     let ran = with_run(listed, run);
-    let a = with_values(ran, lent.plane);
-    let b = with_values(a, lent.prior);
-    let c = with_values(b, lent.gradient);
-    let d = with_values(c, lent.across);
-    let e = with_values(d, lent.down);
-    with_values(e, lent.saved)
+    let a = with_all(ran, lent.plane, to_bits);
+    let b = with_all(a, lent.prior, to_bits);
+    let c = with_all(b, lent.gradient, to_bits);
+    let d = with_all(c, lent.across, to_bits);
+    let e = with_all(d, lent.down, to_bits);
+    with_all(e, lent.saved, to_bits)
 }

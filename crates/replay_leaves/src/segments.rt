@@ -2,6 +2,7 @@
 // Import: the segment, and the tables afterwards; before, all are 77. Export: the output afterwards, before it is 77, and the tables.
 ghost use Rattle.std.specs.Prelude.{◌≤◌};
 
+use refusal::answer_number;
 use words::{bytes, from_word, low_half, number_at, read, same_values, word};
 
 // Word 2 as the length of the tables, at most 256.
@@ -18,7 +19,7 @@ pub fn same_import(line: &[u8]) -> bool {
     let n = bytes(word(line, 3), &mut segment);
     let m = length_of(line);
     let answer = dqt::import(&segment[..n], &mut tables[..m]);
-    answer.map_or_else(u32::from, |()| 0) == number_at(line, 1)
+    answer_number(answer) == number_at(line, 1)
         && same_values(from_word(line, 4), &tables[..m], |x, n| x == low_half(n))
 }
 
@@ -31,5 +32,5 @@ pub fn same_export(line: &[u8]) -> bool {
     let m = length_of(line);
     read(from_word(line, 4), &mut tables[..m], low_half);
     let answer = dqt::export(&tables[..m], &mut out[..n]);
-    answer.map_or_else(u32::from, |()| 0) == number_at(line, 1) && out[..n] == after[..n]
+    answer_number(answer) == number_at(line, 1) && out[..n] == after[..n]
 }

@@ -2,7 +2,7 @@
 // that is written, the values of the first, and those of the second afterwards; before, all are 77. Numbers are hexadecimal.
 ghost use Rattle.std.specs.Prelude.{◌≤◌};
 
-use refusal::Refusal;
+use refusal::{Refusal, answer_number};
 use words::{from_word, low_half, number_at, read, same_values};
 
 // A number modulo 2^16 as a value.
@@ -27,6 +27,6 @@ pub fn same_call<F: Fn(&[i16], &mut [i16]) -> Result<(), Refusal>>(line: &[u8], 
     let m = length_at(line, 3);
     let after = read(from_word(line, 4), &mut from[..n], value);
     let answer = call(&from[..n], &mut out[..m]);
-    answer.map_or_else(u32::from, |()| 0) == number_at(line, 1)
+    answer_number(answer) == number_at(line, 1)
         && same_values(after, &out[..m], |x, n| x == value(n))
 }

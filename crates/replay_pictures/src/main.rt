@@ -9,6 +9,7 @@ use std::io;
 use std::io::{Read, Write};
 
 // What five digits say; 0 for more than 65,536.
+// Kept: the 0, for which the program reads an empty text, as it did: the one caller would make an Option that 0 again.
 fn length_of(digits: &[u8; 5]) -> usize
     ensures { result ≤ 65536 }
 {
@@ -48,8 +49,8 @@ fn print_all<R: Read, W: Write>(
 ) -> io::Result<()>
     requires { 65536 ≤ length space.old }
 {
-    let turns: usize = 1000000;
-    for _ in 0..turns {
+    // Kept: each loop is proved to end, and nothing says that an input does: `while print_next(..)? {}` has no measure.
+    for _ in 0..u64::MAX {
         if !print_next(input, to, space, out)? {
             return Ok(());
         }

@@ -1,12 +1,12 @@
 -- A run of all its rounds: from what start leaves to the planes after the last job, with the totals of its blends.
 use mathlib.Core.Path.{◌≡◌, refl, sym, ap, ◌∙◌, subst}
-use mathlib.Core.Logic.{◌≢◌}
+use mathlib.Core.Logic.{◌≢◌, inl, inr}
 use mathlib.Core.Bool.{Bool, true, false}
 use mathlib.Core.List.{List, [], ◌∷◌, ◌++◌, map}
 use Prim.Native.Nat.{ℕ, zero, suc, ◌+◌, ◌*◌, ◌/◌, ◌%◌, ◌≤◌, ◌<◌}
 use native.Mathlib.Omega.{arith}
 use native.Mathlib.Numerals.{add-one}
-use lib.ListN.{length, drop, length-append, length-drop}
+use lib.ListN.{length, drop, get_or, length-append, length-drop}
 use lib.Dec.{eqb}
 use lib.Ieee.{Float}
 use lib.Ieee.Fits.{and_r}
@@ -32,13 +32,14 @@ use Rattle.demand.proofs.Laws.{laws}
 use Rattle.record.specs.declared.Run.{Run}
 use Rattle.std.specs.Prelude.{Result, Ok, Err}
 use Rattle.refusal.specs.declared.Refusal.{Refusal}
+use Rattle.record.specs.declared.Job.TheVariants as job
 use Rattle.record.specs.declared.Accepted.{Accepted}
 use Rattle.record.specs.declared.Accepted.TheVariants.{Done, Blown, Blended}
-use Rattle.record.specs.Model.{sheet_of, places_of, clipped_of, given_of, answer_of}
+use Rattle.record.specs.Model.{sheet_of, places_of, clipped_of, given_of, answer_of, turn_of}
 use Rattle.record.proofs.Placed.{sheet_stays, places_placed}
 use Rattle.run.specs.Public.{Outcome, state_of, StartIs}
 use Rattle.rounds.specs.Whole.{job_count, run_blows, pair_at, run_totals, Whole, last, run_of, Loan, loan, SameLengths, ClippedAre, Ended, Ends, RunIs}
-use Rattle.rounds.specs.Rounds.{AllAt, round_blows, RoundAsks, RoundIs, with_pair, RunAsks}
+use Rattle.rounds.specs.Rounds.{next_of, AllAt, round_blows, RoundAsks, RoundIs, with_pair, RunAsks}
 use Rattle.rounds.proofs.Steps.{Kept, kept_of}
 
 -- ---- lengths
@@ -52,6 +53,15 @@ same_lengths B₀ B k Down = k.down_long
 same_lengths B₀ B k Saved = k.saved_long
 
 -- ---- the rounds
+
+-- the jobs of a step, by their turns
+pub jobs_turn : (i : ℕ) → i < 5 → turn_of (get_or (job.Push ∷ job.Data ∷ job.Blend ∷ job.Move ∷ job.Project ∷ []) i job.Push) ≡ i
+jobs_turn zero h = refl
+jobs_turn (suc zero) h = refl
+jobs_turn (suc (suc zero)) h = refl
+jobs_turn (suc (suc (suc zero))) h = refl
+jobs_turn (suc (suc (suc (suc zero)))) h = refl
+jobs_turn (suc (suc (suc (suc (suc i))))) h = absurd (omega arith)
 
 -- after all jobs the buffers are those fixed for them, joined
 buffers_are : (G : Given) (r : Run) (B : Buffers) → AllAt G (job_count G) r B → B ≡ (run_of G).buffers
@@ -154,8 +164,8 @@ module _ (r₀ : Run) (levels : Levels) (tables : List ℕ) (B₀ : Buffers) (T�
   abbrev G : Given
   G = given_of r₀ levels tables
 
-  pub few : 5 * r₀.n ≤ 5000
-  few = omega (arith, (sheet_is (sheet_of r₀) asks.ok.sheet-ok).N-1000)
+  some : 0 < count G
+  some = elim (sheet_is (sheet_of r₀) asks.ok.sheet-ok).channels [ inl e ↦ omega arith | inr e ↦ omega arith ]
 
   pub begins : (n : ℕ) → Rounding G n 0 r₀ B₀ T₀ B₀ T₀
   begins n =
@@ -168,29 +178,44 @@ module _ (r₀ : Run) (levels : Levels) (tables : List ℕ) (B₀ : Buffers) (T�
         totals_long = refl;
       }
 
-  module _ (p : ℕ) (r : Run) (B : Buffers) (T : List Float) (h : Rounding G (5 * r₀.n) p r B₀ T₀ B T) where
+  -- job i of step k
+  module _ (k i : ℕ) (r : Run) (B : Buffers) (T : List Float) (h : Rounding G (5 * r₀.n) (5 * k + i) r B₀ T₀ B T) where
+    abbrev p : ℕ
+    p = 5 * k + i
+
+    next_is : next_of r ≡ p
+    next_is = h.all.at_place 0 some
+
     given_is : given_of r levels tables ≡ G
     given_is = ap (λ (S : Sheet). record { sheet = S; levels = levels; tables = tables }) h.all.sheet
 
-    module _ (left : p < 5 * r₀.n) where
-      pub round_asks : RoundAsks r p levels tables B
+    module _ (left : k < r₀.n) (five : i < 5) where
+      before : p < 5 * r₀.n
+      before = omega arith
+
+      pub round_asks : RoundAsks r (next_of r) levels tables B
       round_asks =
+          subst (λ (q : ℕ). RoundAsks r q levels tables B) (sym next_is)
           record {
             ok = subst GivenOk (sym given_is) asks.ok;
-            left = subst (λ (H : Given). p < job_count H) (sym given_is) left;
+            left = subst (λ (H : Given). p < job_count H) (sym given_is) before;
             all = subst (λ (H : Given). AllAt H p r B) (sym given_is) h.all;
           }
 
-      -- the places of the round's step
-      pub room : p / 5 * 2 + 2 ≤ length T
-      room = omega (arith, h.totals_long, asks.long)
+      pub turn_is : next_of r % 5 ≡ i
+      turn_is = ap (λ (q : ℕ). q % 5) next_is ∙ omega arith
 
-      module _ (a : Result Accepted Refusal) (r' : Run) (B' : Buffers) (T' : List Float) (said : RoundIs (given_of r levels tables) p a r' B') (put : T' ≡ with_pair a (p / 5) T) where
+      module _ (a : Result Accepted Refusal) (r' : Run) (B' : Buffers) (T' : List Float) (said : RoundIs (given_of r levels tables) (next_of r) a r' B') (put : T' ≡ with_pair a k T) where
         said_of : RoundIs G p a r' B'
-        said_of = subst (λ (H : Given). RoundIs H p a r' B') given_is said
+        said_of = subst (λ (H : Given). RoundIs H p a r' B') given_is (subst (λ (q : ℕ). RoundIs (given_of r levels tables) q a r' B') next_is said)
 
-        pub goes-on : goes a ≡ true → Rounding G (5 * r₀.n) (p + 1) r' B₀ T₀ B' T'
-        goes-on on = go a on said_of put
+        put_of : T' ≡ with_pair a (p / 5) T
+        put_of = put ∙ ap (λ (s : ℕ). with_pair a s T) (omega arith)
+
+        pub goes-on : goes a ≡ true → Rounding G (5 * r₀.n) (5 * k + (i + 1)) r' B₀ T₀ B' T'
+        goes-on on =
+            let next : p + 1 ≡ 5 * k + (i + 1) = omega arith in
+            rw (← next) (go a on said_of put_of)
           where
             one_more : AllAt G (suc p) r' B' → round_blows G p ≡ false → Summed G (suc p) T₀ T' → Rounding G (5 * r₀.n) (p + 1) r' B₀ T₀ B' T'
             one_more standing fine summed =
@@ -212,20 +237,22 @@ module _ (r₀ : Run) (levels : Levels) (tables : List ℕ) (B₀ : Buffers) (T�
 
         pub stops : goes a ≡ false → Ends 0 (run_of G) (loan B₀ T₀) Calls.blown (clipped_of r') (loan B' T')
         unfolding run_of run_blows
-        stops off = go a off said_of put
+        stops off = go a off said_of put_of
           where
             go : (a : Result Accepted Refusal) → goes a ≡ false → RoundIs G p a r' B' → T' ≡ with_pair a (p / 5) T → Ends 0 (run_of G) (loan B₀ T₀) Calls.blown (clipped_of r') (loan B' T')
             go (Err m) off s put = absurd s
             go (Ok Done) off s put = never true off refl
             go (Ok (Blended tv tgv)) off s put = never true off refl
             go (Ok Blown) off s put =
-                rw (among_true (job_count G) (round_blows G) p left s.0)
+                rw (among_true (job_count G) (round_blows G) p before s.0)
                 (refl, (same_lengths B₀ B' (kept_of (count G * area G) B₀ B' asks.all.inv.sized s.1), ap length put ∙ h.totals_long))
 
-    pub ends : 5 * r₀.n ≤ p → Ends 0 (run_of G) (loan B₀ T₀) Calls.done (clipped_of r) (loan B T)
+  -- after the last step
+  module _ (k : ℕ) (r : Run) (B : Buffers) (T : List Float) (h : Rounding G (5 * r₀.n) (5 * k) r B₀ T₀ B T) where
+    pub ends : r₀.n ≤ k → Ends 0 (run_of G) (loan B₀ T₀) Calls.done (clipped_of r) (loan B T)
     unfolding run_of run_blows
     ends l =
-        let last : p ≡ job_count G = omega (arith, h.most) in
+        let last : 5 * k ≡ job_count G = omega (arith, h.most) in
         let none : among (job_count G) (round_blows G) ≡ false = rw last at h.none in
         let six_are : B ≡ (run_of G).buffers = buffers_are G r B (rw last at h.all) in
         let totals-are : T ≡ (run_of G).totals = summed_all G T₀ T asks.long (subst (λ (k : ℕ). Summed G k T₀ T) last h.summed) in

@@ -28,6 +28,10 @@ pub record Stand (G : Given) (at : ℕ → ℕ) (r : Run) (B : Buffers) : Type 0
 abbrev pub AllAt : Given → ℕ → Run → Buffers → Type 0
 AllAt G p r B = Stand G (λ c. p) r B
 
+-- the position of the first channel, which between the rounds is that of all
+abbrev pub next_of : Run → ℕ
+next_of r = (place (places_of r) 0).position
+
 -- a round of job p: which channels it has passed after i calls; blend is one call for all
 abbrev pub passed : ℕ → ℕ → ℕ → Bool
 passed job i c = cond (eqb job 2) (ltb 0 i) (ltb c i)

@@ -1,17 +1,20 @@
 // A run from its start to its last job, in rounds: a round makes one job for every channel.
 #![tactic(auto)]
 
-ghost use Rattle.std.specs.Prelude.{◌≡◌, [], ◌∷◌, ◌+◌, ◌*◌, ◌≤◌, length, Ok};
+ghost use Rattle.std.specs.Prelude.{◌≡◌, [], ◌∷◌, ◌+◌, ◌*◌, ◌%◌, ◌≤◌, length, Ok};
 ghost use Rattle.record.specs.Lent.{levels_in, six_of, SameSix};
 ghost use Rattle.record.specs.Model.{given_of, answer_of, clipped_of, turn_of};
 ghost use Rattle.rounds.specs.Whole.{loan, run_of, Ends, RunIs};
-ghost use Rattle.rounds.specs.Rounds.{turns, RoundAsks, RoundIs, with_pair, RunAsks};
+ghost use Rattle.rounds.specs.Rounds.{next_of, turns, RoundAsks, RoundIs, with_pair, RunAsks};
 
 use numbered::job_value;
 use record::lent::{Buffers, Given};
 use record::{Accepted, Job, Run};
 use refusal::Refusal;
 use run::values::start;
+
+// The jobs of a step, in the order of their turns.
+const JOBS: [Job; 5] = [Job::Push, Job::Data, Job::Blend, Job::Move, Job::Project];
 
 // How many calls a round makes: one for each channel, but one for all if the job is blend.
 fn turns_of(job: Job, count: u32) -> u32
@@ -23,13 +26,12 @@ fn turns_of(job: Job, count: u32) -> u32
     }
 }
 
-// The job that is next at position p, for every channel. It stops at a channel that is blown.
-fn round(run: &mut Run, p: u32, given: Given, lent: &mut Buffers) -> Result<Accepted, Refusal>
-    requires { RoundAsks run.old p (levels_in given) given.tables.now (six_of lent.old) }
-    ensures is { RoundIs (given_of run.old (levels_in given.entry) given.entry.tables.now) p result run.new (six_of lent.new) }
+// The job that is next for every channel. It stops at a channel that is blown.
+fn round(run: &mut Run, job: Job, given: Given, lent: &mut Buffers) -> Result<Accepted, Refusal>
+    requires { RoundAsks run.old (next_of run.old) (levels_in given) given.tables.now (six_of lent.old) × (turn_of job ≡ next_of run.old % 5) }
+    ensures is { RoundIs (given_of run.old (levels_in given.entry) given.entry.tables.now) (next_of run.old) result run.new (six_of lent.new) }
     ensures same { SameSix lent.old lent.new }
 {
-    let job = Job::try_from((p % 5) as u8).unwrap();
     for c in 0..turns_of(job, run.count) {
         let answer = job_value(run, job, c, given, lent)?;
         let Accepted::Done = answer else {
@@ -40,6 +42,7 @@ fn round(run: &mut Run, p: u32, given: Given, lent: &mut Buffers) -> Result<Acce
 }
 
 // Both totals of a blend, into two places.
+// Kept: a slice with its length: both callers have one, cut from the totals or lent by C, and would turn it into an array by `as_mut_array().unwrap()`.
 pub fn put_two(tv: f64, tgv: f64, two: &mut [f64])
     requires { length two.old ≡ 2 }
     ensures { two.new ≡ (tv ∷ tgv ∷ []) }
@@ -48,6 +51,9 @@ pub fn put_two(tv: f64, tgv: f64, two: &mut [f64])
 }
 
 // The totals of step k's blend, if this is its answer, at their places.
+// Kept: beside `put_pair` of `smoother`, which has two places of its own and may be handed a refusal; what both share is `put_two`.
+// Kept: C lends the totals flat. Of a loop over `totals.chunks_exact_mut(2)` in `all_rounds` the proof would know only that `totals` keeps its length, as in `row` of `picture`,
+// where such a loop was tried.
 fn put_pair(answer: Accepted, k: usize, totals: &mut [f64])
     requires { k * 2 + 2 ≤ length totals.old }
     ensures { totals.new ≡ with_pair (Ok answer) k totals.old }
@@ -72,12 +78,14 @@ fn all_rounds(
         (loan (six_of lent.new) totals.new) }
     ensures same { SameSix lent.old lent.new }
 {
-    for p in 0..5 * run.n {
-        let answer = round(run, p, given, lent)?;
-        if let Accepted::Blown = answer {
-            return Ok(Accepted::Blown);
+    for step in 0..run.n as usize {
+        for &job in &JOBS {
+            let answer = round(run, job, given, lent)?;
+            if let Accepted::Blown = answer {
+                return Ok(Accepted::Blown);
+            }
+            put_pair(answer, step, totals);
         }
-        put_pair(answer, (p / 5) as usize, totals);
     }
     Ok(Accepted::Done)
 }

@@ -1,6 +1,6 @@
 -- A loop over a lent part of a buffer, seen in the whole buffer.
 use Rattle.std.proofs.Common.{◌≡◌, refl, ap, ◌∙◌, sym, ℕ, zero, suc, ◌+◌, ◌-◌, ◌<◌, ◌≤◌, Bool, true, false, cond, ◌||◌, List, ◌++◌, length, take, drop, set, arith, length-set, get_or-take, zero-add, add-zero, le_refl, replicate, ap₂}
-use Rattle.std.proofs.lemmas.List.{take-append-drop, set-append_left, set-append_right, length-replicate, get_or-replicate}
+use Rattle.std.proofs.lemmas.List.{set-get_or, take-append-drop, set-append_left, set-append_right, length-replicate, get_or-replicate}
 use Rattle.fold.proofs.Stores.{stored}
 use lib.Seq.{length-take-le}
 use lib.Ieee.{Float, nan, eq}
@@ -11,8 +11,8 @@ use Rattle.fold.proofs.Parts.{part_length, part_at, splice_in}
 use Rattle.float.specs.Ops.{fused}
 use Rattle.float.specs.Names.{◌⊖◌, f0, val}
 use Rattle.fold.proofs.Loops.{upto_ext}
-use Rattle.rows.proofs.RowLaws.{hit_same}
-use Rattle.rows.specs.Rows.{store_from, store_in, hit, hit_at, hit_in}
+use Rattle.rows.proofs.RowLaws.{hit_same, hit_at, change_row, row_is}
+use Rattle.rows.specs.Rows.{Row, store_from, store_in, hit, hit_in}
 
 module _ (g : List Float) (a e : ℕ) (h : a ≤ e) (k : e ≤ length g) where
   pub splice_part : splice g a e (part g a e) ≡ g
@@ -29,13 +29,14 @@ module _ (g : List Float) (a e : ℕ) (h : a ≤ e) (k : e ≤ length g) where
   -- values stored
   module _ (v : ℕ → Float) where
     kept : (n : ℕ) → length (upto (store_in v) n (part g a e)) ≡ e - a
-    kept n = upto-keeps length (store_in v) (λ j t. length-set t j (v j)) n (part g a e) ∙ part_length g a e h k
+    kept n = upto-keeps length (store_in v) (λ j t. length-set t (0 + j) (v j)) n (part g a e) ∙ part_length g a e h k
 
     pub stored_in : (n : ℕ) → n ≤ e - a → splice g a e (upto (store_in v) n (part g a e)) ≡ upto (store_from a v) n g
     unfolding upto
     stored_in zero m = splice_part
     stored_in (suc n) m =
-        splice_set (upto (store_in v) n (part g a e)) (kept n) n (omega arith) (v n)
+        ap (λ (i : ℕ). splice g a e (set (upto (store_in v) n (part g a e)) i (v n))) (zero-add n)
+        ∙ splice_set (upto (store_in v) n (part g a e)) (kept n) n (omega arith) (v n)
         ∙ ap (λ (t : List Float). set t (a + n) (v n)) (stored_in n (omega arith))
 
   -- values changed, unless a norm is 0
@@ -90,8 +91,12 @@ store_whole v u g y at e n h k m i w =
     ∙ ap (λ (z : ℕ). upto (store_from at v) z g) m
     ∙ upto_ext (store_from at v) (store_from at u) n g (λ x t l. ap (set t (at + x)) (w x l))
 
+-- values stored from place 0 on are each place's own
+pub from_zero : (v : ℕ → Float) (n : ℕ) (t : List Float) → upto (store_in v) n t ≡ upto (λ x s. set s x (v x)) n t
+from_zero v n t = upto_ext (store_in v) (λ x s. set s x (v x)) n t (λ x s l. ap (λ (i : ℕ). set s i (v x)) (zero-add x))
+
 pub zeros_stored : (t : List Float) → replicate (length t) f0 ≡ upto (store_in (λ j. f0)) (length t) t
-zeros_stored t = sym (stored nan (λ j. f0) t (replicate (length t) f0) (length-replicate (length t) f0) (λ i l. sym (get_or-replicate (length t) i f0 nan l)))
+zeros_stored t = sym (from_zero (λ j. f0) (length t) t ∙ stored nan (λ j. f0) t (replicate (length t) f0) (length-replicate (length t) f0) (λ i l. sym (get_or-replicate (length t) i f0 nan l)))
 
 pub zeros_whole : (g y : List Float) (at e n : ℕ) → at ≤ e → e ≤ length g → e - at ≡ n → y ≡ replicate n f0 → splice g at e y ≡ upto (store_from at (λ j. f0)) n g
 zeros_whole g y at e n h k m i =
@@ -111,15 +116,24 @@ in_part xs a n h j l = part_at xs a (a + n) (omega arith) h j nan (omega arith)
 pub keep_whole : (v : ℕ → Float) (g y : List Float) (at e n : ℕ) → at ≤ e → e ≤ length g → e - at ≡ n → y ≡ upto (store_in v) n (part g at e) → splice g at e y ≡ upto (store_from at v) n g
 keep_whole v g y at e n h k m i = ap (splice g at e) i ∙ stored_in g at e h k v n (omega arith)
 
--- a whole row, from place 0 on
-pub from_zero : (v : ℕ → Float) (n : ℕ) (t : List Float) → upto (store_from 0 v) n t ≡ upto (store_in v) n t
-from_zero v n t = upto_ext (store_from 0 v) (store_in v) n t (λ x s l. ap (λ (i : ℕ). set s i (v x)) (zero-add x))
+-- stored values, by what stands at each place
+pub store_is : (v : ℕ → Float) (t u : List Float) → length u ≡ length t → Row (length t) u v → u ≡ upto (store_in v) (length t) t
+store_is v t u h r = row_is (λ x z. v x) t u h r ∙ sym (from_zero v (length t) t)
 
-pub row_stored : (v u : ℕ → Float) (t y : List Float) (n : ℕ) → length t ≡ n → y ≡ upto (store_in v) (length t) t → ((j : ℕ) → j < n → v j ≡ u j) → y ≡ upto (store_from 0 u) n t
-row_stored v u t y n m i w =
-    i ∙ ap (λ (z : ℕ). upto (store_in v) z t) m ∙ upto_ext (store_in v) (store_in u) n t (λ x s l. ap (set s x) (w x l)) ∙ sym (from_zero u n t)
+-- changes unless a norm is 0, by what stands at each place
+pub put_is : (alpha : Float) (ns qs t u : List Float) → length u ≡ length t → Row (length t) u (λ x. cond (eq (val ns x) f0) (val t x) (fused alpha (val qs x) (val t x))) → u ≡ upto (hit_in alpha ns qs) (length t) t
+unfolding hit
+put_is alpha ns qs s u h r = row_is (λ x v. cond (eq (val ns x) f0) v (fused alpha (val qs x) v)) s u h r ∙ upto_ext (change_row (λ x v. cond (eq (val ns x) f0) v (fused alpha (val qs x) v))) (hit_in alpha ns qs) (length s) s (λ x t l. go x t (eq (val ns x) f0))
+  where
+    go : (x : ℕ) (t : List Float) (b : Bool) → set t x (cond b (val t x) (fused alpha (val qs x) (val t x))) ≡ cond (b || false) t (set t x (fused alpha (val qs x) (val t x)))
+    go x t true = set-get_or t x nan
+    go x t false = refl
 
-pub zeros_row : (t y : List Float) (n : ℕ) → length t ≡ n → y ≡ replicate n f0 → y ≡ upto (store_from 0 (λ j. f0)) n t
+-- a whole row
+pub row_stored : (v u : ℕ → Float) (t y : List Float) (n : ℕ) → length t ≡ n → y ≡ upto (store_in v) (length t) t → ((j : ℕ) → j < n → v j ≡ u j) → y ≡ upto (store_in u) n t
+row_stored v u t y n m i w = i ∙ ap (λ (z : ℕ). upto (store_in v) z t) m ∙ upto_ext (store_in v) (store_in u) n t (λ x s l. ap (set s (0 + x)) (w x l))
+
+pub zeros_row : (t y : List Float) (n : ℕ) → length t ≡ n → y ≡ replicate n f0 → y ≡ upto (store_in (λ j. f0)) n t
 zeros_row t y n m i = row_stored (λ j. f0) (λ j. f0) t y n m (i ∙ ap (λ (z : ℕ). replicate z f0) (sym m) ∙ zeros_stored t) (λ j l. refl)
 
 pub row_length : (xs : List Float) (b w m : ℕ) → b + w ≤ length xs → m ≡ w → length (part xs b (b + w)) ≡ m

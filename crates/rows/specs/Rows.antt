@@ -22,17 +22,13 @@ Idle w ns = (x : ℕ) → x < w → eq (val ns x) f0 ≡ true
 abbrev pub store_from : ℕ → (ℕ → Float) → ℕ → List Float → List Float
 store_from at v x xs = set xs (at + x) (v x)
 
--- xs[x] = v x
+-- xs[x] = v x, from place 0 on
 abbrev pub store_in : (ℕ → Float) → ℕ → List Float → List Float
-store_in v x xs = set xs x (v x)
+store_in = store_from 0
 
 -- g[k] = alpha.mul_add(q, g[k]), and nothing at an edge or where the norm n is 0
 unfoldable pub hit : Bool → Float → Float → Float → ℕ → List Float → List Float
 hit edge alpha n q k g = cond (eq n f0 || edge) g (set g k (fused alpha q (val g k)))
-
--- the changes of places at, at + 1, .. by the pixels lo, lo + 1, ..
-abbrev pub hit_at : Float → List Float → List Float → ℕ → ℕ → ℕ → List Float → List Float
-hit_at alpha ns qs lo at j = hit false alpha (val ns (lo + j)) (val qs (lo + j)) (at + j)
 
 -- each place's own
 abbrev pub hit_in : Float → List Float → List Float → ℕ → List Float → List Float

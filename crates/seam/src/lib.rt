@@ -13,8 +13,7 @@ use contents::{Channel, Header, Letter, Settings, Sheet, Weight};
 fn same_weight(a: Weight, b: Weight) -> bool
     ensures { result ≡ same_weight a b }
 {
-    float::bits::to_bits(contents::weight_value(a))
-        == float::bits::to_bits(contents::weight_value(b))
+    float::bits::to_bits(f32::from(a)) == float::bits::to_bits(f32::from(b))
 }
 
 // Place by place.
@@ -91,7 +90,8 @@ fn same_channels(s: Sheet, t: Sheet) -> bool
 }
 
 // Two sheets but for their tables, by what they mean.
-// Kept: `==` of sheets asks for the same widths, spelling and spare channels. Ruled out: w1 and h3f800000 told apart; no line F and `F t` told apart.
+// Kept: `==` of sheets asks for the same widths, spelling and spare channels.
+// Ruled out: w1 and h3f800000 told apart; no line F and `F t` told apart.
 pub fn same_sheet(s: Sheet, t: Sheet) -> bool
     ensures { result ≡ same_sheet s t }
 {

@@ -11,6 +11,7 @@ use record::lent::{Buffers, Given};
 use record::{Accepted, Run};
 use refusal::Refusal;
 
+// Kept: jobs, channels and answers are three slices, as C lends them, for the reason at `Given` of `record`.
 // A fresh run of the record, and then the calls of the two lists of numbers, one after the other; their answers as bytes.
 // Rules out: all steps done in the first job, and a position counted up without its job.
 pub fn serve(

@@ -70,6 +70,8 @@ pub fn make_calls(
         (six_of lent.old) answers.new run.new (six_of lent.new) }
     ensures same { SameSix lent.old lent.new }
 {
+    // Kept: tried with `jobs.iter().zip(channels).zip(answers.iter_mut())`, and the proof didn't close: a byte that is stored through an item of `zip` leaves no trace in the
+    // loop's state, so that of `answers` only the length is known after it. With `iter_mut` outermost and two calls of `zip` the borrow checker doesn't cover the function.
     for (i, answer) in answers.iter_mut().enumerate() {
         let job = Job::try_from(jobs[i]).unwrap();
         *answer = answer_byte(numbered::job_value(run, job, channels[i], given, lent));

@@ -2,10 +2,9 @@
 use Prim.Native.Nat.{ℕ, suc, ◌+◌, ◌/◌}
 use mathlib.Core.Path.{◌≡◌, refl, sym, ap, ◌∙◌}
 use mathlib.Core.List.{List, [], ◌∷◌, append-nil}
-use mathlib.Core.Bool.{Bool, true, false, not, cond}
+use mathlib.Core.Bool.{Bool, cond}
 use native.Mathlib.Omega.{arith}
-use lib.Dec.{eqb}
-use lib.ListN.{length, get_or, drop_of_length-le}
+use lib.ListN.{length, drop_of_length-le}
 use lib.Seq.{sets, sets-eq}
 use lib.IntN.{ℤ, pos}
 use borrow.Author.Tests.{eq-eqb}
@@ -13,7 +12,7 @@ use Rattle.sheet.specs.declared.walk.Walked.{Walked}
 use Rattle.contents.specs.declared.Reader.{Reader}
 use Rattle.contents.specs.declared.Reader.TheVariants as reader
 use Rattle.contents.specs.Sheets.{Lent, lent, Marked, Held}
-use Rattle.contents.specs.Marks.{among, hidden, hide, seen_by}
+use Rattle.contents.specs.Marks.{hidden, hide, seen_by}
 use Rattle.sheet.specs.Reading.{Outcome, Contents}
 use Rattle.sheet.specs.Reading.Outcome.{Gives, Refused}
 use Rattle.sheet.specs.Calls.{fitted, sheet_in, lent_after}
@@ -24,19 +23,12 @@ all_set : {A : Type 0} (l vs : List A) → length vs ≡ length l → sets l 0 v
 all_set l vs e = sets-eq vs l 0 (omega arith) ∙ rw (drop_of_length-le l {i = 0 + length vs} (omega arith)) (append-nil vs)
 
 -- what the reader gets by the map is what it gets by the marks
-module _ (ms : List Marked) (bits : List ℕ) (m : Bits ms bits) where
-  marked_bit : (b : ℕ) → not (eqb (get_or bits b 0) 0) ≡ among b ms
-  marked_bit b = ap (λ (n : ℕ). not (eqb n 0)) (m.bit b) ∙ two (among b ms)
-    where
-      two : (x : Bool) → not (eqb (cond x 1 0) 0) ≡ x
-      two true = refl
-      two false = refl
-
+module _ (ms : List Marked) (bits : List Bool) (m : Bits ms bits) where
   shown_is : (i : ℕ) (zs : List ℤ) → shown_by bits i zs ≡ hide ms i zs
   shown_is i [] = refl
-  shown_is i (z ∷ zs) = rw (marked_bit (i / 64)) (ap (λ (x : List ℤ). cond (hidden ms i) (pos 0) z ∷ x) (shown_is (suc i) zs))
+  shown_is i (z ∷ zs) = rw (m.bit (i / 64)) (ap (λ (x : List ℤ). cond (hidden ms i) (pos 0) z ∷ x) (shown_is (suc i) zs))
 
-seen-is : (who : Reader) (h : Held) (bits : List ℕ) → Bits h.marks bits
+seen-is : (who : Reader) (h : Held) (bits : List Bool) → Bits h.marks bits
     → lent (shown_to who bits h.lent.lows) (shown_to who bits h.lent.highs) h.lent.tables ≡ seen_by who h
 seen-is reader.Staff h bits m = refl
 seen-is reader.Partner h bits m = λ i. lent (shown_is h.marks bits m 0 h.lent.lows i) (shown_is h.marks bits m 0 h.lent.highs i) h.lent.tables
@@ -54,7 +46,7 @@ counts c w q =
     rw e (record { sheet = refl; lows = refl; highs = refl; tables = refl })
 
 module _ (who : Reader) (into : Lent) (w : Walked) (g : w.lows ≡ length into.lows) (h : w.highs ≡ length into.highs) (x : w.tables ≡ length into.tables) where
-  pub read_sheet : (T : Outcome Contents) (after : Lent) (bits : List ℕ) (v : Walked) → Gives w ≡ walked_of T → Gives v ≡ walked_of T → Stores T into after → Maps T bits
+  pub read_sheet : (T : Outcome Contents) (after : Lent) (bits : List Bool) (v : Walked) → Gives w ≡ walked_of T → Gives v ≡ walked_of T → Stores T into after → Maps T bits
       → (Gives v.sheet ≡ sheet_in (fitted into T)) × (lent (shown_to who bits after.lows) (shown_to who bits after.highs) after.tables ≡ lent_after who (fitted into T) into)
   read_sheet (Refused a b) after bits v q r z o = cc
   read_sheet (Gives c) after bits v q r z o =

@@ -1,11 +1,10 @@
 -- A walk over a text: what is left to read, read after what was read, gives the whole answer.
-use Rattle.std.proofs.Common.{Some, None, Ok, Err, Result, MatchResult}
-use Rattle.std.specs.Result.{IsErrAnd}
+use Rattle.std.proofs.Common.{Some, None, Ok, Err, Result}
 use Rattle.refusal.specs.declared.Refusal.{Refusal}
 use Rattle.refusal.specs.declared.Refusal.TheVariants as refusal
 use Rattle.refusal.specs.Refusal as table
 use Prim.Native.Nat.{ℕ, zero, suc, ◌+◌, ◌-◌, ◌^◌, ◌<◌, ◌≤◌}
-use mathlib.Core.Path.{◌≡◌, refl, sym, ap, ◌∙◌, subst}
+use mathlib.Core.Path.{◌≡◌, refl, sym, ap, ◌∙◌}
 use mathlib.Core.List.{List, [], ◌∷◌, ◌++◌, append-nil}
 use mathlib.Core.Bool.{Bool, true, false, not, cond, ◌&&◌, ◌||◌}
 use native.Mathlib.Numerals.{add-one}
@@ -327,13 +326,13 @@ some_after b (x ∷ l) h = two (eqb x b) (split b l) (split_some b l)
 
 -- The map of all blocks
 
-zeros : (n b : ℕ) → ◌≡◌ {A = ℕ} (get_or (replicate n 0) b 0) 0
-zeros zero b = refl
-zeros (suc n) zero = refl
-zeros (suc n) (suc b) = zeros n b
+none_marked : (n b : ℕ) → get_or (replicate n false) b false ≡ false
+none_marked zero b = refl
+none_marked (suc n) zero = refl
+none_marked (suc n) (suc b) = none_marked n b
 
-pub no_bits : Bits [] (replicate most_blocks 0)
-no_bits = record { long = length-replicate {A = ℕ} most_blocks 0; bit = zeros most_blocks }
+pub no_bits : Bits [] (replicate most_blocks false)
+no_bits = record { long = length-replicate {A = Bool} most_blocks false; bit = none_marked most_blocks }
 
 pub among_more : (b : ℕ) (ms : List Marked) (m : Marked) → among b (ms ++ m ∷ []) ≡ (among b ms || eqb b m.block)
 among_more b [] m = two (eqb b m.block)
@@ -347,35 +346,28 @@ among_more b (n ∷ ms) m = two (eqb b n.block) (among_more b ms m)
     two true e = refl
     two false e = e
 
-module _ (ms : List Marked) (bits : List ℕ) (m : Bits ms bits) where
+module _ (ms : List Marked) (bits : List Bool) (m : Bits ms bits) where
   -- one more mark
-  more_bits : (k : Marked) → k.block < most_blocks → Bits (ms ++ k ∷ []) (set bits k.block 1)
+  more_bits : (k : Marked) → k.block < most_blocks → Bits (ms ++ k ∷ []) (set bits k.block true)
   more_bits k h =
       record {
-        long = length-set bits k.block 1 ∙ m.long;
-        bit = λ b. which b (eqb b k.block) refl ∙ sym (ap {B = ℕ} (λ (x : Bool). cond x 1 0) (among_more b ms k));
+        long = length-set bits k.block true ∙ m.long;
+        bit = λ b. which b (eqb b k.block) refl ∙ sym (among_more b ms k);
       }
     where
-      same : (x : Bool) → ◌≡◌ {A = ℕ} 1 (cond (x || true) 1 0)
+      same : (x : Bool) → true ≡ (x || true)
       same true = refl
       same false = refl
 
-      other : (x : Bool) → ◌≡◌ {A = ℕ} (cond x 1 0) (cond (x || false) 1 0)
+      other : (x : Bool) → x ≡ (x || false)
       other true = refl
       other false = refl
 
-      which : (b : ℕ) (x : Bool) → eqb b k.block ≡ x → get_or (set bits k.block 1) b 0 ≡ cond (among b ms || eqb b k.block) 1 0
+      which : (b : ℕ) (x : Bool) → eqb b k.block ≡ x → get_or (set bits k.block true) b false ≡ (among b ms || eqb b k.block)
       which b true e =
-          rw (e, eqb-true b k.block e) (get_or-set_same bits k.block 1 0 (omega (arith, m.long)) ∙ same (among k.block ms))
+          rw (e, eqb-true b k.block e) (get_or-set_same bits k.block true false (omega (arith, m.long)) ∙ same (among k.block ms))
       which b false e =
-          rw e (get_or-set_other bits k.block b 1 0 (eqb-false b k.block e) ∙ m.bit b ∙ other (among b ms))
-
-  twice_is : (s : Sheet) (k : Mark) → not (eqb (get_or bits (block_of s k) 0) 0) ≡ among (block_of s k) ms
-  twice_is s k = ap (λ (n : ℕ). not (eqb n 0)) (m.bit (block_of s k)) ∙ two (among (block_of s k) ms)
-    where
-      two : (x : Bool) → not (eqb (cond x 1 0) 0) ≡ x
-      two true = refl
-      two false = refl
+          rw e (get_or-set_other bits k.block b true false (eqb-false b k.block e) ∙ m.bit b ∙ other (among b ms))
 
   -- by the map as by the marks
   taken_alike : (s : State) (d : Record) → taken_if s (twice_in s.sheet d bits) d ≡ taken_of s ms d
@@ -384,7 +376,7 @@ module _ (ms : List Marked) (bits : List ℕ) (m : Bits ms bits) where
   taken_alike s (line.Channel c) = refl
   taken_alike s (line.Setting x) = refl
   taken_alike s line.Block = refl
-  taken_alike s (line.Mark k) = rw (twice_is s.sheet k) (two (exists s.sheet k))
+  taken_alike s (line.Mark k) = rw (m.bit (block_of s.sheet k)) (two (exists s.sheet k))
     where
       two : (x : Bool) → cond (x && not (cond x (among (block_of s.sheet k) ms) false)) (Ok s) (Err refusal.Mark) ≡ cond (x && not (among (block_of s.sheet k) ms)) (Ok s) (Err refusal.Mark)
       two true = refl
@@ -411,15 +403,15 @@ module _ (ms : List Marked) (bits : List ℕ) (m : Bits ms bits) where
       two false e =
           rw (e, append-nil ms, unmarked s (header_of fs) (channel_of fs) (setting.Rounding (letter_in 116 (get_or fs 1 []))) (setting.Start (letter_in 109 (get_or fs 1 []))) (setting.Hold (hold_of fs)) (eqb tag 83) (eqb tag 67) (eqb tag 70) (eqb tag 65) (eqb tag 72)) m
 
-marked_length : (s : Sheet) (d : Record) (bits : List ℕ) → length (marked_in s d bits) ≡ length bits
+marked_length : (s : Sheet) (d : Record) (bits : List Bool) → length (marked_in s d bits) ≡ length bits
 marked_length s (line.Header h) bits = refl
 marked_length s (line.Channel c) bits = refl
 marked_length s (line.Setting x) bits = refl
 marked_length s line.Block bits = refl
 marked_length s (line.Mark m) bits = two (exists s m)
   where
-    two : (x : Bool) → length (cond x (set bits (block_of s m) 1) bits) ≡ length bits
-    two true = length-set bits (block_of s m) 1
+    two : (x : Bool) → length (cond x (set bits (block_of s m) true) bits) ≡ length bits
+    two true = length-set bits (block_of s m) true
     two false = refl
 
 -- a mark that was taken has its block
@@ -437,7 +429,7 @@ marked_exists s t tag fs u e q = taken_exists s t (mark_of fs) u (rw q at e)
 
 -- The text up to a line
 
-pub record Reading (limits : Limits) (text : List ℕ) (into after : Lent) (bits₀ bits : List ℕ) (s : State) (rest : List ℕ) (k : ℕ) (next : Places) : Type 0 where
+pub record Reading (limits : Limits) (text : List ℕ) (into after : Lent) (bits₀ bits : List Bool) (s : State) (rest : List ℕ) (k : ℕ) (next : Places) : Type 0 where
   so_far : Held
   pub lines : k + length rest ≤ length text + 1
   pub low_room : next.lows + length rest ≤ length text
@@ -450,7 +442,7 @@ pub record Reading (limits : Limits) (text : List ℕ) (into after : Lent) (bits
   pub kept : length bits ≡ length bits₀
   whole : read_from limits s so_far k (split 10 rest) ≡ read_text limits text
 
-pub read_begin : (limits : Limits) (text : List ℕ) (into : Lent) (bits : List ℕ) (s : State) → allowed limits ≡ true → s ≡ blank → bits ≡ replicate most_blocks 0 → Reading limits text into into bits bits s text 1 (places 0 0 0)
+pub read_begin : (limits : Limits) (text : List ℕ) (into : Lent) (bits : List Bool) (s : State) → allowed limits ≡ true → s ≡ blank → bits ≡ replicate most_blocks false → Reading limits text into into bits bits s text 1 (places 0 0 0)
 unfolding read_text
 read_begin limits text into bits s h e q =
     record {
@@ -467,20 +459,14 @@ read_begin limits text into bits s h e q =
       whole = rw (e, h);
     }
 
--- what `map_err` made a refusal of
-pub was_err : {X : Type 0} (r : Result X Refusal) (q : Result X walk.Refused) (F : Refusal → walk.Refused → Type 0) (e : walk.Refused)
-    → MatchResult r (λ x. q ≡ Ok x) (λ k. IsErrAnd q (F k)) → q ≡ Err e → (k : Refusal) × (r ≡ Err k) × F k e
-was_err (Ok x) q F e m n = absurd cc
-was_err (Err k) q F e m n = (k, refl, subst (λ q. IsErrAnd q (F k)) n m)
-
 -- the answer of a refusal at a line
 abbrev pub at_line : Refusal → ℕ → Result Walked walk.Refused
 at_line m k = Err (record { refusal = m; line = k })
 
-refused : (limits : Limits) (text : List ℕ) (into after : Lent) (bits : List ℕ) (m : Refusal) (k : ℕ) → read_text limits text ≡ Refused (table.number_of m) k → Walks limits text into after bits (at_line m k)
+refused : (limits : Limits) (text : List ℕ) (into after : Lent) (bits : List Bool) (m : Refusal) (k : ℕ) → read_text limits text ≡ Refused (table.number_of m) k → Walks limits text into after bits (at_line m k)
 refused limits text into after bits m k e = record { answer = rw e; stored = rw e tt; mapped = rw e tt }
 
-pub walk_limit : (limits : Limits) (text : List ℕ) (into : Lent) (bits : List ℕ) → allowed limits ≡ false → Walks limits text into into bits (at_line refusal.Size 0)
+pub walk_limit : (limits : Limits) (text : List ℕ) (into : Lent) (bits : List Bool) → allowed limits ≡ false → Walks limits text into into bits (at_line refusal.Size 0)
 unfolding read_text
 walk_limit limits text into bits h = refused limits text into into bits refusal.Size 0 (rw h)
 
@@ -494,7 +480,7 @@ pub record OnLine (rest : List ℕ) (s : State) (n tag count : ℕ) : Type 0 whe
   due : tag ≡ line_tag s (split 9 (take n rest))
   counted : count ≡ field_count tag
 
-module _ {limits : Limits} {text : List ℕ} {into after : Lent} {bits₀ bits : List ℕ} {s : State} {rest : List ℕ} {k : ℕ} {next : Places} (r : Reading limits text into after bits₀ bits s rest k next) where
+module _ {limits : Limits} {text : List ℕ} {into after : Lent} {bits₀ bits : List Bool} {s : State} {rest : List ℕ} {k : ℕ} {next : Places} (r : Reading limits text into after bits₀ bits s rest k next) where
   pub bits_long : length bits ≡ most_blocks
   bits_long = r.mapped.long
 
@@ -586,7 +572,7 @@ module _ {limits : Limits} {text : List ℕ} {into after : Lent} {bits₀ bits :
             tag o.due o.short (not_last 10 (drop (n + 1) rest)) (y ∙ o.counted) (check_good c rules_count h) x
             (some_after 10 (drop (n + 1) rest) (omega (arith, length-drop (n + 1) rest, o.ended))))
 
-        module _ (x : tag ≡ 69 → ⊥) {d : Record} {t : Bool} {bits' : List ℕ} {w : Result State Refusal} (u : d ≡ record_of tag (split 9 (take n rest)))
+        module _ (x : tag ≡ 69 → ⊥) {d : Record} {t : Bool} {bits' : List Bool} {w : Result State Refusal} (u : d ≡ record_of tag (split 9 (take n rest)))
             (m : (t ≡ twice_in s.sheet d bits) × (bits' ≡ marked_in s.sheet d bits)) (v : w ≡ taken_if s t d) where
           taken_is : taken_of s r.so_far.marks (record_of tag (split 9 (take n rest))) ≡ w
           taken_is =

@@ -1,13 +1,15 @@
 -- What measuring and reading promise.
 use Rattle.std.specs.Prelude.{ℕ, ◌≡◌, List, Bool, cond, ◌&&◌, length, eqb, Result}
+use Rattle.std.proofs.lemmas.List.Edits.{sets}
 use Rattle.contents.specs.declared.Limits.{Limits}
 use Rattle.contents.specs.declared.Sheet.{Sheet}
 use Rattle.sheet.specs.declared.Lengths.{Lengths}
+use Rattle.sheet.specs.declared.walk.Walked.{Walked}
 use Rattle.sheet.specs.declared.walk.Refused as walk
 use Rattle.contents.specs.declared.Reader.{Reader}
 use Rattle.contents.specs.Sheets.{Lent}
 use Rattle.contents.specs.Marks.{seen_by}
-use Rattle.sheet.specs.Walk.{said}
+use Rattle.sheet.specs.Walk.{said, walked_of}
 use Rattle.sheet.specs.Reading.{Outcome, Contents, read_text}
 use Rattle.sheet.specs.Reading.Outcome.{Gives, Refused}
 
@@ -18,6 +20,15 @@ lengths_of (Refused k line) = Refused k line
 
 abbrev pub measuring : Limits → List ℕ → Outcome Lengths
 measuring limits text = lengths_of (read_text limits text)
+
+-- Counting a text: its answer, and a legal text's quantisers at the front of the lent tables, as far as there is room
+abbrev pub Listed : Outcome Contents → List ℕ → List ℕ → Type 0
+Listed (Gives c) before after = after ≡ sets before 0 c.held.lent.tables
+Listed (Refused k line) before after = Unit {0}
+
+pub record Counts (limits : Limits) (text before after : List ℕ) (r : Result Walked walk.Refused) : Type 0 where
+  pub answer : said r ≡ walked_of (read_text limits text)
+  pub tables : Listed (read_text limits text) before after
 
 -- "Reading also refuses a levels or tables buffer not of the exact length (8), last"; levels are "lows and highs, two buffers of
 -- the old length each" (M-105). It is no line's fault: line 0.

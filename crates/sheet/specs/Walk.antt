@@ -1,5 +1,5 @@
 -- What the walk over a text promises its two callers.
-use Rattle.std.specs.Prelude.{ℕ, ◌≡◌, List, cond, length, get_or, Ok, Err, Result}
+use Rattle.std.specs.Prelude.{ℕ, ◌≡◌, List, Bool, false, length, get_or, Ok, Err, Result}
 use Rattle.std.proofs.lemmas.List.Edits.{sets}
 use Rattle.refusal.specs.Refusal as table
 use Rattle.contents.specs.declared.Limits.{Limits}
@@ -11,10 +11,10 @@ use Rattle.progress.specs.Progress.{most_blocks}
 use Rattle.sheet.specs.Reading.{Outcome, Contents, read_text}
 use Rattle.sheet.specs.Reading.Outcome.{Gives, Refused}
 
--- The marks as a map of all blocks: 1 where a block is marked, 0 elsewhere
-pub record Bits (ms : List Marked) (bits : List ℕ) : Type 0 where
+-- The marks as a map of all blocks: true where a block is marked, false elsewhere
+pub record Bits (ms : List Marked) (bits : List Bool) : Type 0 where
   pub long : length bits ≡ most_blocks
-  pub bit : (b : ℕ) → get_or bits b 0 ≡ cond (among b ms) 1 0
+  pub bit : (b : ℕ) → get_or bits b false ≡ among b ms
 
 -- What an answer says: its value, or the number of its refusal in the paper's table and its line
 abbrev pub said : {A : Type 0} → Result A walk.Refused → Outcome A
@@ -34,11 +34,11 @@ Stores (Gives c) into after =
 Stores (Refused k line) into after = Unit {0}
 
 -- and the map has its marks
-abbrev pub Maps : Outcome Contents → List ℕ → Type 0
+abbrev pub Maps : Outcome Contents → List Bool → Type 0
 Maps (Gives c) bits = Bits c.held.marks bits
 Maps (Refused k line) bits = Unit {0}
 
-pub record Walks (limits : Limits) (text : List ℕ) (into after : Lent) (bits : List ℕ) (r : Result Walked walk.Refused) : Type 0 where
+pub record Walks (limits : Limits) (text : List ℕ) (into after : Lent) (bits : List Bool) (r : Result Walked walk.Refused) : Type 0 where
   pub answer : said r ≡ walked_of (read_text limits text)
   pub stored : Stores (read_text limits text) into after
   pub mapped : Maps (read_text limits text) bits

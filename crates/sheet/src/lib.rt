@@ -5,9 +5,8 @@ pub mod walk;
 
 ghost use Rattle.std.specs.Prelude.{◌≡◌};
 ghost use Rattle.contents.specs.Sheets.{lent};
-ghost use Rattle.sheet.specs.Reading.{read_text};
-ghost use Rattle.sheet.specs.Calls.{measuring, Reads};
-ghost use Rattle.sheet.specs.Walk.{said, walked_of};
+ghost use Rattle.sheet.specs.Calls.{measuring, Counts, Reads};
+ghost use Rattle.sheet.specs.Walk.{said};
 
 pub use crate::walk::{Refused, Walked};
 use contents::{Limits, Reader, Sheet};
@@ -20,15 +19,12 @@ pub struct Lengths {
     pub tables: usize,
 }
 
-// A walk that keeps no level and no quantiser.
-fn count(text: &[u8], limits: Limits) -> Result<Walked, Refused>
-    ensures { said result ≡ walked_of (read_text limits text.now) }
+// How much a text holds: a walk that keeps no level, and a legal text's quantisers as far as there is room.
+// Ruled out: the quantisers at the end of longer tables; a refusal where there is no room for them.
+pub fn count(text: &[u8], limits: Limits, tables: &mut [u16]) -> Result<Walked, Refused>
+    ensures { Counts limits text.now tables.old tables.new result }
 {
-    let mut lows = [0i16; 1];
-    let mut highs = [0i16; 1];
-    let mut tables = [0u16; 1];
-    let mut bits = [0u8; 12288];
-    walk::walk(text, limits, &mut lows, &mut highs, &mut tables, &mut bits)
+    walk::walk(text, limits, &mut [], &mut [], tables, &mut [false; 12288])
 }
 
 // The lengths that reading needs, or the refusal that it gives. A side or an iteration count above the limit is refused, and so
@@ -37,7 +33,7 @@ fn count(text: &[u8], limits: Limits) -> Result<Walked, Refused>
 pub fn measure(text: &[u8], limits: Limits) -> Result<Lengths, Refused>
     ensures { said result ≡ measuring limits text.now }
 {
-    let counted = count(text, limits)?;
+    let counted = count(text, limits, &mut [])?;
     Ok(Lengths {
         levels: counted.lows,
         tables: counted.tables,
@@ -58,7 +54,7 @@ pub fn read(
 ) -> Result<Sheet, Refused>
     ensures { Reads limits who text.now (lent lows.old highs.old tables.old) (lent lows.new highs.new tables.new) result }
 {
-    let counted = count(text, limits)?;
+    let counted = count(text, limits, &mut [])?;
     if counted.lows != lows.len()
         || counted.highs != highs.len()
         || counted.tables != tables.len()
@@ -68,7 +64,7 @@ pub fn read(
             line: 0,
         });
     }
-    let mut bits = [0u8; 12288];
+    let mut bits = [false; 12288];
     let walked = walk::walk(text, limits, lows, highs, tables, &mut bits)?;
     hiding::show(who, &bits, lows);
     hiding::show(who, &bits, highs);

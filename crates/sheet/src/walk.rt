@@ -1,7 +1,6 @@
 // Reading line by line and field by field.
-ghost use Rattle.std.specs.Prelude.{◌≡◌, eqb};
+ghost use Rattle.std.specs.Prelude.{◌≡◌};
 ghost use Rattle.contents.specs.Sheets.{lent};
-ghost use Rattle.lines.specs.Lines.{letter_of};
 ghost use Rattle.sheet.specs.Reading.{allowed};
 ghost use Rattle.sheet.specs.Walk.{Walks};
 
@@ -43,25 +42,19 @@ pub struct Walked {
 fn are_allowed(limits: Limits) -> bool
     ensures { result ≡ allowed limits }
 {
-    limits.side % 8 == 0 && 8 <= limits.side && limits.side <= 512 && limits.iterations <= 1000
-}
-
-// Does this line end the sheet?
-fn is_end(tag: Tag) -> bool
-    ensures { result ≡ eqb (letter_of tag) 69 }
-{
-    tag == Tag::End
+    field::is_side(limits.side, 512) && limits.iterations <= 1000
 }
 
 // Reads a whole text and stops at the first bad field of the first bad line. Levels and quantisers go to the lent buffers as
 // far as there is room, and the marks to a map of all blocks.
+// Kept: lows, highs and tables one by one, here and in `read`: a struct of the three `&mut` would need in each contract that each is still the same buffer.
 pub fn walk(
     text: &[u8],
     limits: Limits,
     lows: &mut [i16],
     highs: &mut [i16],
     tables: &mut [u16],
-    bits: &mut [u8; 12288],
+    bits: &mut [bool; 12288],
 ) -> Result<Walked, Refused>
     ensures { Walks limits text.now (lent lows.old highs.old tables.old) (lent lows.new highs.new tables.new) bits.new result }
 {
@@ -71,25 +64,25 @@ pub fn walk(
             line: 0,
         });
     }
-    bits.fill(0);
+    bits.fill(false);
     let mut state = progress::nothing();
     let mut rest = text;
     let mut line: usize = 1;
     let mut low: usize = 0;
     let mut high: usize = 0;
     let mut listed: usize = 0;
-    // Kept: a loop over what is left of the text, since each turn ends with a refusal, the sheet, or one more line; a `for` over lines would need an answer behind it that never comes.
+    // Kept: document 01 names this form: nested loops over lines and fields, left from inside by a label with the refusal. So the walk is one function, and no `?` leaves it.
     'lines: loop {
         // the line's length, then its end, then tag and field count
         let l = pieces::first_line(rest);
         if 1024 < l.length {
-            return Err(Refused {
+            break 'lines Err(Refused {
                 refusal: Refusal::Form,
                 line,
             });
         }
         if l.length == rest.len() {
-            return Err(Refused {
+            break 'lines Err(Refused {
                 refusal: Refusal::Cut,
                 line,
             });
@@ -98,7 +91,7 @@ pub fn walk(
         let tag = progress::expected(state, row);
         let count = lines::field_count(tag);
         if l.fields != count {
-            return Err(Refused {
+            break 'lines Err(Refused {
                 refusal: Refusal::Form,
                 line,
             });
@@ -106,12 +99,16 @@ pub fn walk(
         // its fields, left to right, each after what the one before it said
         let sheet = state.sheet;
         let header = sheet.header;
+        // Kept: the fields' places by hand, for the reason at `text::field_at`: of the parts of the library's `split` it isn't known that they are the fields.
         let mut a: usize = 0;
         let mut last = Field::Good;
         for i in 0..count {
             let f = pieces::first_field(&row[a..]);
             let rule = lines::rule_at(tag, i, limits, header, last, row);
-            last = field::read_field(rule, f).map_err(|refusal| Refused { refusal, line })?;
+            match field::read_field(rule, f) {
+                Ok(field) => last = field,
+                Err(refusal) => break 'lines Err(Refused { refusal, line }),
+            }
             let (lowest, highest) = last.levels();
             low = storing::put(lowest, lows, low);
             high = storing::put(highest, highs, high);
@@ -119,26 +116,25 @@ pub fn walk(
             a = a + f.len() + 1;
         }
         // nothing after E; cover after a channel's fields, a mark's block after its line's form
-        if is_end(tag) {
+        if tag == Tag::End {
             if l.length + 1 == rest.len() {
-                return Ok(Walked {
+                break 'lines Ok(Walked {
                     sheet,
                     lows: low,
                     highs: high,
                     tables: listed,
                 });
             }
-            let next = line + 1;
-            return Err(Refused {
+            break 'lines Err(Refused {
                 refusal: Refusal::Cut,
-                line: next,
+                line: line + 1,
             });
         }
         let rec = lines::record_of(tag, row);
-        state = progress::take_record(state, rec, bits).map_err(|refusal| Refused {
-            refusal,
-            line,
-        })?;
+        match progress::take_record(state, rec, bits) {
+            Ok(next) => state = next,
+            Err(refusal) => break 'lines Err(Refused { refusal, line }),
+        }
         rest = &rest[l.length + 1..];
         line += 1;
     }

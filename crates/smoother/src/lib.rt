@@ -72,10 +72,7 @@ impl From<Run> for LentRun {
             h: r.h,
             n: r.n,
             smoothing: r.smoothing,
-            reorder: match r.reorder {
-                Reorder::Each => 0,
-                Reorder::Once => 1,
-            },
+            reorder: r.reorder as u32,
             count: r.count,
             channels,
         }
@@ -95,6 +92,7 @@ pub extern "C" fn smoother_measure(
 ) -> u32
     ensures { Measures (measuring (record { side = side; iterations = iterations }) text.now) levels.old levels.new tables.old tables.new line.new result }
 {
+    // Kept: both arms end as those of `smoother_read`: a function of the Err arms, as `told` of by_numbers::stitches, is longer with its contract than what it saves at two places.
     match sheet::measure(text, Limits { side, iterations }) {
         Ok(lengths) => {
             *levels = lengths.levels;

@@ -3,7 +3,8 @@
 ghost use Rattle.std.specs.Prelude.{◌≡◌, length};
 ghost use Rattle.start.specs.Coef.{pairs};
 ghost use Rattle.record.specs.Model.{answer_of};
-ghost use Rattle.smoother.specs.Numbers.{pair_in, room_refusal, NeverBlowsNumbers, StartNumbers, PushNumbers, DataNumbers, BlendNumbers, MoveNumbers, ProjectNumbers, ServeNumbers};
+ghost use Rattle.serve.specs.Serve.{byte_of};
+ghost use Rattle.smoother.specs.Numbers.{lent_from, pair_in, room_refusal, NeverBlowsNumbers, StartNumbers, PushNumbers, DataNumbers, BlendNumbers, MoveNumbers, ProjectNumbers, ServeNumbers};
 ghost use Rattle.refusal.specs.Refusal.{number_of};
 
 use crate::LentRun;
@@ -12,6 +13,14 @@ use record::lent::{Buffers, Given};
 use record::{Accepted, Run};
 use refusal::Refusal;
 use serve::answer_byte;
+
+// How each call below ends: the record goes back, and the answer is told by its number.
+fn told(run: &mut LentRun, r: Run, answer: Result<Accepted, Refusal>) -> u32
+    ensures { (run.new ≡ lent_from r) × (result ≡ byte_of (answer_of answer)) }
+{
+    *run = LentRun::from(r);
+    u32::from(answer_byte(answer))
+}
 
 // Start. Ruled out: a record at positions that are not 0, or marked, afterwards; a prior that is not the plane; the start of m for a letter's number 2 (13).
 // Kept: the nine slices stand one by one, here, in `smoother_serve` and in `smoother_solve`: a C function takes no struct of slices.
@@ -50,8 +59,7 @@ pub extern "C" fn smoother_start(
         saved,
     };
     let answer = run::values::start(&mut r, given, &mut lent);
-    *run = LentRun::from(r);
-    u32::from(answer_byte(answer))
+    told(run, r, answer)
 }
 
 // 1 where no call on the record's run ever answers 255 or 10. Ruled out: 1 for 21 iterations or a third data weight of 2; 0 for 20 iterations and weights of
@@ -82,8 +90,7 @@ pub extern "C" fn smoother_push(
         return u32::from(Refusal::Record);
     };
     let answer = run::values::push(&mut r, c, plane, prior);
-    *run = LentRun::from(r);
-    u32::from(answer_byte(answer))
+    told(run, r, answer)
 }
 
 // Data. Ruled out: 9 where the level of another channel is beyond its range (5); a gradient added to what stood there.
@@ -108,8 +115,7 @@ pub extern "C" fn smoother_data(
         tables,
     };
     let answer = run::values::data(&mut r, c, given, gradient, saved);
-    *run = LentRun::from(r);
-    u32::from(answer_byte(answer))
+    told(run, r, answer)
 }
 
 // What blend refuses where not two places are lent for its totals.
@@ -154,8 +160,7 @@ pub extern "C" fn smoother_blend(
     };
     let answer = run::values::blend(&mut r, plane, gradient, across, down);
     put_pair(answer, totals);
-    *run = LentRun::from(r);
-    u32::from(answer_byte(answer))
+    told(run, r, answer)
 }
 
 // Move. Ruled out: a plane moved twice by two calls in a row; 11 given before the last step's project.
@@ -173,8 +178,7 @@ pub extern "C" fn smoother_move(
         return u32::from(Refusal::Record);
     };
     let answer = run::values::move_plane(&mut r, c, plane, gradient);
-    *run = LentRun::from(r);
-    u32::from(answer_byte(answer))
+    told(run, r, answer)
 }
 
 // Project. Ruled out: 255 for a plane that was blown before, in a step of another channel; a mark with the answer 0.
@@ -202,8 +206,7 @@ pub extern "C" fn smoother_project(
         tables,
     };
     let answer = run::values::project(&mut r, c, given, plane, across, down, saved);
-    *run = LentRun::from(r);
-    u32::from(answer_byte(answer))
+    told(run, r, answer)
 }
 
 // A fresh run, and then a list of calls, each by its job's number (0 push to 4 project) and a channel. Ruled out: all steps done in the first job;
@@ -246,6 +249,5 @@ pub extern "C" fn smoother_serve(
         saved,
     };
     let answer = serve::serve(&mut r, jobs, channels, answers, given, &mut lent);
-    *run = LentRun::from(r);
-    u32::from(answer_byte(answer))
+    told(run, r, answer)
 }

@@ -1,17 +1,15 @@
 // The whole run of a sheet and its picture as C functions. Both answer 0 for done, or the table's number.
 ghost use Rattle.std.specs.Prelude.{◌≡◌};
 ghost use Rattle.start.specs.Coef.{pairs};
-ghost use Rattle.record.specs.Lent.{levels_in};
 ghost use Rattle.rounds.specs.Whole.{six, loan};
-ghost use Rattle.solve.specs.Solve.{SolveIs};
 ghost use Rattle.by_numbers.specs.Whole.{letters_ok, SolveNumbers, FinishNumbers};
 
 use by_numbers::NUMBERS;
 use by_numbers::sheets::{put_clipped, sheet_of};
-use contents::Sheet;
 use picture::Rounding;
+use record::Accepted;
 use record::lent::{Buffers, Given};
-use refusal::Refusal;
+use refusal::{Refusal, answer_number};
 use serve::answer_byte;
 use solve::Solved;
 use solve::modes::all_legal;
@@ -21,34 +19,6 @@ fn letters_ok(numbers: &[u32; NUMBERS]) -> bool
     ensures { result ≡ letters_ok numbers.now }
 {
     (numbers[5] <= 1) & (numbers[28] <= 1)
-}
-
-// The whole run of a sheet on the six, lent one by one.
-// Kept: tried with the struct in `smoother_solve` itself; the proof of what solve leaves in its slices didn't close there, and does here.
-fn solve_six(
-    s: Sheet,
-    given: Given,
-    plane: &mut [f32],
-    prior: &mut [f32],
-    gradient: &mut [f32],
-    across: &mut [f32],
-    down: &mut [f32],
-    saved: &mut [f32],
-    totals: &mut [f64],
-) -> Solved
-    ensures { SolveIs s (levels_in given.entry) given.entry.tables.now
-        (loan (six plane.old prior.old gradient.old across.old down.old saved.old) totals.old) result.answer result.clipped
-        (loan (six plane.new prior.new gradient.new across.new down.new saved.new) totals.new) }
-{
-    let mut lent = Buffers {
-        plane,
-        prior,
-        gradient,
-        across,
-        down,
-        saved,
-    };
-    solve::solve(s, given, &mut lent, totals)
 }
 
 // The whole run of a sheet, by the numbers that `smoother_read` lends out. 8 for another count of them, 13 for a mode or a letter of line A that is neither 0 nor 1, and
@@ -92,15 +62,22 @@ pub extern "C" fn smoother_solve(
         highs,
         tables,
     };
-    let t = solve_six(
-        s, given, plane, prior, gradient, across, down, saved, totals,
-    );
-    let k = u32::from(answer_byte(t.answer));
-    if k != 0 {
-        return k;
+    let mut lent = Buffers {
+        plane,
+        prior,
+        gradient,
+        across,
+        down,
+        saved,
+    };
+    match solve::solve(s, given, &mut lent, totals) {
+        Ok(Solved::Done(counts)) => {
+            put_clipped(counts, clipped);
+            0
+        }
+        Ok(Solved::Blown) => u32::from(answer_byte(Ok(Accepted::Blown))),
+        Err(e) => u32::from(e),
     }
-    put_clipped(t.clipped, clipped);
-    0
 }
 
 // The picture's bytes of solved planes, which are only read; rounding is 0 for t and 1 for n, else 13. Ruled out: the second row of a picture narrower than the planes taken from the end of the
@@ -122,7 +99,7 @@ pub extern "C" fn smoother_finish(
     if 1 < rounding {
         return u32::from(Refusal::Record);
     }
-    match picture::finish(
+    answer_number(picture::finish(
         Rounding::from(rounding),
         w,
         h,
@@ -131,8 +108,5 @@ pub extern "C" fn smoother_finish(
         channels,
         planes,
         rgb,
-    ) {
-        Ok(()) => 0,
-        Err(e) => u32::from(e),
-    }
+    ))
 }

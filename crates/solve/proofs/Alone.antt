@@ -28,12 +28,10 @@ use Rattle.calls.specs.Calls.{done, blown, all, all_six, lengths, table_ok, leve
 use Rattle.calls.proofs.Parts.{channel_sized, put_sized, put_same, put_other, joined_channels}
 use Rattle.calls.proofs.Tests.{every_at, among_true, all_part, faultless_of, of_faultless, part_faultless, skip, sized_names, sized_of, Lent, lent_of, of_lent}
 use Rattle.record.specs.declared.Run.{Run}
-use Rattle.std.specs.Prelude.{Result, Ok, Err}
+use Rattle.std.specs.Prelude.{Result, Ok}
 use Rattle.refusal.specs.declared.Refusal.{Refusal}
-use Rattle.refusal.specs.Refusal.{number_of}
-use Rattle.refusal.proofs.Laws.{number_of-positive}
 use Rattle.record.specs.declared.Accepted.{Accepted}
-use Rattle.record.specs.declared.Accepted.TheVariants.{Done}
+use Rattle.record.specs.declared.Accepted.TheVariants.{Done, Blown, Blended}
 use Rattle.record.specs.Model.{Legal, own_of, no_channel, sheet_of, places_of, clipped_of, answer_of}
 use Rattle.record.proofs.Channels.{at_own}
 use Rattle.record.proofs.Sizes.{count_3, levels_rise, levels_small}
@@ -42,6 +40,23 @@ use Rattle.rounds.proofs.Steps.{Kept, kept_of}
 use Rattle.rounds.proofs.Ends.{same_lengths, totals_length, renumber, is_done, not_done}
 use Rattle.solve.specs.Solve.{joint, alone, iterations_at, steps_before, blend_count, joint_given, alone_given, levels_for, tables_for, alone_clipped, separately, whole_of, number_in, is_legal, all_legal, solve_refusal, SolveIs}
 use Rattle.solve.specs.Separate.{totals_from, loan_of, PartsAre, AloneAsks, AloneIs, SeparateAsks, SeparateIs}
+
+-- ---- a run that is accepted and not done is blown, with its numbers free
+
+pub blown_ends : (n : ℕ) (w : Whole) (L : Loan) (x : Accepted) (k k' : ℕ → ℕ) (L' : Loan) → (x ≡ Done → ⊥) → Ends n w L (answer_of (Ok x)) k L' → Ends n w L blown k' L'
+blown_ends n w L Done k k' L' f e = absurd (f refl)
+blown_ends (suc n) w L Blown k k' L' f e = e
+blown_ends zero w L Blown k k' L' f e = go w.blown e
+  where
+    go : (b : Bool) → Ended b w L blown k L' → Ended b w L blown k' L'
+    go true e = e
+    go false e = let z : ◌≡◌ {A = ℕ} 0 1 = cc e.0 in absurd (omega arith)
+blown_ends (suc n) w L (Blended tv tgv) k k' L' f e = let z : ◌≡◌ {A = ℕ} 0 1 = cc e.0 in absurd (omega arith)
+blown_ends zero w L (Blended tv tgv) k k' L' f e = go w.blown e
+  where
+    go : (b : Bool) → Ended b w L (Calls.blended tv tgv) k L' → Ended b w L blown k' L'
+    go true e = let z : ◌≡◌ {A = ℕ} 0 1 = cc e.0 in absurd (omega arith)
+    go false e = let z : ◌≡◌ {A = ℕ} 0 1 = cc e.0 in absurd (omega arith)
 
 -- ---- what a sheet that is not refused has passed
 
@@ -499,9 +514,9 @@ module _ (S : Sheet) (levels : Levels) (tables : List ℕ) (L₀ : Loan) (asks :
                 subst (λ (d : ℕ). number_in (set ks i k) d ≡ alone_clipped S levels tables d) same (get_or-set_same ks i k 0 few ∙ p)
             put c (inr l) p = get_or-set_other ks i c k 0 (λ e. omega arith) ∙ h.numbers c (omega arith)
 
-        pub stops : (a ≡ (Ok Done) → ⊥) → SeparateIs S levels tables L₀ a ks L'
+        pub stops : (a ≡ (Ok Done) → ⊥) → (ks' : List ℕ) → SeparateIs S levels tables L₀ a ks' L'
         unfolding separately
-        stops one =
+        stops one ks' =
             let d = blown_run S levels tables L₀ z i left L.buffers long L.totals room_now a r L' said (not_done a one) in
             rw (among_true S.header.channels (λ c. run_blows (alone_given S levels tables c)) i left d.0)
             (d.1, (same_lengths L₀.buffers L'.buffers kept_now, long_now))
@@ -526,14 +541,6 @@ module _ (S : Sheet) (levels : Levels) (tables : List ℕ) (L₀ : Loan) (asks :
 -- ---- solve
 
 module _ (S : Sheet) (levels : Levels) (tables : List ℕ) (L : Loan) where
-  pub solve_refused : (e : Refusal) → number_of e ≡ solve_refusal S levels tables (lengths all_six L.buffers) (length L.totals) → (ks : List ℕ)
-      → SolveIs S levels tables L (Err e) ks L
-  solve_refused e h ks = rw (← h) (go (number_of e) (number_of-positive e))
-    where
-      go : (n : ℕ) → 1 ≤ n → Ends n (whole_of S levels tables) L (Calls.refused n) (number_in ks) L
-      go zero p = absurd (omega arith)
-      go (suc n) p = (refl, refl)
-
   module _ (z : Taken S levels tables L) (a : Result Accepted Refusal) (ks : List ℕ) (L' : Loan) where
     -- by the mode
     ends_in : (b : Bool) → S.header.joint ≡ b → Ends 0 (cond b (run_of (joint_given S levels tables)) (separately S levels tables)) L (answer_of a) (number_in ks) L'
@@ -565,6 +572,18 @@ module _ (S : Sheet) (levels : Levels) (tables : List ℕ) (L : Loan) where
 
     pub solve_separate : S.header.joint ≡ false → SeparateIs S levels tables L a ks L' → SolveIs S levels tables L a ks L'
     solve_separate j h = ends_in false j h
+
+  -- where the run is not done, the numbers are free
+  pub any_numbers : (a : Result Accepted Refusal) (ks ks' : List ℕ) (L' : Loan) → (a ≡ (Ok Done) → ⊥) → SolveIs S levels tables L a ks L' → SolveIs S levels tables L a ks' L'
+  any_numbers a ks ks' L' f = go (solve_refusal S levels tables (lengths all_six L.buffers) (length L.totals))
+    where
+      ended : (b : Bool) → Ended b (whole_of S levels tables) L (answer_of a) (number_in ks) L' → Ended b (whole_of S levels tables) L (answer_of a) (number_in ks') L'
+      ended true e = e
+      ended false e = absurd (not_done a f (sym e.0))
+
+      go : (n : ℕ) → Ends n (whole_of S levels tables) L (answer_of a) (number_in ks) L' → Ends n (whole_of S levels tables) L (answer_of a) (number_in ks') L'
+      go (suc n) e = e
+      go zero e = ended (whole_of S levels tables).blown e
 
   -- the room of the joint run's totals
   pub joint_room : Taken S levels tables L → S.header.joint ≡ true → length L.totals ≡ (joint S).n * 2

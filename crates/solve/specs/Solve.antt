@@ -1,5 +1,5 @@
 -- The whole run (document 01, "Whole run and picture"): which runs a sheet has in each mode, the planes that they leave, the totals of their blends, and when they blow.
-use Rattle.std.specs.Prelude.{ℕ, zero, suc, ◌+◌, ◌*◌, Bool, false, ◌&&◌, not, cond, List, [], ◌∷◌, length, get_or, eqb, Float, Option, Result}
+use Rattle.std.specs.Prelude.{ℕ, zero, suc, ◌+◌, ◌*◌, Bool, false, ◌&&◌, not, cond, List, [], ◌∷◌, length, get_or, eqb, Float, Option, Result, Ok, Err}
 use Rattle.start.specs.Coef.{Levels}
 use Rattle.fold.specs.Join.{join_upto}
 use Rattle.fold.specs.Part.{part}
@@ -22,9 +22,12 @@ use Rattle.record.specs.declared.Run.{Run}
 use Rattle.record.specs.declared.Channel.{Channel}
 use Rattle.refusal.specs.declared.Refusal.{Refusal}
 use Rattle.record.specs.declared.Accepted.{Accepted}
+use Rattle.record.specs.declared.Accepted.TheVariants as accepted
 use Rattle.record.specs.Model.{sheet_of, places_of, given_of, answer_of}
 use Rattle.calls.specs.Jobs.{kept}
 use Rattle.demand.specs.Solver.{jobs}
+use Rattle.solve.specs.declared.Solved.{Solved}
+use Rattle.solve.specs.declared.Solved.TheVariants.{Done, Blown}
 use Rattle.rounds.specs.Whole.{job_count, run_blows, run_totals, Whole, last, run_of, Loan, Ends}
 
 -- ---- the runs of a sheet
@@ -174,6 +177,18 @@ solve_refusal S levels tables ls t =
 -- the number of channel c among those that `solve` gives
 abbrev pub number_in : List ℕ → ℕ → ℕ
 number_in ks c = get_or ks c 0
+
+-- what the call `solve` answers, without the numbers
+abbrev pub answered : Result Solved Refusal → Result Accepted Refusal
+answered (Ok (Done ks)) = Ok accepted.Done
+answered (Ok Blown) = Ok accepted.Blown
+answered (Err r) = Err r
+
+-- and the numbers that it gives, one for each of three channels; none where it is blown or refuses
+abbrev pub numbers_in : Result Solved Refusal → List ℕ
+numbers_in (Ok (Done ks)) = ks
+numbers_in (Ok Blown) = []
+numbers_in (Err r) = []
 
 -- How `solve` ends: refused, with the six and the totals as they were; blown; or done, with the six that the sheet's mode gives after 5N jobs, both
 -- totals of each blend, and each channel's number ks.

@@ -12,7 +12,8 @@ pub fn iterations_at(s: Sheet, c: u32) -> u32
 }
 
 // How many steps the runs of the channels before c have in separate mode.
-// Kept: `sum` asks beforehand that what it sums fits in a usize; the loop's invariant says it step by step, with the bound that is promised.
+// Kept: tried `(0..c).map(|k| iterations_at(s, k) as usize).sum()`. What stayed open is that it fits, and the bound that is promised: `sum` tells the sum alone, and that a count is
+// below 2^32 is known of what a call answers, as here in each turn of the loop.
 pub fn steps_before(s: Sheet, c: u32) -> usize
     ensures { (result ≡ steps_before s c) × (result ≤ c * 4294967295) }
 {

@@ -1,11 +1,12 @@
 // The runs of a sheet in both modes, and what solve refuses.
-ghost use Rattle.std.specs.Prelude.{◌≡◌};
+ghost use Rattle.std.specs.Prelude.{◌≡◌, not};
+ghost use Rattle.contents.specs.Sheets.{channel_at, data_at};
 ghost use Rattle.refusal.specs.Refusal.{answer_number};
 ghost use Rattle.record.specs.Lent.{levels_in};
-ghost use Rattle.solve.specs.Solve.{run_channel, joint_channels, joint, alone, all_legal, solve_refusal};
+ghost use Rattle.solve.specs.Solve.{run_channel, iterations_at, held_in, joint_channels, joint, alone, all_legal, solve_refusal};
 
 use crate::counts::{blend_count, iterations_at};
-use contents::{Sheet, Weight, channel_at, chosen, held_after, of_three, weight_value};
+use contents::{Sheet, Weight, channel_at, chosen, held_after, of_three};
 use record::Run;
 use record::legal::legal;
 use record::lent::Given;
@@ -21,7 +22,7 @@ fn run_channel(x: contents::Channel, weight: Weight, held: u32) -> record::Chann
         height: x.height,
         across: x.across,
         down: x.down,
-        weight: weight_value(weight),
+        weight: f32::from(weight),
         held,
         position: 0,
         mark: false,
@@ -53,29 +54,39 @@ pub fn joint_of(s: Sheet) -> Run
         w: h.width,
         h: h.height,
         n: h.iterations[0],
-        smoothing: weight_value(h.smoothing[0]),
+        smoothing: f32::from(h.smoothing[0]),
         reorder: chosen(s.settings.start, Reorder::Each, Reorder::Once),
         count: h.channels,
         channels: joint_channels(s),
     }
 }
 
-// The run of channel c alone: its own smoothing weight, iteration count and held count, but the first data weight. Nothing is held in it where the sheet's
-// mode is joint.
+// Channel c's line as the channel of its run alone: its own held count, but the first data weight. Nothing is held in it where the sheet's mode is joint.
+fn alone_channel(s: Sheet, c: u32) -> record::Channel
+    ensures { result ≡ run_channel (channel_at s c) (data_at s.header 0) (held_in (not s.header.joint) s c (iterations_at s c)) }
+{
+    let h = s.header;
+    let held = if h.joint {
+        iterations_at(s, c)
+    } else {
+        held_after(s, c)
+    };
+    run_channel(channel_at(s, c), h.data_weights[0], held)
+}
+
+// The run of channel c alone: its own smoothing weight, iteration count and held count, but the first data weight.
 #[tactic(auto, unfolding(crate::specs::Solve::alone))]
 pub fn alone_of(s: Sheet, c: u32) -> Run
     ensures { result ≡ alone s c }
 {
     let h = s.header;
-    let n = iterations_at(s, c);
-    let held = if h.joint { n } else { held_after(s, c) };
-    let x = run_channel(channel_at(s, c), h.data_weights[0], held);
+    let x = alone_channel(s, c);
     let letter = s.settings.start;
     Run {
         w: h.width,
         h: h.height,
-        n,
-        smoothing: weight_value(of_three(c, h.smoothing)),
+        n: iterations_at(s, c),
+        smoothing: f32::from(of_three(c, h.smoothing)),
         reorder: chosen(letter, Reorder::Each, Reorder::Once),
         count: 1,
         channels: [x, x, x],

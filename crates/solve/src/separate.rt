@@ -3,7 +3,7 @@ ghost use Rattle.std.specs.Prelude.{◌≡◌, ◌*◌, ◌<◌, length};
 ghost use Rattle.record.specs.Lent.{levels_in, six_of, SameSix};
 ghost use Rattle.record.specs.Model.{Legal};
 ghost use Rattle.rounds.specs.Whole.{six, loan, RunIs};
-ghost use Rattle.solve.specs.Solve.{joint, alone};
+ghost use Rattle.solve.specs.Solve.{joint, alone, answered, numbers_in};
 ghost use Rattle.solve.specs.Separate.{PartsAre, AloneAsks, AloneIs, SeparateAsks, SeparateIs};
 
 use crate::Solved;
@@ -18,7 +18,7 @@ use refusal::Refusal;
 use rounds::run_value;
 
 // Where channel c's part begins and ends in the lent buffers, in the levels, in the tables and in the totals.
-// Kept: std's `Range` is not Copy; with four of them each of the ten uses would be a clone.
+// Kept: std's `Range` is not Copy; with four of them six of the ten uses would be a clone.
 #[derive(Clone, Copy)]
 struct Parts {
     from: usize,
@@ -119,27 +119,26 @@ fn alone_value(
 }
 
 // The channels' runs, from the first to the last. It stops at one that is blown.
-pub fn separate(s: Sheet, given: Given, lent: &mut Buffers, totals: &mut [f64]) -> Solved
+pub fn separate(
+    s: Sheet,
+    given: Given,
+    lent: &mut Buffers,
+    totals: &mut [f64],
+) -> Result<Solved, Refusal>
     requires { SeparateAsks s (levels_in given) given.tables.now (loan (six_of lent.old) totals.old) }
     ensures is { SeparateIs s (levels_in given.entry) given.entry.tables.now
-        (loan (six_of lent.old) totals.old) result.answer result.clipped (loan (six_of lent.new) totals.new) }
+        (loan (six_of lent.old) totals.old) (answered result) (numbers_in result) (loan (six_of lent.new) totals.new) }
     ensures same { SameSix lent.old lent.new }
 {
     let mut clipped = [0u32; 3];
     let h = s.header;
     for c in 0..h.channels {
         let mut run = alone_of(s, c);
-        let answer = alone_value(s, c, &mut run, given, lent, totals);
-        let Ok(accepted) = answer else {
-            return Solved { answer, clipped };
-        };
+        let accepted = alone_value(s, c, &mut run, given, lent, totals)?;
         let Accepted::Done = accepted else {
-            return Solved { answer, clipped };
+            return Ok(Solved::Blown);
         };
         clipped[c as usize] = clipped_of(run, 0);
     }
-    Solved {
-        answer: Ok(Accepted::Done),
-        clipped,
-    }
+    Ok(Solved::Done(clipped))
 }

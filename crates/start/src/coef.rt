@@ -2,6 +2,7 @@
 ghost use Rattle.std.specs.Prelude.{◌≡◌, ◌+◌, ◌*◌, ◌<◌, ◌≤◌, Float, length};
 ghost use Rattle.start.specs.Coef.{Covers, Eights, Lent, pairs};
 
+use interval::Interval;
 use utils::blocks::{Order, move_blocks};
 use utils::dct::{Transform, transform_block, transform_blocks};
 
@@ -22,6 +23,7 @@ pub enum Reorder {
 }
 
 // The order of a letter's number: 1 is once, any other number after each block. Rules out: 2 for once, and 0 for once.
+// Kept: each number has its order, which `probe_start` promises to C for any number that it is lent; by `TryFrom` it could fail.
 impl From<u32> for Reorder {
     ghost use Rattle.start.specs.Coef.{reorder_from};
 
@@ -48,7 +50,7 @@ pub struct ScalarCoef<'a> {
 }
 
 impl ScalarCoef<'_> {
-    ghost use Rattle.start.specs.Coef.{block_count, block_h, block_w, dequantise, image_of, init_dct_target, px_count};
+    ghost use Rattle.start.specs.Coef.{block_count, block_h, block_w, dequantise, high_at, image_of, init_dct_target, low_at, px_count, quant_at};
     ghost use Rattle.start.specs.AsCoef.{scalar};
     ghost use Rattle.utils.specs.Blocks.{from_blocks};
 
@@ -61,14 +63,28 @@ impl ScalarCoef<'_> {
         self.own.width / 8 * (self.own.height / 8)
     }
 
+    // The interval of coefficient j of block i. Rules out: the quantiser of the block's first place, and the levels of another block.
+    pub fn interval(&self, i: usize, j: usize) -> Interval
+        requires { (i * 64 + 64 ≤ px_count self.now.own) × (j < 64) }
+        ensures { (result.low ≡ low_at (scalar self.now).levels (i * 64 + j)) × (result.high ≡ high_at (scalar self.now).levels (i * 64 + j))
+            × (result.quantiser ≡ quant_at self.now.table.now j) }
+    {
+        let k = i * 64 + j;
+        Interval {
+            low: self.lows[k],
+            high: self.highs[k],
+            quantiser: self.table[j],
+        }
+    }
+
     // The values of the levels of block i: half sum × quantiser.
     fn dequantise(&self, out: &mut [f32], i: usize)
         requires { (i * 64 + 64 ≤ px_count self.now.own) × (i * 64 + 64 ≤ length out.old) }
         ensures { out.new ≡ dequantise (scalar self.now).middle self.now.table.now i out.old }
     {
-        for (j, &q) in self.table.iter().enumerate() {
-            let k = i * 64 + j;
-            out[k] = interval::dequantised(self.lows[k], self.highs[k], q);
+        // Kept: tried with `out[i * 64..i * 64 + 64].iter_mut().enumerate()`, and the proof didn't close: the loop's invariant sees that part alone, where the definition goes by the places of all of `out`.
+        for j in 0..64 {
+            out[i * 64 + j] = self.interval(i, j).dequantised();
         }
     }
 
@@ -111,7 +127,7 @@ impl ScalarCoef<'_> {
             }
             Reorder::Once => {
                 self.init_dct_target(image);
-                transform_blocks(image, self.block_count(), Transform::Inverse);
+                transform_blocks(image, Transform::Inverse);
                 self.reorder(image, scratch);
             }
         }
@@ -119,6 +135,7 @@ impl ScalarCoef<'_> {
 }
 
 // A `ScalarCoef` with the full sides w and h that it covers.
+// Kept: its four fields again: with a `ScalarCoef` inside, each use would be `coef.scalar.own.width`. And a table is a slice, cut from those of all channels, whose length `Lent` says with that of the levels.
 #[derive(Clone, Copy)]
 pub struct Coef<'a> {
     pub own: Own,

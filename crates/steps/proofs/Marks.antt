@@ -1,5 +1,6 @@
 -- The term of every 64th step, worked out. Assumes nothing.
-use Rattle.std.proofs.Common.{◌≡◌, ℕ, zero, suc, ◌+◌, ◌*◌, ◌<◌, List, [], ◌∷◌, length, sym, refl, ap, ◌∙◌, arith}
+use Rattle.std.proofs.Common.{◌≡◌, ℕ, zero, suc, ◌+◌, ◌-◌, ◌*◌, ◌<◌, ◌≤◌, List, [], ◌∷◌, length, sym, refl, ap, ◌∙◌, arith}
+use Rattle.std.specs.List.{fold, range_with_len}
 use lib.Count.{count_trailing_zeros}
 use lib.Ieee.{Float, binary32, add, sub, mul, div, sum, round, units, odd, size, span, climb, of_bits, of_fields, neg, of_int}
 use Rattle.fold.specs.Fold.{upto}
@@ -156,3 +157,21 @@ mark_at k l = at marks 0 k all l ∙ ap term_of (start k)
   where
     start : (k : ℕ) → 0 + 64 * k ≡ 64 * k
     start k = omega arith
+
+-- ---- from the last mark on, as many turns as steps are left
+counted : (n a : ℕ) (x : Float) → fold (λ (t : Float) (i : ℕ). next_term t) x (range_with_len a n) ≡ upto term_at n x
+unfolding upto
+counted zero a x = refl
+counted (suc n) a x = counted n (a + 1) (next_term x) ∙ sym (ap (λ (k : ℕ). upto term_at k x) (one n) ∙ upto_add term_at 1 n x)
+  where
+    one : (n : ℕ) → suc n ≡ 1 + n
+    one n = omega arith
+
+pub term_from : (k step : ℕ) → k < 16 → 64 * k ≤ step → fold (λ (t : Float) (i : ℕ). next_term t) (val marks k) (range_with_len (64 * k) (step - 64 * k)) ≡ term_of step
+unfolding term_of
+term_from k step l h =
+    counted (step - 64 * k) (64 * k) (val marks k) ∙ ap (upto term_at (step - 64 * k)) (mark_at k l)
+    ∙ sym (upto_add term_at (64 * k) (step - 64 * k) f1) ∙ ap (λ (n : ℕ). upto term_at n f1) (back (64 * k) step h)
+  where
+    back : (a n : ℕ) → a ≤ n → a + (n - a) ≡ n
+    back a n h = omega arith

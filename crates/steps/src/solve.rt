@@ -14,12 +14,12 @@ pub struct Constants {
     pub second: f32,
 }
 
-// next_term = f32::midpoint(1.0, mul_add!(4.0, term.powi(2), 1.0).sqrt()).
+// next_term = f32::midpoint(1.0, mul_add!(4.0, term.powi(2), 1.0).sqrt()). A job takes up to 64 of each: the root is by `wide`, since that of `float` would show in a whole run; the midpoint is by `float`, from whole numbers as document 01 names it.
 #[tactic(auto, unfolding(crate::specs::Solve::next_term))]
 fn next_term(term: f32) -> f32
     ensures { result ≡ next_term term }
 {
-    wide::midpoint(
+    float::midpoint(
         1.0,
         wide::sqrt(float::mul_add_rounded(4.0, float::powi2(term), 1.0)),
     )
@@ -39,24 +39,19 @@ fn mark_before(step: u32) -> usize
 }
 
 // The term of a step, counted from 0: from the last mark on, as many turns as steps are left.
-#[tactic(auto, using(fold::proofs::Loops::upto_more, fold::proofs::Loops::upto_none, crate::proofs::Marks::mark_at), unfolding(crate::specs::Solve::term_of))]
 fn term_of(step: u32) -> f32
     ensures { result ≡ term_of step }
 {
     let k = mark_before(step);
     let from = (64 * k) as u32;
-    let mut term = MARKS[k];
-    for i in from..step {
-        term = next_term(term);
-    }
-    term
+    (from..step).fold(MARKS[k], |term, _| next_term(term))
 }
 
 // √n of a whole number. Rules out: a root cut to a whole number, and a number above 2 ^ 24 cut, and not rounded, to f32.
 pub fn root_of(n: u32) -> f32
     ensures { result ≡ root (float n) }
 {
-    wide::sqrt(std::num::nearest_u32_to_f32(n))
+    float::sqrt(std::num::nearest_u32_to_f32(n))
 }
 
 // The constants of a step, from the sheet and the step's number alone. Rules out: a term carried one step too far, and a step size of the own sides.
@@ -67,23 +62,25 @@ pub fn step_constants(w: u32, h: u32, iterations: u32, weight: f32, step: u32) -
 {
     let term = term_of(step);
     let radius = root_of(w * h) / 2.0;
-    let rest = wide::sqrt(1.0 + std::num::nearest_u32_to_f32(iterations));
+    let rest = float::sqrt(1.0 + std::num::nearest_u32_to_f32(iterations));
     Constants {
         term,
         factor: (term - 1.0) / next_term(term),
         step_size: radius / rest,
-        second: weight / wide::sqrt(2.0),
+        second: weight / float::sqrt(2.0),
     }
 }
 
 // The first n places of push, in one pass and with no further buffer: both values of a place are read once, then both are written once.
 // Rules out: a prior taken after the plane is written, and a plane made from a prior that lags by one place.
+// Kept: n beside the slices, since document 02 (M-101) asks for a proof of what stands after each place: this is its contract, for every n.
 #[tactic(auto, using(crate::proofs::Laws::pushed_front))]
 pub fn push_places(plane: &mut [f32], prior: &mut [f32], factor: f32, n: usize)
     requires { (n ≤ length plane.old) × (n ≤ length prior.old) }
     ensures { PushedTo factor (record { plane = plane.old; prior = prior.old }) n
         (record { plane = plane.new; prior = prior.new }) }
 {
+    // Kept: `plane[..n].iter_mut().zip(prior)` was tried, and what stays open is the contract: after a `zip` of it a proof knows both lengths and no value of either.
     for (i, x) in plane[..n].iter_mut().enumerate() {
         let old = *x;
         *x = float::mul_add_rounded(factor, old - prior[i], old);
@@ -102,6 +99,7 @@ pub fn push(plane: &mut [f32], prior: &mut [f32], k: Constants)
     push_places(plane, prior, k.factor, n);
 }
 
+// Kept: c and n, by document 01: the "mutable part from channel times W times H, handed to push, move and project" is cut here.
 // Job 1 on the part of channel c, of n values. Rules out: another channel's part pushed, and a place beyond the part changed.
 pub fn push_channel(plane: &mut [f32], prior: &mut [f32], k: Constants, c: usize, n: usize)
     requires { (c * n + n ≤ length plane.old) × (length plane.old ≡ length prior.old) }

@@ -9,19 +9,17 @@ use crate::solve::Constants;
 pub fn data_alpha(weight: f32) -> f32
     ensures { result ≡ data_alpha weight }
 {
-    weight * 2.0 * 255.0 * wide::sqrt(2.0)
+    weight * 2.0 * 255.0 * float::sqrt(2.0)
 }
 
 // The Euclidean norm of the objective gradient.
-#[tactic(auto, using(fold::proofs::Loops::upto_more, fold::proofs::Loops::upto_none), unfolding(crate::specs::Step::gradient_norm))]
 fn gradient_norm(gradient: &[f32]) -> f32
     ensures { result ≡ gradient_norm gradient.now }
 {
-    let mut acc = 0.0f32;
-    for &x in gradient {
-        acc = float::mul_add_rounded(x, x, acc);
-    }
-    wide::sqrt(acc)
+    let sum = gradient
+        .iter()
+        .fold(0.0, |acc, &x| float::mul_add_rounded(x, x, acc));
+    float::sqrt(sum)
 }
 
 // Job 4: plane = step_size.mul_add(-(gradient / norm), plane), if the norm isn't 0.
@@ -33,12 +31,14 @@ pub fn move_plane(plane: &mut [f32], gradient: &[f32], k: Constants)
 {
     let norm = gradient_norm(gradient);
     if norm != 0.0 {
+        // Kept: `plane.iter_mut().zip(gradient)` was tried, and what stays open is the contract: after a `zip` of it a proof knows the plane's length and none of its values.
         for (i, x) in plane.iter_mut().enumerate() {
             *x = wide::mul_add(k.step_size, -(gradient[i] / norm), *x);
         }
     }
 }
 
+// Kept: c and n, as `push_channel`, by document 01.
 // Job 4 on the part of channel c, of n values. Rules out: the norm of all channels' gradients, and a place beyond the part moved.
 pub fn move_channel(plane: &mut [f32], gradient: &[f32], k: Constants, c: usize, n: usize)
     requires { (c * n + n ≤ length plane.old) × (length plane.old ≡ length gradient.now) }

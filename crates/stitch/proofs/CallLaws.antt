@@ -6,7 +6,6 @@ use mathlib.Core.Bool.{Bool, true, false, cond, ◌&&◌}
 use mathlib.Core.Logic.{⊎_elim}
 use native.Mathlib.Omega.{arith}
 use lib.Dec.{eqb, leb}
-use lib.IntN.{ℤ}
 use lib.ListN.{length, drop, drop_of_length-le}
 use lib.Seq.{sets, sets-eq}
 use borrow.Author.Tests.{eq-eqb, ne_eqb, leb-true}
@@ -14,13 +13,13 @@ use Rattle.digits.specs.Written.{decimal}
 use Rattle.digits.proofs.Both.{both_left}
 use Rattle.std.specs.Prelude.{Result, Ok, Err, Some}
 use Rattle.contents.specs.declared.Sheet.{Sheet}
-use Rattle.contents.specs.Sheets.{lent}
 use Rattle.contents.specs.Legal.{LegalSheet, LegalBlocks, LegalMarks}
 use Rattle.refusal.specs.Refusal.{number_of}
 use Rattle.stitch.specs.declared.Side.{Side}
 use Rattle.sheet.specs.declared.walk.Walked.{Walked}
 use Rattle.sheet.specs.declared.walk.Refused as walk
-use Rattle.sheet.specs.Walk.{walked_of, Stores, Walks}
+use Rattle.sheet.specs.Walk.{walked_of}
+use Rattle.sheet.specs.Calls.{Listed, Counts}
 use Rattle.sheet.specs.Reading.{Outcome, Contents, contents, read_text}
 use Rattle.sheet.specs.Reading.Outcome.{Gives, Refused}
 use Rattle.grammar.specs.Longest.{longest}
@@ -36,15 +35,11 @@ use Rattle.stitch.specs.Stitched.{stitched_sheet, stitched_held}
 use Rattle.stitch.specs.Bytes.{stitch_text}
 use Rattle.stitch.specs.Calls.{whole, Stitch, output_of, joining, stitching, measuring, sized, answering, out_after, Stitches}
 use Rattle.stitch.specs.Calls.Stitch.{Text, Fault}
-use Rattle.stitch.specs.Judging.{Listed, Outlines, outlining, neither, judging, fit_of}
+use Rattle.stitch.specs.Judging.{Outlines, outlining, neither, judging, fit_of}
 use Rattle.stitch.proofs.TextLaws.{as_copied}
 use Rattle.stitch.proofs.LegalLaws.{Fits, sheets_fit, pair, stitched_legal, stitched_blocks, stitched-marks}
 
 -- A text's outline
-
-listed : (T : Outcome Contents) (l h a b : List ℤ) (before after : List ℕ) → Stores T (lent l h before) (lent a b after) → Listed T before after
-listed (Gives c) l h a b before after s = s.2
-listed (Refused k line) l h a b before after s = tt
 
 outlined_ok : (which : ℕ) (T : Outcome Contents) (w : Walked) → Gives w ≡ walked_of T → Ok w.sheet ≡ outlining which T
 outlined_ok which (Gives c) w e =
@@ -56,20 +51,16 @@ outlined_err : (which k line : ℕ) (T : Outcome Contents) → Refused k line �
 outlined_err which k line (Gives c) e = absurd cc
 outlined_err which k line (Refused j b) e = cc
 
-module _ (side : Side) (text : List ℕ) (l h a b : List ℤ) (before after bits : List ℕ) where
-  pub outlined : (w : Walked) → Walks whole text (lent l h before) (lent a b after) bits (Ok w) → Outlines side text before after (Ok w.sheet)
-  outlined w o =
-      record {
-        answer = outlined_ok (which_of (Some side)) (read_text whole text) w o.answer;
-        tables = listed (read_text whole text) l h a b before after o.stored;
-      }
+module _ (side : Side) (text before after : List ℕ) where
+  pub outlined : (w : Walked) → Counts whole text before after (Ok w) → Outlines side text before after (Ok w.sheet)
+  outlined w o = record { answer = outlined_ok (which_of (Some side)) (read_text whole text) w o.answer; tables = o.tables }
 
   pub unread : (r : walk.Refused) (s : faults.Refused) → numbers s ≡ record { number = number_of r.refusal; which = which_of (Some side); line = r.line }
-      → Walks whole text (lent l h before) (lent a b after) bits (Err r) → Outlines side text before after (Err s)
+      → Counts whole text before after (Err r) → Outlines side text before after (Err s)
   unread r s n o =
       record {
         answer = ap Err n ∙ outlined_err (which_of (Some side)) (number_of r.refusal) r.line (read_text whole text) o.answer;
-        tables = listed (read_text whole text) l h a b before after o.stored;
+        tables = o.tables;
       }
 
 -- Whether they fit

@@ -1,20 +1,15 @@
 -- What judging both texts promises: the sheets where they fit, else the refusal.
 use Rattle.std.specs.Prelude.{ℕ, ◌+◌, ◌≡◌, List, cond, ◌&&◌, leb, Some, Result, Ok, Err}
-use Rattle.std.proofs.lemmas.List.Edits.{sets}
 use Rattle.contents.specs.declared.Sheet.{Sheet}
 use Rattle.sheet.specs.Reading.{Outcome, Contents, read_text}
 use Rattle.sheet.specs.Reading.Outcome.{Gives, Refused}
+use Rattle.sheet.specs.Calls.{Listed}
 use Rattle.stitch.specs.declared.Fit.{Fit}
 use Rattle.stitch.specs.declared.Refused as faults
 use Rattle.stitch.specs.declared.Side.{Side}
 use Rattle.stitch.specs.Numbers.{Numbers, which_of, numbered}
 use Rattle.seam.specs.Seam.{same_numbers, same_sheet, seam}
 use Rattle.stitch.specs.Calls.{whole}
-
--- the tables of a legal text stand at the front
-abbrev pub Listed : Outcome Contents → List ℕ → List ℕ → Type 0
-Listed (Gives c) before after = after ≡ sets before 0 c.held.lent.tables
-Listed (Refused k line) before after = Unit {0}
 
 -- a text's sheet, or the refusal of the text that `which` names
 abbrev pub outlining : ℕ → Outcome Contents → Result Sheet Numbers

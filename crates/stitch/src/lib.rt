@@ -12,8 +12,8 @@ ghost use Rattle.stitch.specs.Calls.{whole, stitching, measuring, Stitches};
 ghost use Rattle.stitch.specs.Judging.{Outlines, judging, fit_of};
 
 use contents::{Limits, Sheet};
+use copying::Texts;
 use refusal::Refusal;
-use sheet::walk;
 use std::error::Error;
 use std::fmt;
 
@@ -95,10 +95,7 @@ fn outline(text: &[u8], side: Side, tables: &mut [u16]) -> Result<Sheet, Refused
         side: 512,
         iterations: 1000,
     };
-    let mut lows = [0i16; 1];
-    let mut highs = [0i16; 1];
-    let mut bits = [0u8; 12288];
-    match walk::walk(text, limits, &mut lows, &mut highs, tables, &mut bits) {
+    match sheet::count(text, limits, tables) {
         Ok(walked) => Ok(walked.sheet),
         Err(r) => Err(Refused::of(side, r)),
     }
@@ -135,7 +132,7 @@ pub fn measure(left: &[u8], right: &[u8]) -> Result<usize, Refused>
     ensures { numbered result ≡ measuring (stitching left.now right.now) }
 {
     let fit = judge(left, right)?;
-    Ok(write::write(left, right, fit.left, fit.right, &mut []))
+    Ok(write::write(Texts { left, right }, fit, &mut []))
 }
 
 // Writes the text of both sheets into an output of exactly its length; a refusal leaves the output unchanged.
@@ -144,10 +141,11 @@ pub fn stitch(left: &[u8], right: &[u8], out: &mut [u8]) -> Result<(), Refused>
     ensures { Stitches left.now right.now out.old out.new result }
 {
     let fit = judge(left, right)?;
-    let length = write::write(left, right, fit.left, fit.right, &mut []);
+    let from = Texts { left, right };
+    let length = write::write(from, fit, &mut []);
     if length != out.len() {
         return Err(Refused::of_neither(Refusal::Length));
     }
-    write::write(left, right, fit.left, fit.right, out);
+    write::write(from, fit, out);
     Ok(())
 }

@@ -5,7 +5,7 @@ ghost use Rattle.copying.specs.Parts.{past, Put};
 ghost use Rattle.contents.specs.Sheets.{channels_of};
 ghost use Rattle.stitch.specs.Bytes.{said_lines, head_text, head_left, pair_text, pair_left, pair_right, pairs_text, open_text, stitch_text};
 
-use crate::marks;
+use crate::{Fit, marks};
 use contents::{Channel, Settings, Sheet};
 use copying::{Texts, Writer};
 
@@ -70,13 +70,13 @@ fn write_pairs(from: Texts, s: Sheet, t: Sheet, to: &mut Writer)
 }
 
 // The text into an output, as far as there is room, and its length.
-pub fn write(left: &[u8], right: &[u8], s: Sheet, t: Sheet, out: &mut [u8]) -> usize
-    requires { length (stitch_text s t left.now right.now) < 2 ^ 64 }
-    ensures count { result ≡ length (stitch_text s t left.now right.now) }
-    ensures bytes { out.new ≡ sets out.old 0 (stitch_text s t left.now right.now) }
+pub fn write(from: Texts, fit: Fit, out: &mut [u8]) -> usize
+    requires { length (stitch_text fit.left fit.right from.left.now from.right.now) < 2 ^ 64 }
+    ensures count { result ≡ length (stitch_text fit.left fit.right from.entry.left.now from.entry.right.now) }
+    ensures bytes { out.new ≡ sets out.old 0 (stitch_text fit.left fit.right from.entry.left.now from.entry.right.now) }
 {
     let mut to = Writer::new(out);
-    let blocks = write_open(Texts { left, right }, s, t, &mut to);
-    write_pairs(blocks, s, t, &mut to);
+    let blocks = write_open(from, fit.left, fit.right, &mut to);
+    write_pairs(blocks, fit.left, fit.right, &mut to);
     to.at
 }

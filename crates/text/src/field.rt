@@ -1,8 +1,9 @@
 // Fields and their rules.
-ghost use Rattle.std.specs.Prelude.{◌≡◌, [], get_or, Ok, Err};
+ghost use Rattle.std.specs.Prelude.{Bool, ℕ, ◌≡◌, [], get_or, Ok, Err};
 ghost use Rattle.std.specs.Option.{option_to_list};
 ghost use Rattle.text.specs.Pieces.{split};
-ghost use Rattle.text.specs.Fields.{letter, field_of, lows_in, highs_in, tables_in};
+ghost use Rattle.text.specs.Numbers.{number_of};
+ghost use Rattle.text.specs.Fields.{letter, is_side, number_field, field_of, lows_in, highs_in, tables_in};
 
 use crate::{level, number, pieces, weight};
 use refusal::Refusal;
@@ -66,7 +67,15 @@ impl Field {
 pub fn is_letter(f: &[u8], t: u8) -> bool
     ensures { result ≡ letter t f.now }
 {
-    f.len() == 1 && f[0] == t
+    matches!(f, [b] if *b == t)
+}
+
+// Is this a multiple of 8 from 8 to the most?
+// Ruled out: 0; the most itself refused.
+pub fn is_side(n: u32, most: u32) -> bool
+    ensures { result ≡ is_side most n }
+{
+    n % 8 == 0 && 8 <= n && n <= most
 }
 
 // Is field i of a row just the letter t?
@@ -76,12 +85,13 @@ pub fn letter_at(row: &[u8], i: usize, t: u8) -> bool
     is_letter(pieces::field_at(row, i), t)
 }
 
-#[tactic(auto, unfolding(crate::specs::Fields::field_of))]
-fn read_range(f: &[u8], fault: Refusal, low: u32, high: u32) -> Result<Field, Refusal>
-    ensures { result ≡ field_of (Rule.Range fault low high) f.now }
+// A number that passes this test, else this fault.
+fn number_if<F: Fn(u32) -> bool>(f: &[u8], fault: Refusal, test: F) -> Result<Field, Refusal>
+    requires { F.IsAlwaysCallable test }
+    ensures { (ok : ℕ → Bool) → ((n : ℕ) (b : Bool) → F.post test n b → b ≡ ok n) → result ≡ number_field fault ok (number_of f.now) }
 {
     let n = number::read_number(f).ok_or(Refusal::Form)?;
-    (low <= n && n <= high).then_some(Field::Good).ok_or(fault)
+    test(n).then_some(Field::Good).ok_or(fault)
 }
 
 #[tactic(auto, unfolding(crate::specs::Fields::field_of))]
@@ -93,26 +103,6 @@ fn read_count(f: &[u8], most: u32) -> Result<Field, Refusal>
         return Err(Refusal::Size);
     }
     (n <= most).then_some(Field::Good).ok_or(Refusal::Page)
-}
-
-#[tactic(auto, unfolding(crate::specs::Fields::field_of))]
-fn read_side(f: &[u8], high: u32) -> Result<Field, Refusal>
-    ensures { result ≡ field_of (Rule.Side high) f.now }
-{
-    let n = number::read_number(f).ok_or(Refusal::Form)?;
-    (n % 8 == 0 && 8 <= n && n <= high)
-        .then_some(Field::Good)
-        .ok_or(Refusal::Size)
-}
-
-#[tactic(auto, unfolding(crate::specs::Fields::field_of))]
-fn read_channels(f: &[u8]) -> Result<Field, Refusal>
-    ensures { result ≡ field_of Rule.Channels f.now }
-{
-    let n = number::read_number(f).ok_or(Refusal::Form)?;
-    (n == 1 || n == 3)
-        .then_some(Field::Good)
-        .ok_or(Refusal::Size)
 }
 
 #[tactic(auto, unfolding(crate::specs::Fields::field_of))]
@@ -145,13 +135,11 @@ pub fn read_field(rule: Rule, f: &[u8]) -> Result<Field, Refusal>
     ensures { result ≡ field_of rule f.now }
 {
     match rule {
-        Rule::Tag(t) => (is_letter(f, t))
-            .then_some(Field::Good)
-            .ok_or(Refusal::Form),
-        Rule::Range { fault, low, high } => read_range(f, fault, low, high),
+        Rule::Tag(t) => is_letter(f, t).then_some(Field::Good).ok_or(Refusal::Form),
+        Rule::Range { fault, low, high } => number_if(f, fault, |n| low <= n && n <= high),
         Rule::Count(most) => read_count(f, most),
-        Rule::Side(high) => read_side(f, high),
-        Rule::Channels => read_channels(f),
+        Rule::Side(high) => number_if(f, Refusal::Size, |n| is_side(n, high)),
+        Rule::Channels => number_if(f, Refusal::Size, |n| n == 1 || n == 3),
         Rule::Letters(a, b) => (is_letter(f, a) || is_letter(f, b))
             .then_some(Field::Good)
             .ok_or(Refusal::Form),

@@ -9,11 +9,13 @@ use crate::pieces;
 fn is_padded(f: &[u8]) -> bool
     ensures { result ≡ padded f.now }
 {
-    1 < f.len() && f[0] == b'0'
+    matches!(f, [b'0', _, ..])
 }
 
 // One to six decimal digits, no zero before another digit.
 // Kept: `parse` takes a sign, zeros before a digit and more than six digits, each of which is misspelt here.
+// Kept: a loop. Tried as `f.iter().try_fold(0u32, |v, &b| Some(v * 10 + char::from(b).to_digit(10)?))`, and the proof didn't close: open stayed what the closure asks of its calls, that ten times the value so far and
+// a digit fit in 32 bits, which the loop's invariant says by the place (`words::number` wraps, and so asks nothing), and the contract.
 pub fn read_number(f: &[u8]) -> Option<u32>
     ensures { result ≡ number_of f.now }
 {
@@ -31,6 +33,7 @@ pub fn read_number(f: &[u8]) -> Option<u32>
 }
 
 // The number in field i of a row; 0 where there is none.
+// Kept: a good line has a number in each field that is asked; an Option would be opened at each call, as `number_at(row, 1).unwrap_or(0)`, where the 0 that never comes is said once here.
 #[tactic(auto, unfolding(crate::specs::Numbers::number_at))]
 pub fn number_at(row: &[u8], i: usize) -> u32
     ensures { result ≡ number_at (split 9 row.now) i }

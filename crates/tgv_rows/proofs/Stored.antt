@@ -14,7 +14,6 @@ use Rattle.float.specs.Names.{◌⊖◌, f0, val}
 use Rattle.gradients.specs.Tv.{px_idx}
 use Rattle.gradients.specs.Tgv.{left_edge, top_edge}
 use Rattle.rows.specs.Rows.{store_from, store_in}
-use Rattle.rows.proofs.Lent.{from_zero}
 use Rattle.tgv_rows.specs.TgvRows.{xx_of, yy_of}
 use Rattle.rows.proofs.Filled.{store_same, diff_on, diff_off}
 use Rattle.rows.proofs.RowLaws.{stored_row}
@@ -25,7 +24,7 @@ pub mid_by : (v u : ℕ → Float) (s t s' t' o : List Float) (w m : ℕ) → w 
 mid_by v u s t s' t' o w m h k i e f =
     ap (λ (z : ℕ). upto (store_in (λ x. midpoint (val s' x) (val t' x))) z o) i
     ∙ upto_ext (store_in (λ x. midpoint (val s' x) (val t' x))) (store_in (λ x. midpoint (v x) (u x))) w o
-    (λ x r l. ap (λ (z : Float). set r x z) (ap₂ midpoint (ap (λ (i : List Float). val i x) (e ∙ sym (from_zero v w s)) ∙ stored_row v s w h x l) (ap (λ (i : List Float). val i x) (f ∙ sym (from_zero u w t)) ∙ stored_row u t w k x l)))
+    (λ x r l. ap (λ (z : Float). set r (0 + x) z) (ap₂ midpoint (ap (λ (i : List Float). val i x) e ∙ stored_row v s w h x l) (ap (λ (i : List Float). val i x) f ∙ stored_row u t w k x l)))
 
 module _ (W H : ℕ) (xs : List Float) (y c at : ℕ) (t : List Float) where
   pub left_row_is : (b : ℕ) → 0 < W → at ≡ px_idx W H c y 0

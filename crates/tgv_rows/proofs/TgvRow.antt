@@ -3,22 +3,21 @@ use mathlib.Core.Path.{◌≡◌, refl, ap, ◌∙◌, sym}
 use mathlib.Core.Bool.{Bool, true, false, cond, ◌||◌}
 use mathlib.Core.List.{List}
 use Prim.Native.Nat.{ℕ, ◌+◌, ◌-◌, ◌*◌, ◌≤◌, ◌<◌}
-use lib.ListN.{length, set, replicate, length-replicate}
-use lib.Ieee.{Float, nan, neg, eq}
+use lib.ListN.{length, replicate, length-replicate}
+use lib.Ieee.{Float, neg, eq}
 use Rattle.fold.specs.Fold.{upto}
 use Rattle.fold.proofs.Loops.{upto_ext}
 use Rattle.fold.proofs.Stores.{stored-at}
 use Rattle.float.specs.Ops.{mul_add, root}
 use Rattle.float.specs.Names.{◌⊕◌, ◌⊗◌, ◌⊘◌, ◌⊞◌, f0, f2, val}
-use Rattle.gradients.specs.declared.tgv.Second.{Second}
+use Rattle.gradients.specs.declared.tgv.ChannelSecond.{ChannelSecond}
 use Rattle.gradients.specs.Tv.{px_idx, right_edge, bottom_edge, bump, bump_unless}
-use Rattle.gradients.specs.Tgv.{left_edge, top_edge, tgv_differences, tgv_differences_at, g2_norm_at, g2_norm_of, tgv_beside, tgv_up_down, tgv_corners, tgv_channel_derivatives, tgv_derivatives, tgv_derivatives_at, tgv_gradient_px, tgv_gradient_row, tgv_total_px, tgv_total_row}
+use Rattle.gradients.specs.Tgv.{second_of, tgv_difference, left_edge, top_edge, tgv_differences, tgv_differences_at, g2_norm_at, g2_norm_of, tgv_beside, tgv_up_down, tgv_corners, tgv_channel_derivatives, tgv_derivatives, tgv_derivatives_at, tgv_gradient_px, tgv_gradient_row, tgv_total_px, tgv_total_row}
 use Rattle.rows.specs.Rows.{store_from, own_row, right_row, left_row, below_row, above_row, above_right_row, below_left_row, none}
 use Rattle.tgv_rows.specs.TgvRows.{xx_of, xy_of, yy_of, row_in, own_quot, side_quot, end_quot, corner_quot, tgv_squares, tgv_norms, tgv_turn, tgv_besides, tgv_aboves, tgv_belows, tgv_kinds, tgv_totals}
 use Rattle.rows.proofs.Commute.{upto_idle, hit_off, hit_on, hit_own}
 use Rattle.rows.proofs.Filled.{row_at}
 use Rattle.rows.proofs.RowLaws.{hits_idle, hits_then}
-use Rattle.rows.proofs.Places.{upto_part}
 use Rattle.tgv_rows.proofs.KindByKind.{tgv-kinds}
 
 module _ (W H : ℕ) (alpha : Float) (ns : ℕ → Float) (X M Y : ℕ → ℕ → Float) (y : ℕ) (up : y < H) where
@@ -102,43 +101,31 @@ module _ (W H : ℕ) (alpha : Float) (ns : ℕ → Float) (X M Y : ℕ → ℕ �
   by_kinds n g =
       tgv-kinds W H alpha ns (λ c. own_quot W H alpha ns X M Y y c) (λ c. side_quot W H alpha ns X M Y y c) (λ c. end_quot W H alpha ns X M Y y c) (λ c. corner_quot W H alpha ns X M Y y c) y up n g
 
-  spread_is : (n x : ℕ) (e : Second) → ((c : ℕ) → c < n → val e.g_xxs c ≡ X c x) → ((c : ℕ) → c < n → val e.g_xy_syms c ≡ M c x) → ((c : ℕ) → c < n → val e.g_yys c ≡ Y c x)
+  spread_is : (n x : ℕ) (e : List ChannelSecond) → ((c : ℕ) → c < n → second_of e c ≡ record { g_xx = X c x; g_xy_sym = M c x; g_yy = Y c x })
       → (g : List Float) → tgv_derivatives W H n none alpha (ns x) e y x g ≡ upto (λ c. turn c x) n g
   unfolding tgv_derivatives
-  spread_is n x e p q r g = go (eq (ns x) f0) refl
+  spread_is n x e p g = go (eq (ns x) f0) refl
     where
       values : (c : ℕ) (t : List Float) → c < n → tgv_derivatives_at W H alpha (ns x) e y x c t ≡ tgv_channel_derivatives W H alpha (ns x) (X c x) (M c x) (Y c x) y x c t
-      values c t l = rw (p c l, q c l, r c l)
+      values c t l = rw (p c l)
 
       go : (b : Bool) → eq (ns x) f0 ≡ b → cond (eq (ns x) f0) g (upto (tgv_derivatives_at W H alpha (ns x) e y x) n g) ≡ upto (λ c. turn c x) n g
       go true i = rw i (pixel_idle n x g i)
       go false i = rw i (upto_ext (tgv_derivatives_at W H alpha (ns x) e y x) (λ c. turn c x) n g (λ c t l. values c t l ∙ turn_on c x t i))
 
-  pub changes : (n : ℕ) (e : ℕ → Second) → ((x c : ℕ) → c < n → val (e x).g_xxs c ≡ X c x) → ((x c : ℕ) → c < n → val (e x).g_xy_syms c ≡ M c x) → ((x c : ℕ) → c < n → val (e x).g_yys c ≡ Y c x)
+  pub changes : (n : ℕ) (e : ℕ → List ChannelSecond) → ((x c : ℕ) → c < n → second_of (e x) c ≡ record { g_xx = X c x; g_xy_sym = M c x; g_yy = Y c x })
       → (g : List Float) → upto (λ x t. tgv_derivatives W H n none alpha (ns x) (e x) y x t) W g ≡ upto (tgv_kinds W H alpha ns X M Y y) n g
-  changes n e p q r g =
-      upto_ext (λ x t. tgv_derivatives W H n none alpha (ns x) (e x) y x t) (λ x. upto (λ c. turn c x) n) W g (λ x t l. spread_is n x (e x) (p x) (q x) (r x) t)
+  changes n e p g =
+      upto_ext (λ x t. tgv_derivatives W H n none alpha (ns x) (e x) y x t) (λ x. upto (λ c. turn c x) n) W g (λ x t l. spread_is n x (e x) (p x) t)
       ∙ by_kinds n g
 
 -- ---- the differences of differences
 module _ (W H n : ℕ) (across down : List Float) (y : ℕ) (three : n ≤ 3) where
-  pub second_xxs : (x c : ℕ) → c < n → val (tgv_differences W H n none across down y x).g_xxs c ≡ xx_of W H across y c x
+  pub second_is : (x c : ℕ) → c < n → second_of (tgv_differences W H n none across down y x) c ≡ record { g_xx = xx_of W H across y c x; g_xy_sym = xy_of W H across down y c x; g_yy = yy_of W H down y c x }
   unfolding tgv_differences tgv_differences_at
-  second_xxs x c l =
-      ap (λ (t : List Float). val t c) (upto_part (λ (e : Second). e.g_xxs) (tgv_differences_at W H across down y x) (λ k t. set t k (xx_of W H across y k x)) (λ k a. refl) n (record { g_xxs = replicate 3 f0; g_xy_syms = replicate 3 f0; g_yys = replicate 3 f0 }))
-      ∙ stored-at nan (λ k. xx_of W H across y k x) (replicate 3 f0) n (rw (length-replicate 3 f0) three) c l
-
-  pub second_xys : (x c : ℕ) → c < n → val (tgv_differences W H n none across down y x).g_xy_syms c ≡ xy_of W H across down y c x
-  unfolding tgv_differences tgv_differences_at
-  second_xys x c l =
-      ap (λ (t : List Float). val t c) (upto_part (λ (e : Second). e.g_xy_syms) (tgv_differences_at W H across down y x) (λ k t. set t k (xy_of W H across down y k x)) (λ k a. refl) n (record { g_xxs = replicate 3 f0; g_xy_syms = replicate 3 f0; g_yys = replicate 3 f0 }))
-      ∙ stored-at nan (λ k. xy_of W H across down y k x) (replicate 3 f0) n (rw (length-replicate 3 f0) three) c l
-
-  pub second_yys : (x c : ℕ) → c < n → val (tgv_differences W H n none across down y x).g_yys c ≡ yy_of W H down y c x
-  unfolding tgv_differences tgv_differences_at
-  second_yys x c l =
-      ap (λ (t : List Float). val t c) (upto_part (λ (e : Second). e.g_yys) (tgv_differences_at W H across down y x) (λ k t. set t k (yy_of W H down y k x)) (λ k a. refl) n (record { g_xxs = replicate 3 f0; g_xy_syms = replicate 3 f0; g_yys = replicate 3 f0 }))
-      ∙ stored-at nan (λ k. yy_of W H down y k x) (replicate 3 f0) n (rw (length-replicate 3 f0) three) c l
+  second_is x c l =
+      stored-at _ (λ k. tgv_difference W H across down y x k) (replicate 3 (record { g_xx = f0; g_xy_sym = f0; g_yy = f0 })) n
+      (rw (length-replicate {A = ChannelSecond} 3 (record { g_xx = f0; g_xy_sym = f0; g_yy = f0 })) three) c l
 
 -- ---- the code's quotients
 module _ (W H : ℕ) (alpha : Float) (ns xx xy yy : List Float) (y c : ℕ) where
@@ -228,14 +215,14 @@ module _ (W H n : ℕ) (alpha : Float) (across down : List Float) (y : ℕ) (up 
     (hx : (c x : ℕ) → c < n → x < W → X c x ≡ xx_of W H across y c x)
     (hm : (c x : ℕ) → c < n → x < W → M c x ≡ xy_of W H across down y c x)
     (hy : (c x : ℕ) → c < n → x < W → Y c x ≡ yy_of W H down y c x) where
-  abbrev at : ℕ → Second
+  abbrev at : ℕ → List ChannelSecond
   at x = tgv_differences W H n none across down y x
 
   norm_is : (x : ℕ) → x < W → g2_norm_of n none (at x) ≡ tgv_norms n X M Y x
   unfolding g2_norm_of
   norm_is x l =
       ap root (upto_ext (g2_norm_at (at x)) (tgv_squares X M Y x) n f0
-      (λ c t k. rw (second_xxs W H n across down y three x c k, second_xys W H n across down y three x c k, second_yys W H n across down y three x c k, hx c x k l, hm c x k l, hy c x k l)))
+      (λ c t k. rw (second_is W H n across down y three x c k, hx c x k l, hm c x k l, hy c x k l)))
 
   pub tgv_row : ((x : ℕ) → x < W → ns x ≡ tgv_norms n X M Y x)
       → upto (tgv_kinds W H alpha ns X M Y y) n g ≡ tgv_gradient_row W H n none alpha across down y g
@@ -246,7 +233,7 @@ module _ (W H n : ℕ) (alpha : Float) (across down : List Float) (y : ℕ) (up 
       (λ c t k. kinds_ext W H alpha ns (λ x. g2_norm_of n none (at x)) X M Y (xx_of W H across y) (xy_of W H across down y) (yy_of W H down y) y c t
       (λ x l. h x l ∙ sym (norm_is x l)) (λ x l. hx c x k l) (λ x l. hm c x k l) (λ x l. hy c x k l))
       ∙ sym (changes W H alpha (λ x. g2_norm_of n none (at x)) (xx_of W H across y) (xy_of W H across down y) (yy_of W H down y) y up n at
-      (second_xxs W H n across down y three) (second_xys W H n across down y three) (second_yys W H n across down y three) g)
+      (second_is W H n across down y three) g)
 
   pub tgv-total : ((x : ℕ) → x < W → ns x ≡ tgv_norms n X M Y x) → (tv2 : Float) → upto (tgv_totals alpha ns) W tv2 ≡ tgv_total_row W H n none alpha across down y tv2
   unfolding tgv_total_px

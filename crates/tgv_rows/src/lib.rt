@@ -11,8 +11,23 @@ ghost use Rattle.gradients.specs.Tgv.{tgv_gradient_row, tgv_gradient, tgv_total_
 ghost use Rattle.rows.specs.Rows.{Row, store_from, store_in, none};
 ghost use Rattle.tgv_rows.specs.TgvRows.{xx_of, yy_of, xy_of, row_in, tgv_norms, tgv_turn, tgv_besides, tgv_aboves, tgv_belows, tgv_kinds, tgv_totals};
 
-use gradients::grid::{Grid, Pixel};
+use gradients::grid::{ChannelPixel, Grid, Pixel};
 use gradients::tgv::{ChannelSecond, middle, square_of};
+
+// Row y: the differences of differences of all channels, one channel after another, the norms, and the alpha by which it changes the gradient.
+#[derive(Clone, Copy)]
+struct NormedRow<'a> {
+    xx: &'a [f32],
+    xy: &'a [f32],
+    yy: &'a [f32],
+    norm: &'a [f32],
+    g: Grid,
+    alpha: f32,
+    y: usize,
+    ghost inside: { (y < g.h) × (0 < g.w) },
+    ghost kept: { (g.n * g.w ≤ length xx.now) × (g.n * g.w ≤ length xy.now) × (g.n * g.w ≤ length yy.now) },
+    ghost normed: { length norm.now ≡ g.w },
+}
 
 // The differences of xs along row y of channel c.
 fn left_row(xs: &[f32], out: &mut [f32], g: Grid, y: usize, c: usize)
@@ -45,12 +60,11 @@ fn mid_row(s: &[f32], t: &[f32], out: &mut [f32])
     requires { (length s.now ≡ length out.old) × (length t.now ≡ length out.old) }
     ensures { out.new ≡ upto (store_in (λ x. midpoint (val s.now x) (val t.now x))) (length out.old) out.old }
 {
-    for (x, mid) in out.iter_mut().enumerate() {
-        *mid = wide::midpoint(s[x], t[x]);
-    }
+    rows::combine(out, s, t, |_, g_xy, g_yx| wide::midpoint(g_xy, g_yx));
 }
 
-// Kept: that out is a row of the grid, in each contract; a struct of the `&mut` would need in its place that it is still the same buffer.
+// Kept: that out is a row of the grid, and that across and down fill it, in each contract; a struct of the `&mut` would need in its place that it is still the same buffer. And that y and c lie within it and a row has a
+// column, for the reason at `rows::row_at`.
 // g_xy_syms of row y.
 fn cross_row(
     across: &[f32],
@@ -106,9 +120,13 @@ fn square_row(xx: &[f32], xy: &[f32], yy: &[f32], sums: &mut [f32])
     ensures { Row (length sums.old) sums.new (λ x. val sums.old x ⊕ mul_add (val yy.now x) (val yy.now x)
         (mul_add f2 (square (val xy.now x)) (square (val xx.now x)))) }
 {
-    for (x, sum) in sums.iter_mut().enumerate() {
-        *sum += square_of(xx[x], xy[x], yy[x]);
-    }
+    rows::combine_three(
+        sums,
+        xx,
+        xy,
+        yy,
+        |sum, g_xx, g_xy_sym, g_yy| sum + square_of(g_xx, g_xy_sym, g_yy),
+    );
 }
 
 // The norms of a row.
@@ -129,9 +147,7 @@ fn sum_quotients(s: &[f32], t: &[f32], norm: &[f32], q: &mut [f32])
     requires { (length s.now ≡ length q.old) × (length t.now ≡ length q.old) × (length norm.now ≡ length q.old) }
     ensures { Row (length q.old) q.new (λ x. (val s.now x ⊕ val t.now x) ⊘ val norm.now x) }
 {
-    for (x, quotient) in q.iter_mut().enumerate() {
-        *quotient = (s[x] + t[x]) / norm[x];
-    }
+    rows::combine_three(q, s, t, norm, |_, a, b, m| (a + b) / m);
 }
 
 // The quotients of negated values.
@@ -139,13 +155,12 @@ fn neg_quotients(s: &[f32], norm: &[f32], q: &mut [f32])
     requires { (length s.now ≡ length q.old) × (length norm.now ≡ length q.old) }
     ensures { Row (length q.old) q.new (λ x. neg (val s.now x) ⊘ val norm.now x) }
 {
-    for (x, quotient) in q.iter_mut().enumerate() {
-        *quotient = -s[x] / norm[x];
-    }
+    rows::combine(q, s, norm, |_, a, m| -a / m);
 }
 
 // Kept: that the slices are as long as one another, in each contract: it is all that a loop over them needs, and a struct of them would be made for one call.
 // The quotients for the own places.
+// Kept: the loop over x, which reads four rows beside q: by `rows::combine_three` and then `rows::combine`, which divides, q is gone over twice; a function over four rows would have this one caller.
 fn own_quotients(xx: &[f32], xy: &[f32], yy: &[f32], norm: &[f32], q: &mut [f32])
     requires { (length xx.now ≡ length q.old) × (length xy.now ≡ length q.old) × (length yy.now ≡ length q.old) × (length norm.now ≡ length q.old) }
     ensures { Row (length q.old) q.new (λ x. neg (mul_add f2 (val yy.now x) (mul_add f2 (val xx.now x) (f2 ⊗ val xy.now x))) ⊘ val norm.now x) }
@@ -155,203 +170,132 @@ fn own_quotients(xx: &[f32], xy: &[f32], yy: &[f32], norm: &[f32], q: &mut [f32]
     }
 }
 
-// The changes in row y of its pixels: right, own place, left.
-fn besides(
-    gradient: &mut [f32],
-    xx: &[f32],
-    xy: &[f32],
-    yy: &[f32],
-    norm: &[f32],
-    q: &mut [f32],
-    g: Grid,
-    alpha: f32,
-    y: usize,
-    c: usize,
-)
-    requires { (c < g.n) × (y < g.h) × (0 < g.w) × (g.n * g.w ≤ length xx.now) × (g.n * g.w ≤ length xy.now) × (g.n * g.w ≤ length yy.now)
-        × (length norm.now ≡ g.w) × (length q.old ≡ g.w) × Fills g (length gradient.old) }
-    ensures { gradient.new ≡ tgv_besides g.w g.h alpha (λ x. val norm.now x)
-        (row_in g.w xx.now) (row_in g.w xy.now) (row_in g.w yy.now) y c gradient.old }
+// The changes in the row itself: right, own place, left.
+fn besides(gradient: &mut [f32], q: &mut [f32], row: &NormedRow<'_>, c: usize)
+    requires { (c < row.now.g.n) × (length q.old ≡ row.now.g.w) × Fills row.now.g (length gradient.old) }
+    ensures { let r = row.now in let g = r.g in gradient.new ≡ tgv_besides g.w g.h r.alpha (λ x. val r.norm.now x)
+        (row_in g.w r.xx.now) (row_in g.w r.xy.now) (row_in g.w r.yy.now) r.y c gradient.old }
 {
-    let w = g.w;
+    let w = row.g.w;
     let b = c * w;
-    sum_quotients(&xy[b..b + w], &xx[b..b + w], norm, q);
-    rows::right(gradient, norm, &q[..], g, alpha, y, c);
-    own_quotients(&xx[b..b + w], &xy[b..b + w], &yy[b..b + w], norm, q);
-    rows::own(gradient, norm, &q[..], g, alpha, y, c);
-    sum_quotients(&xy[b..b + w], &xx[b..b + w], norm, q);
-    rows::left(gradient, norm, &q[..], g, alpha, y, c);
+    sum_quotients(&row.xy[b..b + w], &row.xx[b..b + w], row.norm, q);
+    rows::right(gradient, row.norm, &q[..], row.g, row.alpha, row.y, c);
+    own_quotients(
+        &row.xx[b..b + w],
+        &row.xy[b..b + w],
+        &row.yy[b..b + w],
+        row.norm,
+        q,
+    );
+    rows::own(gradient, row.norm, &q[..], row.g, row.alpha, row.y, c);
+    sum_quotients(&row.xy[b..b + w], &row.xx[b..b + w], row.norm, q);
+    rows::left(gradient, row.norm, &q[..], row.g, row.alpha, row.y, c);
 }
 
 // In the row above: above right, above.
-fn aboves(
-    gradient: &mut [f32],
-    xx: &[f32],
-    xy: &[f32],
-    yy: &[f32],
-    norm: &[f32],
-    q: &mut [f32],
-    g: Grid,
-    alpha: f32,
-    y: usize,
-    c: usize,
-)
-    requires { (c < g.n) × (y < g.h) × (0 < g.w) × (g.n * g.w ≤ length xx.now) × (g.n * g.w ≤ length xy.now) × (g.n * g.w ≤ length yy.now)
-        × (length norm.now ≡ g.w) × (length q.old ≡ g.w) × Fills g (length gradient.old) }
-    ensures { gradient.new ≡ tgv_aboves g.w g.h alpha (λ x. val norm.now x)
-        (row_in g.w xx.now) (row_in g.w xy.now) (row_in g.w yy.now) y c gradient.old }
+fn aboves(gradient: &mut [f32], q: &mut [f32], row: &NormedRow<'_>, c: usize)
+    requires { (c < row.now.g.n) × (length q.old ≡ row.now.g.w) × Fills row.now.g (length gradient.old) }
+    ensures { let r = row.now in let g = r.g in gradient.new ≡ tgv_aboves g.w g.h r.alpha (λ x. val r.norm.now x)
+        (row_in g.w r.xx.now) (row_in g.w r.xy.now) (row_in g.w r.yy.now) r.y c gradient.old }
 {
-    let w = g.w;
+    let w = row.g.w;
     let b = c * w;
-    neg_quotients(&xy[b..b + w], norm, q);
-    rows::above_right(gradient, norm, &q[..], g, alpha, y, c);
-    sum_quotients(&yy[b..b + w], &xy[b..b + w], norm, q);
-    rows::above(gradient, norm, &q[..], g, alpha, y, c);
+    neg_quotients(&row.xy[b..b + w], row.norm, q);
+    rows::above_right(gradient, row.norm, &q[..], row.g, row.alpha, row.y, c);
+    sum_quotients(&row.yy[b..b + w], &row.xy[b..b + w], row.norm, q);
+    rows::above(gradient, row.norm, &q[..], row.g, row.alpha, row.y, c);
 }
 
 // In the row below: below, below left.
-fn belows(
-    gradient: &mut [f32],
-    xx: &[f32],
-    xy: &[f32],
-    yy: &[f32],
-    norm: &[f32],
-    q: &mut [f32],
-    g: Grid,
-    alpha: f32,
-    y: usize,
-    c: usize,
-)
-    requires { (c < g.n) × (y < g.h) × (0 < g.w) × (g.n * g.w ≤ length xx.now) × (g.n * g.w ≤ length xy.now) × (g.n * g.w ≤ length yy.now)
-        × (length norm.now ≡ g.w) × (length q.old ≡ g.w) × Fills g (length gradient.old) }
-    ensures { gradient.new ≡ tgv_belows g.w g.h alpha (λ x. val norm.now x)
-        (row_in g.w xx.now) (row_in g.w xy.now) (row_in g.w yy.now) y c gradient.old }
+fn belows(gradient: &mut [f32], q: &mut [f32], row: &NormedRow<'_>, c: usize)
+    requires { (c < row.now.g.n) × (length q.old ≡ row.now.g.w) × Fills row.now.g (length gradient.old) }
+    ensures { let r = row.now in let g = r.g in gradient.new ≡ tgv_belows g.w g.h r.alpha (λ x. val r.norm.now x)
+        (row_in g.w r.xx.now) (row_in g.w r.xy.now) (row_in g.w r.yy.now) r.y c gradient.old }
 {
-    let w = g.w;
+    let w = row.g.w;
     let b = c * w;
-    sum_quotients(&yy[b..b + w], &xy[b..b + w], norm, q);
-    rows::below(gradient, norm, &q[..], g, alpha, y, c);
-    neg_quotients(&xy[b..b + w], norm, q);
-    rows::below_left(gradient, norm, &q[..], g, alpha, y, c);
+    sum_quotients(&row.yy[b..b + w], &row.xy[b..b + w], row.norm, q);
+    rows::below(gradient, row.norm, &q[..], row.g, row.alpha, row.y, c);
+    neg_quotients(&row.xy[b..b + w], row.norm, q);
+    rows::below_left(gradient, row.norm, &q[..], row.g, row.alpha, row.y, c);
 }
 
-// Kept: the bar is 1.2 times the Rust on random planes of 512 by 512, and this form stands at it; with structs of a row's norms and differences blend takes 2.5 to 3.1 per cent longer, by turns in one run.
+// Kept: what the four for a channel take: a struct of it would hold two `&mut` beside the row and be made anew for each call.
 // All seven kinds. An element takes the changes of a row's pixels in the order of the columns, as pixel by pixel.
-fn channel_row(
-    gradient: &mut [f32],
-    xx: &[f32],
-    xy: &[f32],
-    yy: &[f32],
-    norm: &[f32],
-    q: &mut [f32],
-    g: Grid,
-    alpha: f32,
-    y: usize,
-    c: usize,
-)
-    requires { (c < g.n) × (y < g.h) × (0 < g.w) × (g.n * g.w ≤ length xx.now) × (g.n * g.w ≤ length xy.now) × (g.n * g.w ≤ length yy.now)
-        × (length norm.now ≡ g.w) × (length q.old ≡ g.w) × Fills g (length gradient.old) }
-    ensures { gradient.new ≡ tgv_kinds g.w g.h alpha (λ x. val norm.now x)
-        (row_in g.w xx.now) (row_in g.w xy.now) (row_in g.w yy.now) y c gradient.old }
+fn channel_row(gradient: &mut [f32], q: &mut [f32], row: &NormedRow<'_>, c: usize)
+    requires { (c < row.now.g.n) × (length q.old ≡ row.now.g.w) × Fills row.now.g (length gradient.old) }
+    ensures { let r = row.now in let g = r.g in gradient.new ≡ tgv_kinds g.w g.h r.alpha (λ x. val r.norm.now x)
+        (row_in g.w r.xx.now) (row_in g.w r.xy.now) (row_in g.w r.yy.now) r.y c gradient.old }
 {
-    besides(gradient, xx, xy, yy, norm, q, g, alpha, y, c);
-    aboves(gradient, xx, xy, yy, norm, q, g, alpha, y, c);
-    belows(gradient, xx, xy, yy, norm, q, g, alpha, y, c);
+    besides(gradient, q, row, c);
+    aboves(gradient, q, row, c);
+    belows(gradient, q, row, c);
 }
 
-// The changes of pixel x of row y in every channel, all seven as tgv.rs has them; nothing where its norm is 0.
-fn pixel(
-    gradient: &mut [f32],
-    xx: &[f32],
-    xy: &[f32],
-    yy: &[f32],
-    norm: &[f32],
-    g: Grid,
-    alpha: f32,
-    y: usize,
-    x: usize,
-)
-    requires { (y < g.h) × (x < g.w) × (g.n * g.w ≤ length xx.now) × (g.n * g.w ≤ length xy.now) × (g.n * g.w ≤ length yy.now)
-        × (length norm.now ≡ g.w) × Fills g (length gradient.old) }
-    ensures { gradient.new ≡ upto (λ c. tgv_turn g.w g.h alpha (λ z. val norm.now z)
-        (row_in g.w xx.now) (row_in g.w xy.now) (row_in g.w yy.now) y c x) g.n gradient.old }
+// The changes of pixel x of a row in every channel, all seven as tgv.rs has them; nothing where its norm is 0.
+fn pixel(gradient: &mut [f32], row: &NormedRow<'_>, x: usize)
+    requires { (x < row.now.g.w) × Fills row.now.g (length gradient.old) }
+    ensures { let r = row.now in let g = r.g in gradient.new ≡ upto (λ c. tgv_turn g.w g.h r.alpha (λ z. val r.norm.now z)
+        (row_in g.w r.xx.now) (row_in g.w r.xy.now) (row_in g.w r.yy.now) r.y c x) g.n gradient.old }
 {
-    let n = g.n;
-    let w = g.w;
-    let m = norm[x];
+    let n = row.g.n;
+    let w = row.g.w;
+    let m = row.norm[x];
     if m == 0.0 {
         return;
     }
     let p = Pixel {
-        g,
-        alpha,
+        g: row.g,
+        alpha: row.alpha,
         norm: m,
-        y,
+        y: row.y,
         x,
     };
     for c in 0..n {
         let k = c * w + x;
         let d = ChannelSecond {
-            g_xx: xx[k],
-            g_xy_sym: xy[k],
-            g_yy: yy[k],
+            g_xx: row.xx[k],
+            g_xy_sym: row.xy[k],
+            g_yy: row.yy[k],
         };
-        gradients::tgv::channel_derivatives(gradient, p, d, c);
+        gradients::tgv::channel_derivatives(gradient, ChannelPixel { p, c }, d);
     }
 }
 
-// All changes of row y, pixel by pixel.
-fn pixels(
-    gradient: &mut [f32],
-    xx: &[f32],
-    xy: &[f32],
-    yy: &[f32],
-    norm: &[f32],
-    g: Grid,
-    alpha: f32,
-    y: usize,
-)
-    requires { (y < g.h) × (g.n * g.w ≤ length xx.now) × (g.n * g.w ≤ length xy.now) × (g.n * g.w ≤ length yy.now)
-        × (length norm.now ≡ g.w) × Fills g (length gradient.old) }
-    ensures { gradient.new ≡ upto (tgv_kinds g.w g.h alpha (λ x. val norm.now x)
-        (row_in g.w xx.now) (row_in g.w xy.now) (row_in g.w yy.now) y) g.n gradient.old }
+// Kept: this and `pixels` of `tv_rows`: all that is alike is a `for` over the columns with one call in it; with that call as a closure the function would be the `for` itself.
+// All changes of a row, pixel by pixel.
+fn pixels(gradient: &mut [f32], row: &NormedRow<'_>)
+    requires { Fills row.now.g (length gradient.old) }
+    ensures { let r = row.now in let g = r.g in gradient.new ≡ upto (tgv_kinds g.w g.h r.alpha (λ x. val r.norm.now x)
+        (row_in g.w r.xx.now) (row_in g.w r.xy.now) (row_in g.w r.yy.now) r.y) g.n gradient.old }
 {
-    let w = g.w;
+    let w = row.g.w;
     for x in 0..w {
-        pixel(gradient, xx, xy, yy, norm, g, alpha, y, x);
+        pixel(gradient, row, x);
     }
 }
 
-// All changes of row y: nothing where each norm is 0, pixel by pixel where many are, else kind by kind, one channel after another.
-fn spread_rows(
-    gradient: &mut [f32],
-    xx: &[f32],
-    xy: &[f32],
-    yy: &[f32],
-    norm: &[f32],
-    q: &mut [f32],
-    g: Grid,
-    alpha: f32,
-    y: usize,
-)
-    requires { (y < g.h) × (0 < g.w) × (g.n * g.w ≤ length xx.now) × (g.n * g.w ≤ length xy.now) × (g.n * g.w ≤ length yy.now)
-        × (length norm.now ≡ g.w) × (length q.old ≡ g.w) × Fills g (length gradient.old) }
-    ensures { gradient.new ≡ upto (tgv_kinds g.w g.h alpha (λ x. val norm.now x)
-        (row_in g.w xx.now) (row_in g.w xy.now) (row_in g.w yy.now) y) g.n gradient.old }
+// Kept: this and `spread_rows` of `tv_rows`, for what the line there says.
+// All changes of a row: nothing where each norm is 0, pixel by pixel where many are, else kind by kind, one channel after another.
+fn spread_rows(gradient: &mut [f32], q: &mut [f32], row: &NormedRow<'_>)
+    requires { (length q.old ≡ row.now.g.w) × Fills row.now.g (length gradient.old) }
+    ensures { let r = row.now in let g = r.g in gradient.new ≡ upto (tgv_kinds g.w g.h r.alpha (λ x. val r.norm.now x)
+        (row_in g.w r.xx.now) (row_in g.w r.xy.now) (row_in g.w r.yy.now) r.y) g.n gradient.old }
 {
-    let n = g.n;
-    if !rows::any(norm) {
+    let n = row.g.n;
+    if !rows::any(row.norm) {
         return;
     }
-    if rows::sparse(norm) {
-        pixels(gradient, xx, xy, yy, norm, g, alpha, y);
+    if rows::sparse(row.norm) {
+        pixels(gradient, row);
         return;
     }
     for c in 0..n {
-        channel_row(gradient, xx, xy, yy, norm, q, g, alpha, y, c);
+        channel_row(gradient, q, row, c);
     }
 }
 
+// Kept: this and `total_row` of `tv_rows`, where the line says why.
 // The total so far and the row's part of it, column by column.
 fn total_row(norm: &[f32], alpha: f32, tv2: f64) -> f64
     ensures { result ≡ upto (tgv_totals alpha (λ x. val norm.now x)) (length norm.now) tv2 }
@@ -360,7 +304,6 @@ fn total_row(norm: &[f32], alpha: f32, tv2: f64) -> f64
         .fold(tv2, |t, &m| float::double::add_product(t, alpha, m))
 }
 
-// Kept: the bar is 1.2 times the Rust on random planes of 512 by 512, and this form stands at it; with structs of a row's norms and differences blend takes 2.5 to 3.1 per cent longer, by turns in one run.
 // Row y: the differences of differences of all channels, the norms, then the changes. The total so far, tv2, is taken and given back.
 fn row(
     across: &[f32],
@@ -386,20 +329,20 @@ fn row(
     let w = g.w;
     second_rows(across, down, xx, xy, yy, norm, q, g, y);
     norm_row(&xx[..], &xy[..], &yy[..], norm, n, w);
-    spread_rows(
-        gradient,
-        &xx[..],
-        &xy[..],
-        &yy[..],
-        &norm[..],
-        q,
+    let row = NormedRow {
+        xx: &xx[..],
+        xy: &xy[..],
+        yy: &yy[..],
+        norm: &norm[..],
         g,
         alpha,
         y,
-    );
+    };
+    spread_rows(gradient, q, &row);
     total_row(&norm[..], alpha, tv2)
 }
 
+// Kept: this and `tv_rows::tv_gradient`, where the line says why.
 // tgv_gradient where no channel is held: every row. The total is returned. Rules out: two changes of one place in another order, and a total summed row by row first.
 pub fn tgv_gradient(across: &[f32], down: &[f32], gradient: &mut [f32], g: Grid, alpha: f32) -> f64
     requires { (g.n ≤ 3) × (0 < g.w) × (g.w ≤ 512) × Fills g (length across.now) × Fills g (length down.now) × Fills g (length gradient.old) }

@@ -1,22 +1,22 @@
 -- The first-order term's row, pixel by pixel, is its changes kind by kind: right, own place, below.
-use mathlib.Core.Path.{◌≡◌, refl, ap, ap₂, ◌∙◌, sym}
+use mathlib.Core.Path.{◌≡◌, refl, ap, ◌∙◌, sym}
 use mathlib.Core.Bool.{Bool, true, false, cond, not}
 use mathlib.Core.List.{List}
 use Prim.Native.Nat.{ℕ, ◌+◌, ◌-◌, ◌*◌, ◌≤◌, ◌<◌}
 use native.Mathlib.Nat.{le_refl}
 use native.Mathlib.Omega.{arith}
 use borrow.Author.Tests.{leb-false}
-use lib.ListN.{set, replicate, length-replicate}
-use lib.Ieee.{Float, nan, neg, eq, ne}
+use lib.ListN.{replicate, length-replicate}
+use lib.Ieee.{Float, neg, eq, ne}
 use Rattle.fold.specs.Fold.{upto}
 use Rattle.fold.proofs.Loops.{upto_ext}
 use Rattle.fold.proofs.Stores.{stored-at}
-use Rattle.float.specs.Names.{◌⊕◌, ◌⊘◌, f0, val}
-use Rattle.gradients.specs.declared.tv.Forward.{Forward}
-use Rattle.gradients.specs.Tv.{px_idx, right_edge, bottom_edge, bump, bump_unless, tv_differences, tv_differences_at, tv_channel_derivatives, tv_derivatives, tv_derivatives_at}
+use Rattle.float.specs.Names.{◌⊕◌, ◌⊘◌, f0}
+use Rattle.gradients.specs.declared.tv.ChannelForward.{ChannelForward}
+use Rattle.gradients.specs.Tv.{forward_of, tv_difference, px_idx, right_edge, bottom_edge, bump, bump_unless, tv_differences, tv_differences_at, tv_channel_derivatives, tv_derivatives, tv_derivatives_at}
 use Rattle.rows.specs.Rows.{hit, own_row, right_row, below_row, none}
 use Rattle.tv_rows.specs.TvRows.{across_of, down_of, tv_turn, tv_kinds}
-use Rattle.rows.proofs.Places.{upto_part, next_row, px_before}
+use Rattle.rows.proofs.Places.{next_row, px_before}
 use Rattle.rows.proofs.Commute.{Comm, comm_sym, comm_then, comm_3, apart, turned, upto_idle, hit_comm, hit_off, hit_on, hit_own}
 
 module _ (W H : ℕ) (alpha : Float) (ns : ℕ → Float) (X Y : ℕ → ℕ → Float) (y : ℕ) (up : y < H) where
@@ -88,17 +88,17 @@ module _ (W H : ℕ) (alpha : Float) (ns : ℕ → Float) (X Y : ℕ → ℕ →
   pub pixel_idle : (n x : ℕ) (g : List Float) → eq (ns x) f0 ≡ true → g ≡ upto (λ c. turn c x) n g
   pixel_idle n x g e = sym (upto_idle (λ c. turn c x) n (λ c l t. turn_off c x t e) g)
 
-  pub spread_is : (n x : ℕ) (d : Forward) → ((c : ℕ) → c < n → val d.g_xs c ≡ X c x) → ((c : ℕ) → c < n → val d.g_ys c ≡ Y c x) → (g : List Float)
+  pub spread_is : (n x : ℕ) (d : List ChannelForward) → ((c : ℕ) → c < n → forward_of d c ≡ record { g_x = X c x; g_y = Y c x }) → (g : List Float)
       → tv_derivatives W H n none alpha (ns x) d y x g ≡ upto (λ c. turn c x) n g
   unfolding tv_derivatives ne
-  spread_is n x d p q g = go (eq (ns x) f0) refl
+  spread_is n x d p g = go (eq (ns x) f0) refl
     where
       go : (b : Bool) → eq (ns x) f0 ≡ b → cond (not (eq (ns x) f0)) (upto (tv_derivatives_at W H alpha (ns x) d y x) n g) g ≡ upto (λ c. turn c x) n g
       go true e = rw e (pixel_idle n x g e)
       go false e =
           rw e
           (upto_ext (tv_derivatives_at W H alpha (ns x) d y x) (λ c. turn c x) n g
-          (λ c t l. ap₂ (λ (u v : Float). tv_channel_derivatives W H alpha (ns x) u v y x c t) (p c l) (q c l) ∙ turn_on c x t e))
+          (λ c t l. ap (λ (s : ChannelForward). tv_channel_derivatives W H alpha (ns x) s.g_x s.g_y y x c t) (p c l) ∙ turn_on c x t e))
 
 -- ---- the differences
 module _ (W H n : ℕ) (plane : List Float) (y : ℕ) (three : n ≤ 3) where
@@ -108,14 +108,6 @@ module _ (W H n : ℕ) (plane : List Float) (y : ℕ) (three : n ≤ 3) where
   abbrev Y : ℕ → ℕ → Float
   Y c x = down_of W H plane y c x
 
-  pub forward_xs : (x c : ℕ) → c < n → val (tv_differences W H n none plane y x).g_xs c ≡ X c x
+  pub forward_is : (x c : ℕ) → c < n → forward_of (tv_differences W H n none plane y x) c ≡ record { g_x = X c x; g_y = Y c x }
   unfolding tv_differences tv_differences_at
-  forward_xs x c l =
-      ap (λ (t : List Float). val t c) (upto_part (λ (d : Forward). d.g_xs) (tv_differences_at W H plane y x) (λ k t. set t k (X k x)) (λ k a. refl) n (record { g_xs = replicate 3 f0; g_ys = replicate 3 f0 }))
-      ∙ stored-at nan (λ k. X k x) (replicate 3 f0) n (rw (length-replicate 3 f0) three) c l
-
-  pub forward_ys : (x c : ℕ) → c < n → val (tv_differences W H n none plane y x).g_ys c ≡ Y c x
-  unfolding tv_differences tv_differences_at
-  forward_ys x c l =
-      ap (λ (t : List Float). val t c) (upto_part (λ (d : Forward). d.g_ys) (tv_differences_at W H plane y x) (λ k t. set t k (Y k x)) (λ k a. refl) n (record { g_xs = replicate 3 f0; g_ys = replicate 3 f0 }))
-      ∙ stored-at nan (λ k. Y k x) (replicate 3 f0) n (rw (length-replicate 3 f0) three) c l
+  forward_is x c l = stored-at _ (λ k. tv_difference W H plane y x k) (replicate 3 (record { g_x = f0; g_y = f0 })) n (rw (length-replicate {A = ChannelForward} 3 (record { g_x = f0; g_y = f0 })) three) c l

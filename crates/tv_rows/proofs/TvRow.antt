@@ -11,14 +11,14 @@ use Rattle.fold.specs.Fold.{upto}
 use Rattle.fold.proofs.Loops.{upto_ext}
 use Rattle.float.specs.Ops.{fused_at, root, square}
 use Rattle.float.specs.Names.{◌⊕◌, ◌⊘◌, f0, val}
-use Rattle.gradients.specs.declared.tv.Forward.{Forward}
-use Rattle.gradients.specs.Tv.{Terms, px_idx, right_edge, bottom_edge, tv_differences, g_norm_at, g_norm_of, store, store_at, tv_derivatives, tv_gradient_px, tv_gradient_row, tv_total_px, tv_total_row}
+use Rattle.gradients.specs.declared.tv.ChannelForward.{ChannelForward}
+use Rattle.gradients.specs.Tv.{Terms, forward_of, px_idx, right_edge, bottom_edge, tv_differences, g_norm_at, g_norm_of, store, store_at, tv_derivatives, tv_gradient_px, tv_gradient_row, tv_total_px, tv_total_row}
 use Rattle.rows.specs.Rows.{keep_row, own_row, right_row, below_row, none}
 use Rattle.tv_rows.specs.TvRows.{across_of, down_of, tv_squares, tv_norms, tv_turn, tv_kinds, tv_totals, kept_in}
 use Rattle.rows.proofs.Commute.{turned, upto_idle}
 use Rattle.rows.proofs.RowLaws.{hit_same, hits_idle, hits_then, at_px}
 use Rattle.rows.proofs.Places.{upto_part, px_before}
-use Rattle.tv_rows.proofs.KindByKind.{tv-kinds, spread_is, forward_xs, forward_ys}
+use Rattle.tv_rows.proofs.KindByKind.{tv-kinds, spread_is, forward_is}
 use Rattle.rows.proofs.Filled.{kept_at}
 
 -- the changes see only the row's values
@@ -59,7 +59,7 @@ kinds_by W H alpha ns A D y c at q1 q2 q3 g g1 g2 g3 e r1 r2 r3 a1 a2 a3 =
     (λ x l. refl) (λ x l. r3 x l ∙ ap (λ (k : ℕ). val D k ⊘ val ns x) (at_px W H c y at x e))
 
 module _ (W H n : ℕ) (alpha : Float) (plane : List Float) (y : ℕ) (up : y < H) (three : n ≤ 3) where
-  abbrev fwd : ℕ → Forward
+  abbrev fwd : ℕ → List ChannelForward
   fwd x = tv_differences W H n none plane y x
 
   abbrev X : ℕ → ℕ → Float
@@ -68,7 +68,7 @@ module _ (W H n : ℕ) (alpha : Float) (plane : List Float) (y : ℕ) (up : y < 
   abbrev Y : ℕ → ℕ → Float
   Y c x = down_of W H plane y c x
 
-  store_rows : (vs : ℕ → List Float) (v : ℕ → ℕ → Float) → ((x c : ℕ) → c < n → val (vs x) c ≡ v c x) → (a : List Float)
+  store_rows : (vs : ℕ → ℕ → Float) (v : ℕ → ℕ → Float) → ((x c : ℕ) → c < n → vs x c ≡ v c x) → (a : List Float)
       → upto (λ x. store W H n none (vs x) y x) W a ≡ upto (λ c. upto (keep_row W H (v c) y c) W) n a
   unfolding store
   store_rows vs v h a =
@@ -80,7 +80,7 @@ module _ (W H n : ℕ) (alpha : Float) (plane : List Float) (y : ℕ) (up : y < 
   changes : (g : List Float) → upto (λ x t. tv_derivatives W H n none alpha (g_norm_of n none (fwd x)) (fwd x) y x t) W g ≡ upto (tv_kinds W H alpha (λ x. g_norm_of n none (fwd x)) X Y y) n g
   changes g =
       upto_ext (λ x t. tv_derivatives W H n none alpha (g_norm_of n none (fwd x)) (fwd x) y x t) (λ x. upto (λ c. tv_turn W H alpha (λ x. g_norm_of n none (fwd x)) X Y y c x) n) W g
-      (λ x t l. spread_is W H alpha (λ x. g_norm_of n none (fwd x)) X Y y up n x (fwd x) (forward_xs W H n plane y three x) (forward_ys W H n plane y three x) t)
+      (λ x t l. spread_is W H alpha (λ x. g_norm_of n none (fwd x)) X Y y up n x (fwd x) (forward_is W H n plane y three x) t)
       ∙ tv-kinds W H alpha (λ x. g_norm_of n none (fwd x)) X Y y up n g
 
   module _ (b : Terms) (ns : ℕ → Float) (la : length b.across ≡ n * (W * H)) (ld : length b.down ≡ n * (W * H)) where
@@ -95,8 +95,8 @@ module _ (W H n : ℕ) (alpha : Float) (plane : List Float) (y : ℕ) (up : y < 
     norm_is x l =
         ap root (upto_ext (g_norm_at (fwd x)) (tv_squares (kept_in W H A y) (kept_in W H D y) x) n f0
         (λ c t k. ap₂ (λ (u v : Float). t ⊕ square u ⊕ square v)
-        (forward_xs W H n plane y three x c k ∙ sym (kept_at W H y X n b.across up la c x k l))
-        (forward_ys W H n plane y three x c k ∙ sym (kept_at W H y Y n b.down up ld c x k l))))
+        (ap (λ (s : ChannelForward). s.g_x) (forward_is W H n plane y three x c k) ∙ sym (kept_at W H y X n b.across up la c x k l))
+        (ap (λ (s : ChannelForward). s.g_y) (forward_is W H n plane y three x c k) ∙ sym (kept_at W H y Y n b.down up ld c x k l))))
 
     gradient_is : ((x : ℕ) → x < W → ns x ≡ tv_norms n (kept_in W H A y) (kept_in W H D y) x)
         → upto (tv_kinds W H alpha ns (kept_in W H A y) (kept_in W H D y) y) n b.gradient ≡ (tv_gradient_row W H n none alpha plane y b).gradient
@@ -111,14 +111,14 @@ module _ (W H n : ℕ) (alpha : Float) (plane : List Float) (y : ℕ) (up : y < 
     across_is : A ≡ (tv_gradient_row W H n none alpha plane y b).across
     unfolding tv_gradient_px
     across_is =
-        sym (store_rows (λ x. (fwd x).g_xs) X (λ x. forward_xs W H n plane y three x) b.across)
-        ∙ sym (upto_part (λ (t : Terms). t.across) (tv_gradient_px W H n none alpha plane y) (λ x t. store W H n none (fwd x).g_xs y x t) (λ k a. refl) W b)
+        sym (store_rows (λ x c. (forward_of (fwd x) c).g_x) X (λ x c k. ap (λ (s : ChannelForward). s.g_x) (forward_is W H n plane y three x c k)) b.across)
+        ∙ sym (upto_part (λ (t : Terms). t.across) (tv_gradient_px W H n none alpha plane y) (λ x t. store W H n none (λ c. (forward_of (fwd x) c).g_x) y x t) (λ k a. refl) W b)
 
     down_is : D ≡ (tv_gradient_row W H n none alpha plane y b).down
     unfolding tv_gradient_px
     down_is =
-        sym (store_rows (λ x. (fwd x).g_ys) Y (λ x. forward_ys W H n plane y three x) b.down)
-        ∙ sym (upto_part (λ (t : Terms). t.down) (tv_gradient_px W H n none alpha plane y) (λ x t. store W H n none (fwd x).g_ys y x t) (λ k a. refl) W b)
+        sym (store_rows (λ x c. (forward_of (fwd x) c).g_y) Y (λ x c k. ap (λ (s : ChannelForward). s.g_y) (forward_is W H n plane y three x c k)) b.down)
+        ∙ sym (upto_part (λ (t : Terms). t.down) (tv_gradient_px W H n none alpha plane y) (λ x t. store W H n none (λ c. (forward_of (fwd x) c).g_y) y x t) (λ k a. refl) W b)
 
     pub tv_row : ((x : ℕ) → x < W → ns x ≡ tv_norms n (kept_in W H A y) (kept_in W H D y) x)
         → record { gradient = upto (tv_kinds W H alpha ns (kept_in W H A y) (kept_in W H D y) y) n b.gradient; across = A; down = D }

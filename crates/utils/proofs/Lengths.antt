@@ -1,9 +1,12 @@
 -- Every definition keeps the length of what it changes, with no bound on any place.
-use mathlib.Core.Path.{◌≡◌, ap, ◌∙◌, sym}
+use mathlib.Core.Path.{◌≡◌, refl, ap, ◌∙◌, sym}
 use mathlib.Core.List.{List, ◌++◌}
-use Prim.Native.Nat.{ℕ, ◌+◌, ◌-◌, ◌*◌}
+use Prim.Native.Nat.{ℕ, zero, suc, ◌+◌, ◌-◌, ◌*◌, ◌≤◌}
+use native.Mathlib.Omega.{arith}
 use lib.ListN.{drop, length, length-append, length-set, take, take-append-drop}
 use lib.Ieee.{Float}
+use lib.Seq.{length-take-le}
+use Rattle.std.proofs.lemmas.List.{take-append-le, drop-append-le, append_assoc, length-drop}
 use Rattle.fold.specs.Fold.{upto}
 use Rattle.fold.specs.Part.{part, splice}
 use Rattle.fold.proofs.Loops.{upto-keeps}
@@ -50,6 +53,29 @@ module _ (f : List Float → List Float) (keeps : (s : List Float) → length (f
 
   pub blocks_length : (n : ℕ) (xs : List Float) → length (upto (on_block f) n xs) ≡ length xs
   blocks_length n xs = loop (on_block f) on_block_length n xs
+
+  -- what stands after a list whose blocks are changed stays as it is
+  on_block_within : (i : ℕ) (xs ys : List Float) → i * 64 + 64 ≤ length xs → on_block f i (xs ++ ys) ≡ on_block f i xs ++ ys
+  on_block_within i xs ys h =
+      let a = i * 64 in
+      let n = i * 64 + 64 - a in
+      let l = drop a xs in
+      let long : n ≤ length l = omega (arith, length-drop a xs) in
+      rw (take-append-le a xs ys (omega arith), drop-append-le a xs ys (omega arith), take-append-le n l ys long, drop-append-le n l ys long)
+      (simp append_assoc)
+
+  blocks_append : (n : ℕ) (xs ys : List Float) → n * 64 ≤ length xs → upto (on_block f) n (xs ++ ys) ≡ upto (on_block f) n xs ++ ys
+  unfolding upto
+  blocks_append zero xs ys h = refl
+  blocks_append (suc n) xs ys h =
+      ap (on_block f n) (blocks_append n xs ys (omega arith))
+      ∙ on_block_within n (upto (on_block f) n xs) ys (omega (arith, blocks_length n xs))
+
+  -- the blocks of the first m values
+  pub blocks_within : (n m : ℕ) (xs : List Float) → m ≤ length xs → n * 64 ≤ m → upto (on_block f) n (take m xs) ++ drop m xs ≡ upto (on_block f) n xs
+  blocks_within n m xs h k =
+      sym (blocks_append n (take m xs) (drop m xs) (omega (arith, length-take-le m xs h)))
+      ∙ ap (upto (on_block f) n) (take-append-drop m xs)
 
 -- ---- the orders of blocks and raster
 

@@ -4,6 +4,7 @@ ghost use Rattle.utils.specs.Auxiliary.{upsample_pixels};
 
 // Each of w by h samples repeated `horizontal` times along its row and `vertical` times along its column, the last ones to the end of
 // the maxw by maxh pixels: the first maxw * maxh values of `out`.
+// Kept: the Rust's numbers in its order; `Own`, which has four of them, stands in `start`, above this crate.
 // Ruled out: 0 past the cover; and the sample at (x % w, y % h), which repeats the whole picture.
 #[tactic(auto, using(crate::proofs::Places::sampled, fold::proofs::Loops::upto_more, fold::proofs::Loops::upto_none, crate::proofs::Opened::upsample_is))]
 pub fn upsample_pixels(

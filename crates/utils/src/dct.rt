@@ -1,5 +1,5 @@
 // dct.rs: Ooura's transforms of a block of 8 by 8 values, in the Rust's order.
-ghost use Rattle.std.specs.Prelude.{◌≡◌, ◌+◌, ◌*◌, ◌<◌, ◌≤◌, length};
+ghost use Rattle.std.specs.Prelude.{◌≡◌, ◌+◌, ◌*◌, ◌/◌, ◌<◌, ◌≤◌, length};
 ghost use Rattle.fold.specs.Fold.{upto};
 ghost use Rattle.utils.specs.Blocks.{on_block};
 ghost use Rattle.utils.specs.Dct.{dct8, transform8, idct8, line, on_line, set_line, transform8x8};
@@ -94,19 +94,11 @@ fn read_line(a: &[f32], b: usize, d: usize) -> [f32; 8]
     requires { 7 * d + b < length a.now }
     ensures { result ≡ line (λ i. i * d + b) a.now }
 {
-    [
-        a[0 * d + b],
-        a[1 * d + b],
-        a[2 * d + b],
-        a[3 * d + b],
-        a[4 * d + b],
-        a[5 * d + b],
-        a[6 * d + b],
-        a[7 * d + b],
-    ]
+    std::array::from_fn(|i| a[i * d + b])
 }
 
 // Those eight places become the values of v.
+// Kept: eight stores, as `set_line` of the specification has them. Tried as a loop over `v.into_iter().enumerate()`: its invariant needs a second definition, the stores of the first i, beside `set_line`, and so the reader one more notion.
 fn write_line(a: &mut [f32], b: usize, d: usize, v: [f32; 8])
     requires { 7 * d + b < length a.old }
     ensures { a.new ≡ set_line (λ i. i * d + b) v a.old }
@@ -153,6 +145,7 @@ fn transform_line(a: &mut [f32], b: usize, d: usize, transform: Transform)
 
 // The transform of the 64 values of a block, the Rust's `dct8x8` and `idct8x8`: of the eight columns, and then of the eight rows.
 // Ruled out: rows before columns; and `mul_add!` rounded once.
+// Kept: a slice with its length. Document 01 names what it is handed, "a part starting at 64 times the block number"; an array of that part would be `as_mut_array().unwrap()` at `transform_block` and in `probe`.
 #[tactic(auto, using(fold::proofs::Loops::upto_more, fold::proofs::Loops::upto_none))]
 pub fn transform8x8(a: &mut [f32], transform: Transform)
     requires { length a.old ≡ 64 }
@@ -175,14 +168,13 @@ pub fn transform_block(xs: &mut [f32], i: usize, transform: Transform)
     transform8x8(&mut xs[i * 64..i * 64 + 64], transform);
 }
 
-// The transform of each of the first n blocks.
-// Ruled out: the first block alone; and a value past the n blocks changed.
+// The transform of each whole block.
+// Ruled out: the first block alone; and a value past the last whole block changed.
 #[tactic(auto, using(fold::proofs::Loops::upto_more, fold::proofs::Loops::upto_none))]
-pub fn transform_blocks(xs: &mut [f32], n: usize, transform: Transform)
-    requires { n * 64 ≤ length xs.old }
-    ensures { xs.new ≡ upto (on_block (transform8x8 transform)) n xs.old }
+pub fn transform_blocks(xs: &mut [f32], transform: Transform)
+    ensures { xs.new ≡ upto (on_block (transform8x8 transform)) (length xs.old / 64) xs.old }
 {
-    for i in 0..n {
+    for i in 0..xs.len() / 64 {
         transform_block(xs, i, transform);
     }
 }

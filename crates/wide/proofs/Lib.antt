@@ -1,4 +1,5 @@
--- Lemmas that the proofs of several functions use.
+-- Lemmas that the proofs of several functions use. That a guessed root is right where whole numbers confirm it (`Near`), and what of the others is about a half sum, no function cites any more, since
+-- midpoint and root are std's; docs/changes/M-111.md names them.
 pub mod Twice
 pub mod Narrowing
 pub mod Pattern

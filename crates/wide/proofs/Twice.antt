@@ -11,7 +11,7 @@ use lib.Dec.{T, ltb, ltb→lt, nltb→le}
 use lib.Arith.{digits_div}
 use lib.Ieee.{nearest}
 use lib.Ieee.Nearest.{closest}
-use Rattle.float.proofs.Closest.{Cmp, cmp, closest_down, closest_up}
+use Rattle.float.proofs.Closest.{Cmp, cmp, closest_down, compare-gt}
 
 pub lt-or-ge : (a b : ℕ) → (a < b) ⊎ (b ≤ a)
 lt-or-ge a b = go (ltb a b) (ltb→lt a b) (nltb→le a b)
@@ -19,6 +19,10 @@ lt-or-ge a b = go (ltb a b) (ltb→lt a b) (nltb→le a b)
     go : (t : Bool) → (T t → a < b) → (T (not t) → b ≤ a) → (a < b) ⊎ (b ≤ a)
     go true x y = inl (x tt)
     go false x y = inr (y tt)
+
+-- ---- rounding up, for u = 2 * h
+closest_up : (m u h : ℕ) → u ≡ 2 * h → h < m % u → closest m u ≡ m / u + 1
+closest_up m u h e l = ap (nearest (m / u)) (compare-gt (m % u * 2) u (omega arith)) ∙ sym (add-one (m / u))
 
 -- ---- the closest number is within half a unit
 abbrev Within : ℕ → ℕ → ℕ → Type 0

@@ -1,13 +1,11 @@
-// `mul_add`, `midpoint` and `sqrt` of `float`, with the same contracts, by way of f64: the exact sum is rounded to the 53 digits of an f64 and that to
-// the 24 of an f32, where the first rounding can't mislead the second; the root is guessed in f64 and the guess tested with whole numbers.
-// Everything else goes to `float`, which works from whole numbers.
+// `mul_add`, `midpoint` and `sqrt` of `float`, with the same contracts. `mul_add` goes by way of f64: the exact sum is rounded to the 53 digits of an f64 and that to the 24 of an f32, where the first rounding can't
+// mislead the second; everything else goes to `float`, which works from whole numbers. The midpoint and the root are std's.
 #![tactic(auto)]
 
-ghost use Rattle.std.specs.Prelude.{◌≡◌, Bool, true, ℕ, ◌^◌, ◌<◌};
+ghost use Rattle.std.specs.Prelude.{◌≡◌, Bool, true, ℕ, ◌<◌};
 ghost use Rattle.std.specs.Float.{binary32, binary64};
 ghost use Rattle.std.specs.Float.Ieee.{round};
-ghost use Rattle.float.specs.Ops.{fused, midpoint, root, root_of};
-ghost use Rattle.float.specs.Whole.{IsPositive};
+ghost use Rattle.float.specs.Ops.{fused, midpoint, root};
 ghost use Rattle.wide.specs.Wide.{Clear, narrowed};
 
 // The digit of an f64's sign, and the patterns of 2^-125 and of 2^127, between which the clear sums lie.
@@ -64,17 +62,8 @@ fn mul_add_unclear(a: f32, b: f32, c: f32) -> f32
     float::mul_add(a, b, c)
 }
 
-// (a + b) / 2 where the half sum isn't clear: that of two zeros is their sum.
-#[tactic(auto, using(crate::proofs::Zero::is_zero, crate::proofs::Zero::both_zero))]
-fn midpoint_unclear(a: f32, b: f32) -> f32
-    ensures { result ≡ midpoint a b }
-{
-    if a == 0.0 && b == 0.0 {
-        return a + b;
-    }
-    float::midpoint(a, b)
-}
-
+// Kept: std's `a.mul_add(b, c)` has the same contract (`fused_std` of float/proofs/FusedStd.antt). Document 01 names the form, "from whole numbers",
+// "leading zeros of a u64 give the shift in the fused product", and wants it even where another is shorter: `float::mul_add` is that, and this comes to it wherever f64 can't decide; std's method never would.
 // The method `mul_add`: a * b + c, rounded once. A factor a of 1, that of the first-order term in a run of one channel, leaves the f32 sum, which often is a tie of the f64 one.
 // Else the product is exact in f64. A NaN, a zero and any other sum that isn't clear go to `mul_add_unclear`.
 // Ruled out: the f64 sum at a tie of two f32 taken for the exact sum; -0 where the exact sum cancels.
@@ -92,63 +81,20 @@ pub fn mul_add(a: f32, b: f32, c: f32) -> f32
     mul_add_unclear(a, b, c)
 }
 
-// The function `f32::midpoint`: (a + b) / 2, rounded once. The halves are exact in f64.
+// The function `f32::midpoint`: (a + b) / 2, rounded once.
 // Ruled out: an infinity for two largest values, whose sum overflows; a subnormal half sum rounded twice.
+#[tactic(auto, using(float::proofs::MidpointStd::midpoint_std))]
 pub fn midpoint(a: f32, b: f32) -> f32
     ensures { result ≡ midpoint a b }
 {
-    let s = f64::from(a) * 0.5 + f64::from(b) * 0.5;
-    if is_clear(s) {
-        return narrow(s);
-    }
-    midpoint_unclear(a, b)
-}
-
-// From this, half of a pattern is taken: what is left is the pattern of about 1 / √x.
-const ROOT_PATTERN: u64 = 6910469410427058089;
-
-// A guess at the root of n: Newton's method for 1 / √n in f64, from a bit pattern. Nothing is said of how good it is.
-#[tactic(auto, using(crate::proofs::Pattern::guess_number))]
-fn guess(n: u64) -> u64
-    requires { n < 2 ^ 48 }
-    ensures { result < 33554432 }
-{
-    let d = n as f64;
-    if d.is_nan() {
-        return 0;
-    }
-    let g0 = f64::from_bits(ROOT_PATTERN - d.to_bits() % SIGN / 2);
-    let h = 0.5 * d;
-    let g1 = g0 * (1.5 - h * g0 * g0);
-    let g2 = g1 * (1.5 - h * g1 * g1);
-    let s = d * g2;
-    let t = s + (d - s * s) * (0.5 * g2) + 4503599627370496.0;
-    if t.is_nan() {
-        return 0;
-    }
-    t.to_bits() % 33554432
-}
-
-// The root of m * 2^k of the format's smallest values, rounded: q is right where the radicand lies between the squares of q - 1/2 and q + 1/2.
-#[tactic(auto, using(crate::proofs::Near::root_is, crate::proofs::Near::radicand_lt, crate::proofs::Near::radicand_exact))]
-fn root_of(m: u64, k: u32) -> f32
-    requires { IsPositive m k }
-    ensures { result ≡ root_of m k }
-{
-    if 8388608 <= m {
-        let n = m << (23 + k % 2);
-        let q = guess(n);
-        if 8388608 <= q && q <= 16777216 && q * q < n + q && n <= q * q + q {
-            return float::round::pack(false, q, 63 + k / 2);
-        }
-    }
-    float::root::root_of(m, k)
+    a.midpoint(b)
 }
 
 // The method `sqrt`: the square root, rounded once.
-// Ruled out: a guess that is off by one value; +0 for -0.
+// Ruled out: a value beside the nearest one; +0 for -0.
+#[tactic(auto, using(float::proofs::RootStd::sqrt_root))]
 pub fn sqrt(x: f32) -> f32
     ensures { result ≡ root x }
 {
-    float::sqrt_by(x, root_of)
+    x.sqrt()
 }

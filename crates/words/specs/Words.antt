@@ -51,3 +51,8 @@ module _ {T : Type 0} where
 -- the digest d with one more number
 abbrev pub with : ℕ → ℕ → ℕ
 with d n = ((d * 31) % 2 ^ 32 + n) % 2 ^ 32
+
+module _ {T : Type 0} where
+  -- and with the numbers that f gives of the values, one after the other
+  abbrev pub with_all : (T → ℕ) → ℕ → List T → ℕ
+  with_all f d xs = fold (λ e x. with e (f x)) d xs

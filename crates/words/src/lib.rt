@@ -2,8 +2,8 @@
 // programs that replay the oracle's answers and count how many are the same. A word that is no number reads as some number.
 #![tactic(auto)]
 
-ghost use Rattle.std.specs.Prelude.{Bool, ℕ, ◌≡◌, ◌≤◌, ◌*◌, ◌%◌, ◌^◌, length, IfOk};
-ghost use Rattle.words.specs.Words.{word_end, first_word, after_word, from_word, number, values_of, same_values, with};
+ghost use Rattle.std.specs.Prelude.{Bool, ℕ, ◌≡◌, ◌≤◌, ◌+◌, ◌*◌, ◌%◌, ◌^◌, length, IfOk};
+ghost use Rattle.words.specs.Words.{word_end, first_word, after_word, from_word, digit, number, values_of, same_values, with, with_all};
 
 use filling::read_full;
 use std::io::Read;
@@ -47,15 +47,20 @@ pub fn word(line: &[u8], k: usize) -> &[u8]
     split_word(from_word(line, k)).0
 }
 
+// A number with one more hexadecimal digit; a byte that is no digit counts as 0.
+fn next_value(v: u32, b: u8) -> u32
+    ensures { result ≡ ((v * 16) % 2 ^ 32 + digit b) % 2 ^ 32 }
+{
+    let digit = char::from(b).to_digit(16).unwrap_or(0);
+    v.wrapping_mul(16).wrapping_add(digit)
+}
+
 // The number whose hexadecimal digits the word is; a byte that is no digit counts as 0. Ruled out: the digits' sum; the digits read from the last to the first.
 // Kept: `u32::from_str_radix` takes a str, and gives no number for a word with another byte or with more than eight digits.
 pub fn number(word: &[u8]) -> u32
     ensures { result ≡ number word.now }
 {
-    word.iter().fold(0u32, |v, &b| {
-        let digit = char::from(b).to_digit(16).unwrap_or(0);
-        v.wrapping_mul(16).wrapping_add(digit)
-    })
+    word.iter().fold(0, |v, &b| next_value(v, b))
 }
 
 // The number that word k of the line is. Ruled out: that of the word before or after it.
@@ -126,6 +131,14 @@ pub fn with(digest: u32, n: u32) -> u32
     digest.wrapping_mul(31).wrapping_add(n)
 }
 
+// A digest with the numbers of these values, one after the other. Ruled out: the number of the first value for each; a digest of the numbers from the last to the first.
+pub fn with_all<T: Copy, F: Fn(T) -> u32>(digest: u32, xs: &[T], number: F) -> u32
+    requires { F.IsAlwaysCallable number }
+    ensures { (g : T → ℕ) → ((x : T) (n : ℕ) → F.post number x n → n ≡ g x) → result ≡ with_all g digest xs.now }
+{
+    xs.iter().fold(digest, |d, &x| with(d, number(x)))
+}
+
 // Moves what stands at these places to the front of the buffer, reads the input behind it until the buffer is full or the input ends, and answers
 // where what was read ends. Where a read fails its error is answered, and of the buffer only its length is promised.
 // Rules out: an end past the buffer's; and a buffer that comes back with another length.
@@ -185,6 +198,7 @@ pub fn count<R: Read, F: Fn(&[u8]) -> bool>(input: &mut R, same: F) -> io::Resul
     let mut tally = Tally::default();
     let mut from = 0;
     let mut to = 0;
+    // Kept: each loop is proved to end, and nothing says that an input does, so that a loop without a count has no measure; `lines` and `split` of std's `BufRead` put each line on a heap.
     for _ in 0..u64::MAX {
         to = refill(input, &mut text, from..to)?;
         (tally, from) = count_lines(&text[..to], tally, &same);

@@ -3,3 +3,4 @@ pub mod Table
 pub mod Places
 pub mod Walk
 pub mod Examples
+pub mod Each

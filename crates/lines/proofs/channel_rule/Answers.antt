@@ -4,5 +4,5 @@ use Rattle.std.proofs.Common.{arith}
 use Rattle.lines.proofs.LineLaws.{channel_quantiser}
 use Rattle.lines.proofs.channel_rule.Goals as goal
 
-pub returns-in_default : goal.returns-in_default
-returns-in_default c = channel_quantiser c.args.i (omega arith) c.requires
+pub returns-in_default-2 : goal.returns-in_default-2
+returns-in_default-2 c = channel_quantiser c.args.i (omega arith) c.requires.1

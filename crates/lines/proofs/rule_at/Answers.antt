@@ -3,11 +3,11 @@
 use Rattle.std.proofs.Common.{◌∙◌}
 use Rattle.text.specs.Pieces.{split}
 use Rattle.lines.specs.Lines.{rules_of, field_count}
-use Rattle.lines.proofs.LineLaws.{range_at}
+use Rattle.lines.proofs.LineLaws.{range_behind}
 use Rattle.lines.proofs.rule_at.Goals as goal
 
 pub returns-in-Range : goal.returns-in-Range
 unfolding rules_of field_count
 returns-in-Range c =
     rw c.in-Range.is
-    (c.range_rule.ensures ∙ range_at (split 9 c.args.row.now) c.args.i c.args.last (rw c.in-Range.is at c.requires.0) (rw c.in-Range.is at c.requires.1))
+    (c.range_rule.ensures ∙ range_behind (split 9 c.args.row.now) c.args.i c.args.last c.if-i-eq0.false (rw c.in-Range.is at c.requires.0) (rw c.in-Range.is at c.requires.1))

@@ -1,7 +1,7 @@
 -- Kept: the check finds none of these alone (scripts/answers tries each).
 -- `never_blows`: legal, and the three parts of the test.
 use mathlib.Core.Path.{◌≡◌, sym, ◌∙◌, subst}
-use mathlib.Core.Bool.{true, false}
+use mathlib.Core.Bool.{true}
 use lib.Dec.{T}
 use Rattle.calls.specs.Run.{legal}
 use Rattle.record.specs.Model.{sheet_of, places_of}

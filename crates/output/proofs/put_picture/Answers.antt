@@ -7,6 +7,7 @@ use native.Mathlib.Omega.{arith}
 use Rattle.fold.proofs.Grid.{row_end}
 use Rattle.output.specs.Output.{each, numbers_line, row_line, picture_text}
 use Rattle.copying.proofs.PartLaws.{put_none, put_more, put_as}
+use Rattle.output.proofs.Chunks.{row_as}
 use Rattle.output.proofs.Lines.{lines_more, lines_done}
 use Rattle.output.proofs.Sizes.{row_length, row_more, numbers_length, sides_length}
 use Rattle.output.proofs.put_picture.Goals as goal
@@ -33,9 +34,12 @@ put_row-requires c =
 
 pub loop-y-preserved : goal.loop-y-preserved
 loop-y-preserved c =
-    let m = row_more c.loop-y.y (7 * c.args.width + 2) in
-    let n = c.put_row.ensures.next ∙ ap (λ (k : ℕ). c.loop-y.to.at + k) (row_length c.args.width c.args.rgb.now (c.loop-y.y * c.args.width)) in
-    record { at = omega (arith, m, n); put = put_as (lines_more _ _) (put_more c.loop-y.invariant.put c.put_row.ensures) }
+    let a = c.args in
+    let w = within c.loop-y.y a.width a.height (omega arith) in
+    let m = row_more c.loop-y.y a.width in
+    let p = put_as (row_as a.width (a.width * a.height) (c.loop-y.y * a.width) a.rgb.now _ (omega (arith, w.0)) (search rules) (omega (arith, m, w.0))) c.put_row.ensures in
+    let n = p.next ∙ ap (λ (k : ℕ). c.loop-y.to.at + k) (row_length a.width a.rgb.now (c.loop-y.y * a.width)) in
+    record { at = omega (arith, row_more c.loop-y.y (7 * a.width + 2), n); put = put_as (lines_more _ _) (put_more c.loop-y.invariant.put p) }
 
 pub returns : goal.returns
 unfolding picture_text

@@ -6,17 +6,17 @@ use Rattle.copying.proofs.PartLaws.{put_none, put_more, put_as}
 use Rattle.output.proofs.Lines.{fields_more, row_done}
 use Rattle.output.proofs.put_row.Goals as goal
 
-pub loop-x-init : goal.loop-x-init
+pub loop-rgb-init : goal.loop-rgb-init
 unfolding each
-loop-x-init c = record { at = omega arith; put = put_none _ }
+loop-rgb-init c = record { at = omega arith; put = put_none _ }
 
-pub loop-x-preserved : goal.loop-x-preserved
-loop-x-preserved c =
+pub loop-rgb-preserved : goal.loop-rgb-preserved
+loop-rgb-preserved c =
     record {
-      at = omega (arith, c.put_pixel.ensures.next, c.loop-x.invariant.at);
-      put = put_as (fields_more _ _) (put_more c.loop-x.invariant.put c.put_pixel.ensures);
+      at = omega (arith, c.put_pixel.ensures.next, c.loop-rgb.invariant.at);
+      put = put_as (fields_more _ _) (put_more c.loop-rgb.invariant.put c.put_pixel.ensures);
     }
 
 pub returns : goal.returns
 returns c =
-    put_as (row_done _ _ _ (omega arith)) (put_more (put_more c.put_byte.ensures c.loop-x.invariant.put) c.put_byte-2.ensures)
+    put_as (row_done _ _ _ (omega arith)) (put_more (put_more c.put_byte.ensures c.loop-rgb.invariant.put) c.put_byte-2.ensures)

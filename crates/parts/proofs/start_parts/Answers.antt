@@ -3,8 +3,7 @@
 use native.Mathlib.Omega.{arith}
 use Rattle.calls.specs.Buffers.{Plane, Prior, Gradient, Across, Down, Saved}
 use Rattle.std.proofs.Common.{rules}
-use Rattle.fold.proofs.Loops.{upto_none, upto-call, upto-end}
-use Rattle.record.proofs.Sizes.{count_3}
+use Rattle.fold.proofs.Loops.{upto_none, upto-call}
 use Rattle.parts.proofs.Started.{six_long, loop_sized}
 use Rattle.parts.proofs.start_parts.Goals as goal
 

@@ -1,3 +1,4 @@
+-- Kept: the check finds none of these alone (scripts/answers tries each).
 -- `program::paint_with` meets its contract: finish is handed what it accepts, and the text of its picture has room.
 use Rattle.program.proofs.Printing.{finishes, paints}
 use Rattle.program.proofs.paint_with.Goals as goal

@@ -1,3 +1,4 @@
+-- Kept: the check finds none of these alone (scripts/answers tries each).
 -- `program::read_with` meets its contract: the sheet that is read is legal, and no text whose lengths were measured is refused.
 use Rattle.contents.specs.Sheets.{lent}
 use Rattle.program.proofs.Printing.{sheet_legal, sheet-text, not_refused}

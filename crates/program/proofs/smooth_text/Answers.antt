@@ -1,3 +1,4 @@
+-- Kept: the check finds none of these alone (scripts/answers tries each).
 -- `program::smooth_text` meets its contract: the first `decisive 32` bytes decide.
 use borrow.Author.Rules.{rules}
 use native.Mathlib.Omega.{arith}

@@ -1,21 +1,12 @@
-use mathlib.Core.Path.{◌≡◌}
+-- Kept: the check finds none of these alone (scripts/answers tries each).
 use native.Mathlib.Omega.{arith}
 use Rattle.solve.specs.Solve.{number_in}
 use Rattle.output.proofs.Fronts.{adds_none, adds_as}
-use Rattle.program.proofs.Clipped.{none_written, one_written, lines_end}
+use Rattle.program.proofs.Clipped.{none_written, one_written}
 use Rattle.program.proofs.write_numbers.Goals as goal
 
 pub loop-c-init : goal.loop-c-init
 loop-c-init c = (omega arith, (adds_as (none_written (number_in c.args.clipped)) (adds_none _), omega arith))
-
-pub offset_bounds-clipped-c : goal.offset_bounds-clipped-c
-offset_bounds-clipped-c c = omega (arith, c.loop-c-test.true, c.requires.0)
-
-pub bounds-clipped-c : goal.bounds-clipped-c
-bounds-clipped-c c = omega (arith, c.loop-c-test.true, c.requires.0)
-
-pub overflow_step-c : goal.overflow_step-c
-overflow_step-c c = omega (arith, c.loop-c-test.true, c.requires.0)
 
 pub loop-c-preserved : goal.loop-c-preserved
 loop-c-preserved c =
@@ -24,10 +15,3 @@ loop-c-preserved c =
     let l = c.loop-c in
     let t = c.loop-c-test.true in
     (omega arith, one_written (number_in a.clipped) a.to.now _ _ l.c (omega (arith, t, p.0)) (p.1 l.c t) p.2 l.invariant.1 c.write_clipped.ensures)
-
-pub returns : goal.returns
-returns c =
-    let l = c.loop-c in
-    let a = c.args in
-    let e : l.c ≡ a.n = omega (arith, c.loop-c-test.false, l.invariant.0) in
-    (adds_as (lines_end (number_in a.clipped) e) l.invariant.1.0, omega (arith, l.invariant.1.1, c.requires.0))

@@ -1,29 +1,15 @@
+-- Kept: the check finds none of these alone (scripts/answers tries each).
 use mathlib.Core.Path.{◌≡◌, ap, ◌∙◌}
 use Prim.Native.Nat.{ℕ, suc, ◌*◌}
 use native.Mathlib.Numerals.{add-one}
 use native.Mathlib.Omega.{arith}
 use Rattle.solve.specs.Solve.{steps_before}
-use Rattle.fold.specs.Join.{join_upto}
 use Rattle.output.proofs.Fronts.{adds_none, adds_as}
-use Rattle.program.specs.Printed.{run_lines}
 use Rattle.program.proofs.Totals.{from_to, to_most, one_more, none-yet}
-use Rattle.program.proofs.Accepts.{at-most}
 use Rattle.program.proofs.write_runs.Goals as goal
 
 pub loop-c-init : goal.loop-c-init
 loop-c-init c = (omega arith, (adds_as (none-yet c.args.s c.requires.0 c.args.totals.now) (adds_none _), omega arith))
-
-pub overflow_mul-from : goal.overflow_mul-from
-overflow_mul-from c = omega (arith, c.steps_before-from.ensures.1, c.loop-c-test.true, at-most c.args.s.header.channels c.requires.0.channels)
-
-pub overflow_add-c : goal.overflow_add-c
-overflow_add-c c = omega (arith, c.loop-c-test.true, at-most c.args.s.header.channels c.requires.0.channels)
-
-pub overflow_mul-end : goal.overflow_mul-end
-overflow_mul-end c = omega (arith, c.steps_before-end.ensures.1, c.loop-c-test.true, at-most c.args.s.header.channels c.requires.0.channels)
-
-pub offset_bounds-totals-from : goal.offset_bounds-totals-from
-offset_bounds-totals-from c = omega (arith, c.steps_before-from.ensures.1, c.steps_before-end.ensures.1, c.loop-c-test.true, at-most c.args.s.header.channels c.requires.0.channels)
 
 pub slice_bounds-write_totals-count : goal.slice_bounds-write_totals-count
 slice_bounds-write_totals-count c = (let a = c.args in
@@ -43,9 +29,6 @@ slice_bounds-write_totals-end c = (let a = c.args in
     let e : c.steps_before-end.result ≡ steps_before a.s (suc l.c) = c.steps_before-end.ensures.0 ∙ ap (steps_before a.s) (add-one l.c) in
     omega (arith, c.steps_before-from.ensures.0, from_to a.s c.requires.0 a.totals.now c.requires.1 c.requires.2 l.c c.loop-c-test.true, to_most a.s c.requires.0 a.totals.now c.requires.1 c.requires.2 l.c c.loop-c-test.true))
 
-pub overflow_step-c : goal.overflow_step-c
-overflow_step-c c = omega (arith, c.loop-c-test.true, at-most c.args.s.header.channels c.requires.0.channels)
-
 pub loop-c-preserved : goal.loop-c-preserved
 loop-c-preserved c =
     let a = c.args in
@@ -56,10 +39,3 @@ loop-c-preserved c =
       one_more a.s p.0 a.totals.now p.1 p.2 l.c c.loop-c-test.true a.to.now _ _ _ _
           (ap (λ (n : ℕ). n * 2) c.steps_before-from.ensures.0) (ap (λ (n : ℕ). n * 2) c.steps_before-end.ensures.0) p.3 l.invariant.1 v,
     )
-
-pub returns : goal.returns
-returns c =
-    let a = c.args in
-    let l = c.loop-c in
-    let e : l.c ≡ a.s.header.channels = omega (arith, c.loop-c-test.false, l.invariant.0) in
-    (adds_as (ap (join_upto (run_lines a.s a.totals.now)) e) l.invariant.1.0, omega (arith, l.invariant.1.1, at-most a.s.header.channels c.requires.0.channels))

@@ -1,3 +1,4 @@
+-- Kept: the check finds none of these alone (scripts/answers tries each).
 -- `program::write_sums` meets its contract: the lines of the one run, or of all runs.
 use Rattle.program.proofs.Totals.{joint_lines, apart_lines}
 use Rattle.program.proofs.write_sums.Goals as goal
@@ -7,9 +8,6 @@ returns-then-h c =
     let a = c.args in
     let p = c.requires in
     joint_lines a.s p.0 a.totals.now c.if-h.true p.1 a.to.now _ p.2 c.write_totals.ensures
-
-pub write_runs-requires : goal.write_runs-requires
-write_runs-requires c = (c.requires.0, c.if-h.false, c.requires.1, c.requires.2)
 
 pub returns : goal.returns
 returns c = apart_lines c.args.s c.requires.0 c.args.totals.now c.if-h.false _ _ c.write_runs.ensures

@@ -1,14 +1,16 @@
--- `all_rounds`: after p rounds all channels stand at p, none is blown, and the totals of the blends among them are stored.
-use Prim.Native.Nat.{◌-◌}
+-- `all_rounds`: after each step, and after each job of one, all channels stand at the next position, none is blown, and the totals of the blends so far are stored.
+use Rattle.std.proofs.Common.{◌+◌, ◌*◌}
 use Rattle.record.specs.Lent.{levels_in, six_of, SameSix}
 use Rattle.record.specs.Model.{given_of}
 use Rattle.rounds.proofs.Ends.{Rounding}
 use Rattle.rounds.proofs.all_rounds.Given as goal
 
-abbrev pub invariant-loop-p : goal.invariant-loop-p
-invariant-loop-p l =
-    Rounding (given_of l.initial.run (levels_in l.given) l.given.tables.now) l.p-end l.p l.run (six_of l.initial.lent) l.initial.totals (six_of l.lent) l.totals
-    × SameSix l.initial.lent l.lent
+abbrev pub invariant-loop-job : goal.invariant-loop-job
+invariant-loop-job l =
+    Rounding (given_of l.fn.run (levels_in l.given) l.given.tables.now) (5 * l.step-end) (5 * l.step + l.job-index) l.run (six_of l.fn.lent) l.fn.totals (six_of l.lent) l.totals
+    × SameSix l.fn.lent l.lent
 
-abbrev pub decreases-loop-p : goal.decreases-loop-p
-decreases-loop-p l = l.p-end - l.p
+abbrev pub invariant-loop-step : goal.invariant-loop-step
+invariant-loop-step l =
+    Rounding (given_of l.fn.run (levels_in l.given) l.given.tables.now) (5 * l.step-end) (5 * l.step) l.run (six_of l.fn.lent) l.fn.totals (six_of l.lent) l.totals
+    × SameSix l.fn.lent l.lent

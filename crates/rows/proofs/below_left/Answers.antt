@@ -1,12 +1,8 @@
 -- Kept: the check finds none of these alone (scripts/answers tries each).
-use Rattle.std.proofs.Common.{◌+◌, ◌-◌, ◌∙◌, rules}
-use borrow.Author.Tests.{le-leb, lt-leb}
-use Rattle.rows.proofs.Lent.{from_second, put_whole}
-use Rattle.rows.proofs.RowLaws.{below_left_is, below_left_none}
+use Rattle.std.proofs.Common.{◌-◌}
+use borrow.Author.Tests.{le-leb}
+use Rattle.rows.proofs.RowLaws.{below_left_none}
 use Rattle.rows.proofs.below_left.Goals as goal
 
-pub returns-then-y-h : goal.returns-then-y-h
-returns-then-y-h c = let a = c.args in below_left_none a.g.w a.g.h a.alpha a.norm.now a.q.now a.y a.c 0 a.gradient.now (le-leb (a.g.h - 1) a.y c.if-y-h.true)
-
-pub returns : goal.returns
-returns c = let a = c.args in let r = c.row_at-at.result in let f = c.row_at-at.ensures.1 in put_whole a.alpha a.norm.now a.q.now _ _ a.gradient.now _ 1 (r) (r + (a.g.w - 1)) (a.g.w - 1) (search rules) (search rules) (search rules) c.put.ensures (λ j l. from_second _ a.g.w j (search rules) (search rules) l) (λ j l. from_second _ a.g.w j (search rules) (search rules) l) ∙ below_left_is a.g.w a.g.h a.alpha a.norm.now a.q.now a.y a.c _ a.gradient.now (search rules) (lt-leb (a.g.h - 1) a.y c.if-y-h.false) c.row_at-at.ensures.0
+pub returns-then-y-g : goal.returns-then-y-g
+returns-then-y-g c = let a = c.args in below_left_none a.g.w a.g.h a.alpha a.norm.now a.q.now a.y a.c 0 a.gradient.now (le-leb (a.g.h - 1) a.y c.if-y-g.true)

@@ -1,12 +1,7 @@
 -- Kept: the check finds none of these alone (scripts/answers tries each).
 use Rattle.std.proofs.Common.{rules}
-use Rattle.fold.specs.Fold.{upto}
-use Rattle.fold.proofs.Loops.{upto_step}
+use Rattle.rows.proofs.Lent.{store_is}
 use Rattle.rows.proofs.differ.Goals as goal
 
-pub loop-x-init : goal.loop-x-init
-unfolding upto
-loop-x-init c = search rules
-
-pub loop-x-preserved : goal.loop-x-preserved
-loop-x-preserved c = upto_step _ _ _ c.loop-x.invariant
+pub returns : goal.returns
+returns c = let a = c.args in store_is _ a.out.now _ (search rules) (λ x l. let p = c.combine.ensures x l in search rules)

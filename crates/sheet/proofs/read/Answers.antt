@@ -14,7 +14,7 @@ returns c =
     let v = c.in_ok-walked.walked in
     let new = c.walk.new in
     let text = read_text c.args.limits c.args.text.now in
-    let q : Gives w ≡ walked_of text = sym (ap said c.in_ok-counted.was) ∙ c.count.ensures in
+    let q : Gives w ≡ walked_of text = sym (ap said c.in_ok-counted.was) ∙ c.count.ensures.answer in
     let r : Gives v ≡ walked_of text = sym (ap said c.in_ok-walked.was) ∙ c.walk.ensures.answer in
     let p =
     read_sheet c.args.who (lent c.args.lows.now c.args.highs.now c.args.tables.now) w c.if-counted-lows.false c.if-counted-highs.false c.if-counted-tables.false

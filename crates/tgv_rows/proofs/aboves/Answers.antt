@@ -10,8 +10,8 @@ use Rattle.tgv_rows.proofs.aboves.Goals as goal
 
 pub returns : goal.returns
 returns c =
-    let a = c.args in let p = c.requires in let b = a.c * a.g.w in let r = row_end a.c a.g.n a.g.w p.0 in
-    aboves_by a.g.w a.g.h a.alpha a.norm.now a.xx.now a.xy.now a.yy.now a.y a.c _ _ a.gradient.now _ _
-    (λ x l. c.neg_quotients.ensures x (omega (arith, l)) ∙ ap (λ (z : Float). neg z ⊘ val a.norm.now x) (in_part a.xy.now b a.g.w (omega (arith, r)) x l))
-    (λ x l. c.sum_quotients.ensures x (omega (arith, l)) ∙ ap₂ (λ (y z : Float). (y ⊕ z) ⊘ val a.norm.now x) (in_part a.yy.now b a.g.w (omega (arith, r)) x l) (in_part a.xy.now b a.g.w (omega (arith, r)) x l))
+    let a = c.args in let p = c.requires in let b = a.c * a.row.now.g.w in let r = row_end a.c a.row.now.g.n a.row.now.g.w p.0 in
+    aboves_by a.row.now.g.w a.row.now.g.h a.row.now.alpha a.row.now.norm.now a.row.now.xx.now a.row.now.xy.now a.row.now.yy.now a.row.now.y a.c _ _ a.gradient.now _ _
+    (λ x l. c.neg_quotients.ensures x (omega (arith, l)) ∙ ap (λ (z : Float). neg z ⊘ val a.row.now.norm.now x) (in_part a.row.now.xy.now b a.row.now.g.w (omega (arith, r)) x l))
+    (λ x l. c.sum_quotients.ensures x (omega (arith, l)) ∙ ap₂ (λ (y z : Float). (y ⊕ z) ⊘ val a.row.now.norm.now x) (in_part a.row.now.yy.now b a.row.now.g.w (omega (arith, r)) x l) (in_part a.row.now.xy.now b a.row.now.g.w (omega (arith, r)) x l))
     c.above_right.ensures c.above.ensures

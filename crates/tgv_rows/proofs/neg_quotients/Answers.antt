@@ -1,19 +1,6 @@
 -- Kept: the check finds none of these alone (scripts/answers tries each).
-use Rattle.std.proofs.Common.{◌∙◌, ap, arith, rules, List, length, le_refl}
-use Rattle.std.specs.Float.Ieee.{neg}
-use lib.Ieee.{Float}
-use Rattle.fold.specs.Fold.{upto}
-use Rattle.fold.proofs.Loops.{upto_step, upto-end}
-use Rattle.float.specs.Names.{◌⊘◌, val}
-use Rattle.rows.proofs.RowLaws.{changed_at}
+use Rattle.std.proofs.Common.{rules}
 use Rattle.tgv_rows.proofs.neg_quotients.Goals as goal
 
-pub loop-x-init : goal.loop-x-init
-unfolding upto
-loop-x-init c = search rules
-
-pub loop-x-preserved : goal.loop-x-preserved
-loop-x-preserved c = upto_step _ _ _ c.loop-x.invariant
-
 pub returns : goal.returns
-returns c = let a = c.args in λ x l. ap (λ (t : List Float). val t x) (upto-end _ _ (length a.q.now) _ c.loop-x.invariant (omega arith)) ∙ changed_at (λ k z. neg (val a.s.now k) ⊘ val a.norm.now k) a.q.now (length a.q.now) (le_refl (length a.q.now)) x l
+returns c = λ x l. let p = c.combine.ensures x l in search rules

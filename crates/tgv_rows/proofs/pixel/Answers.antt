@@ -11,8 +11,7 @@ use Rattle.tgv_rows.proofs.pixel.Goals as goal
 pub returns-then-m : goal.returns-then-m
 returns-then-m c =
     let a = c.args in
-    let p = c.requires in
-    pixel_idle a.g.w a.g.h a.alpha (λ z. val a.norm.now z) (row_in a.g.w a.xx.now) (row_in a.g.w a.xy.now) (row_in a.g.w a.yy.now) a.y p.0 a.g.n a.x a.gradient.now c.if-m.true
+    pixel_idle a.row.now.g.w a.row.now.g.h a.row.now.alpha (λ z. val a.row.now.norm.now z) (row_in a.row.now.g.w a.row.now.xx.now) (row_in a.row.now.g.w a.row.now.xy.now) (row_in a.row.now.g.w a.row.now.yy.now) a.row.now.y (search rules) a.row.now.g.n a.x a.gradient.now c.if-m.true
 
 pub loop-c-init : goal.loop-c-init
 unfolding upto
@@ -21,6 +20,5 @@ loop-c-init c = search rules
 pub loop-c-preserved : goal.loop-c-preserved
 loop-c-preserved c =
     let a = c.args in
-    let p = c.requires in
     let l = c.loop-c in
-    (search rules, search rules, upto-call _ _ _ l.invariant.2 (c.channel_derivatives.ensures ∙ turn_on a.g.w a.g.h a.alpha (λ z. val a.norm.now z) (row_in a.g.w a.xx.now) (row_in a.g.w a.xy.now) (row_in a.g.w a.yy.now) a.y p.0 l.c a.x l.gradient c.if-m.false))
+    (search rules, search rules, upto-call _ _ _ l.invariant.2 (c.channel_derivatives.ensures ∙ turn_on a.row.now.g.w a.row.now.g.h a.row.now.alpha (λ z. val a.row.now.norm.now z) (row_in a.row.now.g.w a.row.now.xx.now) (row_in a.row.now.g.w a.row.now.xy.now) (row_in a.row.now.g.w a.row.now.yy.now) a.row.now.y (search rules) l.c a.x l.gradient c.if-m.false))

@@ -9,7 +9,7 @@ use Rattle.tgv_rows.proofs.pixel.Given as goal
 abbrev pub invariant-loop-c : goal.invariant-loop-c
 invariant-loop-c l =
     (l.c ≤ l.n) × (length l.gradient ≡ length l.initial.gradient)
-    × (l.gradient ≡ upto (λ d. tgv_turn l.fn.g.w l.fn.g.h l.alpha (λ z. val l.norm z) (row_in l.fn.g.w l.xx) (row_in l.fn.g.w l.xy) (row_in l.fn.g.w l.yy) l.y d l.x) l.c l.initial.gradient)
+    × (l.gradient ≡ upto (λ d. tgv_turn l.row.g.w l.row.g.h l.row.alpha (λ z. val l.row.norm.now z) (row_in l.row.g.w l.row.xx.now) (row_in l.row.g.w l.row.xy.now) (row_in l.row.g.w l.row.yy.now) l.row.y d l.x) l.c l.initial.gradient)
 
 abbrev pub decreases-loop-c : goal.decreases-loop-c
 decreases-loop-c l = l.n - l.c

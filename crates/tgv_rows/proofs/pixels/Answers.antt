@@ -19,6 +19,5 @@ loop-x-preserved c = (search rules, search rules, upto-call _ _ _ c.loop-x.invar
 pub returns : goal.returns
 returns c =
     let a = c.args in
-    let p = c.requires in
     upto-end _ _ _ _ c.loop-x.invariant.2 (omega arith)
-    ∙ by_kinds a.g.w a.g.h a.alpha (λ x. val a.norm.now x) (row_in a.g.w a.xx.now) (row_in a.g.w a.xy.now) (row_in a.g.w a.yy.now) a.y p.0 a.g.n a.gradient.now
+    ∙ by_kinds a.row.now.g.w a.row.now.g.h a.row.now.alpha (λ x. val a.row.now.norm.now x) (row_in a.row.now.g.w a.row.now.xx.now) (row_in a.row.now.g.w a.row.now.xy.now) (row_in a.row.now.g.w a.row.now.yy.now) a.row.now.y (search rules) a.row.now.g.n a.gradient.now

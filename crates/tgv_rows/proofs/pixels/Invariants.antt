@@ -10,7 +10,7 @@ use Rattle.tgv_rows.proofs.pixels.Given as goal
 abbrev pub invariant-loop-x : goal.invariant-loop-x
 invariant-loop-x l =
     (l.x ≤ l.w) × (length l.gradient ≡ length l.initial.gradient)
-    × (l.gradient ≡ upto (λ z. upto (λ c. tgv_turn l.g.w l.g.h l.alpha (λ k. val l.norm k) (row_in l.g.w l.xx) (row_in l.g.w l.xy) (row_in l.g.w l.yy) l.y c z) l.g.n) l.x l.initial.gradient)
+    × (l.gradient ≡ upto (λ z. upto (λ c. tgv_turn l.row.g.w l.row.g.h l.row.alpha (λ k. val l.row.norm.now k) (row_in l.row.g.w l.row.xx.now) (row_in l.row.g.w l.row.xy.now) (row_in l.row.g.w l.row.yy.now) l.row.y c z) l.row.g.n) l.x l.initial.gradient)
 
 abbrev pub decreases-loop-x : goal.decreases-loop-x
 decreases-loop-x l = l.w - l.x

@@ -11,7 +11,7 @@ use Rattle.tgv_rows.proofs.spread_rows.Goals as goal
 pub returns-then-not-any : goal.returns-then-not-any
 returns-then-not-any c =
     let a = c.args in
-    kinds_idle a.g.w a.g.h a.alpha (λ x. val a.norm.now x) (row_in a.g.w a.xx.now) (row_in a.g.w a.xy.now) (row_in a.g.w a.yy.now) a.y a.g.n a.gradient.now
+    kinds_idle a.row.now.g.w a.row.now.g.h a.row.now.alpha (λ x. val a.row.now.norm.now x) (row_in a.row.now.g.w a.row.now.xx.now) (row_in a.row.now.g.w a.row.now.xy.now) (row_in a.row.now.g.w a.row.now.yy.now) a.row.now.y a.row.now.g.n a.gradient.now
     (λ x l. c.any.ensures c.if-not-any.true x (search (rules, l)))
 
 pub loop-c-init : goal.loop-c-init

@@ -9,7 +9,7 @@ use Rattle.tgv_rows.proofs.spread_rows.Given as goal
 abbrev pub invariant-loop-c : goal.invariant-loop-c
 invariant-loop-c l =
     (l.c ≤ l.n) × (length l.gradient ≡ length l.initial.gradient) × (length l.q ≡ length l.initial.q)
-    × (l.gradient ≡ upto (tgv_kinds l.g.w l.g.h l.alpha (λ x. val l.norm x) (row_in l.g.w l.xx) (row_in l.g.w l.xy) (row_in l.g.w l.yy) l.y) l.c l.initial.gradient)
+    × (l.gradient ≡ upto (tgv_kinds l.row.g.w l.row.g.h l.row.alpha (λ x. val l.row.norm.now x) (row_in l.row.g.w l.row.xx.now) (row_in l.row.g.w l.row.xy.now) (row_in l.row.g.w l.row.yy.now) l.row.y) l.c l.initial.gradient)
 
 abbrev pub decreases-loop-c : goal.decreases-loop-c
 decreases-loop-c l = l.n - l.c

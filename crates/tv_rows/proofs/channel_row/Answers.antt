@@ -12,10 +12,10 @@ returns c =
     let a = c.args in
     let r = c.row_at-at.result in
     let f = c.row_at-at.ensures.1 in
-    let X : (x : ℕ) → x < a.g.w → _ = λ x l. in_part a.across.now r a.g.w (search rules) x l in
-    let Y : (x : ℕ) → x < a.g.w → _ = λ x l. in_part a.down.now r a.g.w (search rules) x l in
-    kinds_by a.g.w a.g.h a.alpha a.norm.now a.across.now a.down.now a.y a.c r _ _ _ a.gradient.now _ _ _ c.row_at-at.ensures.0
-    (λ x l. c.quotients.ensures x (search (rules, l)) ∙ ap (λ (z : Float). z ⊘ val a.norm.now x) (X x l))
-    (λ x l. c.own_quotients.ensures x (search (rules, l)) ∙ ap₂ (λ (y z : Float). neg (y ⊕ z) ⊘ val a.norm.now x) (X x l) (Y x l))
-    (λ x l. c.quotients-2.ensures x (search (rules, l)) ∙ ap (λ (z : Float). z ⊘ val a.norm.now x) (Y x l))
+    let X : (x : ℕ) → x < a.row.now.g.w → _ = λ x l. in_part a.row.now.across.now r a.row.now.g.w (search rules) x l in
+    let Y : (x : ℕ) → x < a.row.now.g.w → _ = λ x l. in_part a.row.now.down.now r a.row.now.g.w (search rules) x l in
+    kinds_by a.row.now.g.w a.row.now.g.h a.row.now.alpha a.row.now.norm.now a.row.now.across.now a.row.now.down.now a.row.now.y a.c r _ _ _ a.gradient.now _ _ _ c.row_at-at.ensures.0
+    (λ x l. c.quotients.ensures x (search (rules, l)) ∙ ap (λ (z : Float). z ⊘ val a.row.now.norm.now x) (X x l))
+    (λ x l. c.own_quotients.ensures x (search (rules, l)) ∙ ap₂ (λ (y z : Float). neg (y ⊕ z) ⊘ val a.row.now.norm.now x) (X x l) (Y x l))
+    (λ x l. c.quotients-2.ensures x (search (rules, l)) ∙ ap (λ (z : Float). z ⊘ val a.row.now.norm.now x) (Y x l))
     c.right.ensures c.own.ensures c.below.ensures

@@ -9,7 +9,7 @@ use Rattle.tv_rows.proofs.pixel.Given as goal
 abbrev pub invariant-loop-c : goal.invariant-loop-c
 invariant-loop-c l =
     (l.c ≤ l.n) × (length l.gradient ≡ length l.initial.gradient)
-    × (l.gradient ≡ upto (λ d. tv_turn l.g.w l.g.h l.alpha (λ z. val l.norm z) (kept_in l.g.w l.g.h l.across l.y) (kept_in l.g.w l.g.h l.down l.y) l.y d l.x) l.c l.initial.gradient)
+    × (l.gradient ≡ upto (λ d. tv_turn l.row.g.w l.row.g.h l.row.alpha (λ z. val l.row.norm.now z) (kept_in l.row.g.w l.row.g.h l.row.across.now l.row.y) (kept_in l.row.g.w l.row.g.h l.row.down.now l.row.y) l.row.y d l.x) l.c l.initial.gradient)
 
 abbrev pub decreases-loop-c : goal.decreases-loop-c
 decreases-loop-c l = l.n - l.c

@@ -19,6 +19,5 @@ loop-x-preserved c = (search rules, search rules, upto-call _ _ _ c.loop-x.invar
 pub returns : goal.returns
 returns c =
     let a = c.args in
-    let p = c.requires in
     upto-end _ _ _ _ c.loop-x.invariant.2 (omega arith)
-    ∙ tv-kinds a.g.w a.g.h a.alpha (λ x. val a.norm.now x) (kept_in a.g.w a.g.h a.across.now a.y) (kept_in a.g.w a.g.h a.down.now a.y) a.y p.0 a.g.n a.gradient.now
+    ∙ tv-kinds a.row.now.g.w a.row.now.g.h a.row.now.alpha (λ x. val a.row.now.norm.now x) (kept_in a.row.now.g.w a.row.now.g.h a.row.now.across.now a.row.now.y) (kept_in a.row.now.g.w a.row.now.g.h a.row.now.down.now a.row.now.y) a.row.now.y (search rules) a.row.now.g.n a.gradient.now

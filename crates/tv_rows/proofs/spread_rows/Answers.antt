@@ -11,7 +11,7 @@ use Rattle.tv_rows.proofs.spread_rows.Goals as goal
 pub returns-then-not-any : goal.returns-then-not-any
 returns-then-not-any c =
     let a = c.args in
-    kinds_idle a.g.w a.g.h a.alpha (λ x. val a.norm.now x) (kept_in a.g.w a.g.h a.across.now a.y) (kept_in a.g.w a.g.h a.down.now a.y) a.y a.g.n a.gradient.now
+    kinds_idle a.row.now.g.w a.row.now.g.h a.row.now.alpha (λ x. val a.row.now.norm.now x) (kept_in a.row.now.g.w a.row.now.g.h a.row.now.across.now a.row.now.y) (kept_in a.row.now.g.w a.row.now.g.h a.row.now.down.now a.row.now.y) a.row.now.y a.row.now.g.n a.gradient.now
     (λ x l. c.any.ensures c.if-not-any.true x (search (rules, l)))
 
 pub loop-c-init : goal.loop-c-init

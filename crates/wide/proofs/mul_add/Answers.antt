@@ -2,7 +2,6 @@
 -- `wide::mul_add` meets its contract: the f64 sum, where it is clear, narrows to `fused`. Assumes nothing.
 use mathlib.Core.Path.{sym, subst}
 use lib.Dec.{T}
-use Rattle.wide.proofs.One.{is_one, first_one}
 use Rattle.wide.proofs.Widen.{narrowed}
 use Rattle.wide.proofs.mul_add.Goals as goal
 

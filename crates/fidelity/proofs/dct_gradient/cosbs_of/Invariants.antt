@@ -6,4 +6,4 @@ use Rattle.fidelity.specs.DctGradient.{cosb_at}
 use Rattle.fidelity.proofs.dct_gradient.cosbs_of.Given as goal
 
 abbrev pub invariant-loop-j : goal.invariant-loop-j
-invariant-loop-j l = (l.j ≤ 64) × (l.cosbs ≡ upto (cosb_at (as_coef l.coef).middle l.coef.table.now l.i) l.j l.initial.cosbs)
+invariant-loop-j l = (l.j ≤ 64) × (l.cosb-items ≡ upto (cosb_at (as_coef l.coef).middle l.coef.table.now l.i) l.j l.initial.cosb-items)

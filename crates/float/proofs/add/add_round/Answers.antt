@@ -4,7 +4,7 @@ use Rattle.std.proofs.Common.{◌≡◌, ℕ, ◌-◌, ◌*◌, ◌%◌, ◌^◌
 use lib.Count.{count_leading_zeros}
 use lib.Ieee.{binary32, sum}
 use Rattle.float.proofs.Normal.{Aligned, aligned}
-use Rattle.float.proofs.Sums.{zero_left, zero_right, zeros_like, zeros_unlike}
+use Rattle.float.proofs.Sums.{sum_comm, zero_left, zero_right, zeros_like, zeros_unlike}
 use Rattle.float.proofs.add.add_round.Reads as reads
 use Rattle.float.proofs.add.add_round.Lts as lts
 use Rattle.float.proofs.add.add_round.Goals as goal
@@ -77,3 +77,14 @@ add_ordered-requires-2 c =
     let q = shift_q c.before in
     let u = q.most in
     (q.lo, q.hi, q.ends, omega (arith, p.lo), p.hi, p.ends, omega arith, omega arith, omega arith)
+
+-- the second first
+pub returns : goal.returns
+returns c =
+    let p = shift c.args.p c.if-p-eq0.false c.requires.0 in
+    let q = shift c.args.q c.if-q-eq0-2.false c.requires.1 in
+    let u = p.most in
+    let v = q.most in
+    c.add_ordered-2.ensures
+    ∙ both c.args.t c.args.s (q.value c.args.y (omega (arith, v))) (p.value c.args.x (omega (arith, u)))
+    ∙ sum_comm c.args.t c.args.s (c.args.q * 2 ^ c.args.y) (c.args.p * 2 ^ c.args.x) (2 ^ 426)

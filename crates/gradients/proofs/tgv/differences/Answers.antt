@@ -18,8 +18,8 @@ pub loop-c-preserved : goal.loop-c-preserved
 unfolding tgv_differences_at
 loop-c-preserved c = (
   search rules,
-  upto-call _ _ _ c.before.before.before.before.before.before.before.loop-c.invariant.1
-      (rw (c.before.before.before.before.before.if-held-c.false, c.midpoint.ensures, c.before.before.before.before.difference.ensures, c.before.before.before.difference-g_yx.ensures, c.before.before.difference-in-loop-c.ensures, c.before.difference-g_xy.ensures, c.saturating_sub-left.ensures, c.saturating_sub-above.ensures)),
+  upto-call _ _ _ c.loop-c.invariant.1
+      (rw (c.if-held-c.false, c.midpoint-g_xy_sym.ensures, c.difference-g_xx.ensures, c.difference-g_yx.ensures, c.difference-g_yy.ensures, c.difference-g_xy.ensures, c.saturating_sub-left.ensures, c.saturating_sub-above.ensures)),
 )
 
 pub returns : goal.returns

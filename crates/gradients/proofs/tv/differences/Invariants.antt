@@ -6,7 +6,7 @@ use Rattle.gradients.specs.Tv.{tv_differences_at}
 use Rattle.gradients.proofs.tv.differences.Given as goal
 
 abbrev pub invariant-loop-c : goal.invariant-loop-c
-invariant-loop-c l = (l.c ≤ l.n) × (record { g_xs = l.g_xs; g_ys = l.g_ys } ≡ upto (live (flag l.held) (tv_differences_at l.g.w l.g.h l.plane l.y l.x)) l.c (record { g_xs = l.initial.g_xs; g_ys = l.initial.g_ys }))
+invariant-loop-c l = (l.c ≤ l.n) × (l.d ≡ upto (live (flag l.held) (tv_differences_at l.g.w l.g.h l.plane l.y l.x)) l.c l.initial.d)
 
 abbrev pub decreases-loop-c : goal.decreases-loop-c
 decreases-loop-c l = l.n - l.c

@@ -3,7 +3,8 @@ use borrow.Author.Rules.{rules}
 use native.Mathlib.Omega.{arith}
 use Rattle.fold.proofs.Loops.{upto-call, upto-end}
 use Rattle.fold.specs.Fold.{upto}
-use Rattle.gradients.specs.Tv.{tv_gradient, tv_total}
+use Rattle.gradients.specs.Tv.{tv_alpha, tv_gradient, tv_total}
+use Rattle.gradients.specs.Tgv.{tgv_alpha}
 use Rattle.gradients.proofs.tv.tv_gradient.Goals as goal
 
 pub loop-y-init : goal.loop-y-init
@@ -27,7 +28,7 @@ loop-y-preserved c =
     (search rules, search rules, search rules, search rules, upto-call _ _ _ inv.4 (upto-end _ _ _ _ row.4 (omega arith)), upto-call _ _ _ inv.5 (upto-end _ _ _ _ row.5 (omega arith)))
 
 pub returns : goal.returns
-unfolding tv_gradient tv_total
+unfolding tv_gradient tv_total tv_alpha tgv_alpha
 returns c =
     let inv = c.before.loop-y.invariant in
     let alpha = c.before.before.alpha_of-alpha.ensures in

@@ -1,7 +1,6 @@
 -- Kept: the check finds none of these alone (scripts/answers tries each).
 -- `levels`: the channel's levels end within the levels of all channels.
 use Prim.Native.Nat.{◌+◌, ◌≤◌}
-use native.Mathlib.Nat.{le_of_lt}
 use native.Mathlib.Omega.{arith}
 use Rattle.record.specs.Model.{sheet_of}
 use Rattle.record.proofs.Sizes.{levels_small, levels_rise}

@@ -1,9 +1,8 @@
 -- Kept: the check finds none of these alone (scripts/answers tries each).
 -- `project`: the parts that are lent on are the channel's, and so are those that are looked at afterwards; the number clipped fits.
-use mathlib.Core.Path.{◌≡◌, ap, ◌∙◌}
+use mathlib.Core.Path.{ap, ◌∙◌}
 use Prim.Native.Nat.{◌*◌}
 use native.Mathlib.Omega.{arith}
-use lib.ListN.{length}
 use Rattle.projection.specs.Projection.{Box}
 use Rattle.projection.specs.Blown.{is_blown}
 use Rattle.calls.specs.Run.{coefs}
@@ -12,8 +11,7 @@ use Rattle.record.specs.Lent.{levels_in}
 use Rattle.record.specs.Model.{sheet_of}
 use Rattle.record.proofs.Sizes.{area_small, coefs_fit}
 use Rattle.parts.specs.Handed.{given_in}
-use Rattle.parts.proofs.Covered.{part_long}
-use Rattle.parts.proofs.Projected.{part_projected, part_clipped, clipped_small, project_long, project_blown}
+use Rattle.parts.proofs.Projected.{part_projected, part_clipped, clipped_small, project_blown}
 use Rattle.parts.proofs.Handed.project.Goals as goal
 
 -- the number is small: no more than the channel's coefficients

@@ -1,8 +1,6 @@
 -- Kept: the check finds none of these alone (scripts/answers tries each).
 -- `start`: the parts that are lent on are the channel's.
-use Prim.Native.Nat.{◌*◌, ◌≤◌}
 use Rattle.record.specs.Lent.{levels_in, six_of}
-use Rattle.parts.proofs.Covered.{part_long}
 use Rattle.parts.proofs.Started.{part_started}
 use Rattle.parts.proofs.Handed.start.Goals as goal
 

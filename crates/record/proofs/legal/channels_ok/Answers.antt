@@ -1,6 +1,6 @@
 -- Kept: the check finds none of these alone (scripts/answers tries each).
 -- `channels_ok`: the test of every channel listed is that of every number below the count.
-use mathlib.Core.Path.{◌≡◌, sym, ◌∙◌}
+use mathlib.Core.Path.{sym, ◌∙◌}
 use mathlib.Core.Bool.{Bool, ◌&&◌}
 use Prim.Native.Nat.{ℕ, ◌≤◌}
 use native.Mathlib.Omega.{arith}
@@ -12,7 +12,7 @@ use Rattle.std.proofs.lemmas.Iterator.Search.{all_from_yields_List}
 use Rattle.calls.specs.Run.{own_ok, place_ok, blends_in}
 use Rattle.record.specs.declared.Channel.{Channel}
 use Rattle.record.specs.Model.{own_of, place_of, sheet_of, no_channel}
-use Rattle.record.proofs.Channels.{length_parts, at_own, at_place, at_position}
+use Rattle.record.proofs.Channels.{at_own, at_place, at_position}
 use Rattle.record.proofs.Firsts.{all_first, every_same}
 use Rattle.record.proofs.legal.channels_ok.Goals as goal
 
@@ -20,7 +20,6 @@ pub returns : goal.returns
 returns c =
     let r = c.args.run in
     let S = sheet_of r in
-    let three : length r.channels ≡ 3 = search (rules, length_parts) in
     let long : r.count ≤ length r.channels = omega (arith, c.requires) in
     let first : ℕ = blends_in (get_or r.channels 0 no_channel).position in
     let test : Channel → Bool = λ x. own_ok S (own_of x) && place_ok S (own_of x) (place_of x) && eqb (blends_in x.position) first in

@@ -1,3 +1,4 @@
+-- Kept: the check finds none of these alone (scripts/answers tries each).
 -- `smoother_never_blows`: 1 for what `never_blows` tells of the record.
 use mathlib.Core.Path.{◌∙◌}
 use Rattle.by_numbers.proofs.SheetLaws.{bit}

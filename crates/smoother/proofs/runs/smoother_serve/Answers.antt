@@ -1,5 +1,5 @@
+-- Kept: the check finds none of these alone (scripts/answers tries each).
 -- `smoother_serve`: 13 for no letter, or what `serve` gives of the record, in numbers.
-use mathlib.Core.Path.{◌∙◌}
 use borrow.Author.Rules.{rules}
 use Rattle.smoother.proofs.InNumbers.{lettered, unlettered, no_letter_list, serve_numbers, serve_lent}
 use Rattle.smoother.proofs.runs.smoother_serve.Goals as goal
@@ -12,5 +12,5 @@ pub returns : goal.returns
 returns c =
     let l = lettered c.args.run.now c.try_from.result c.try_from.ensures _ c.in-Ok.is in
     serve_lent
-    (serve_numbers c.args.run.now _ _ _ _ _ _ l.0 _ l.1 c.serve-answer.result _ (c.from-3.ensures ∙ c.answer_byte.ensures) c.from-2.ensures c.serve-answer.ensures.is)
+    (serve_numbers c.args.run.now _ _ _ _ _ _ l.0 _ l.1 c.serve-answer.result _ c.told.ensures.1 c.told.ensures.0 c.serve-answer.ensures.is)
     (search rules) (search rules) (search rules) (search rules) (search rules) (search rules)

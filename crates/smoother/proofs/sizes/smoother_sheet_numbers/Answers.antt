@@ -1,3 +1,4 @@
+-- Kept: the check finds none of these alone (scripts/answers tries each).
 -- `smoother_sheet_numbers`: as many as `numbers_of` lists.
 use mathlib.Core.Path.{refl}
 use Rattle.by_numbers.specs.Sheets.{numbers_of}

@@ -2,7 +2,6 @@
 -- `parts_of`: the joint record and the steps tell where each channel's part lies.
 use mathlib.Core.Path.{ap}
 use Prim.Native.Nat.{ℕ, ◌*◌}
-use native.Mathlib.Nat.{le_of_lt}
 use native.Mathlib.Omega.{arith}
 use Rattle.solve.proofs.Alone.{below_joint, channel_small, parts_are}
 use Rattle.solve.proofs.separate.parts_of.Goals as goal

@@ -4,4 +4,4 @@ use Rattle.text.specs.Weights.{hex_digits, bit_form}
 use Rattle.text.proofs.weight.bit_form.Given as goal
 
 abbrev pub invariant-loop-b : goal.invariant-loop-b
-invariant-loop-b l = (l.v < 16 ^ l.b-index) × (hex_digits l.v (drop l.b-index l.b-items) ≡ bit_form l.f)
+invariant-loop-b l = (l.v < 16 ^ l.b-index) × (hex_digits l.v (drop l.b-index l.digits) ≡ bit_form l.f)

@@ -1,14 +1,13 @@
 -- Kept: the check finds none of these alone (scripts/answers tries each).
 -- `blend_turn_refusal`: the three tests of every channel.
-use mathlib.Core.Path.{◌≡◌, sym, ◌∙◌}
+use mathlib.Core.Path.{sym, ◌∙◌}
 use Prim.Native.Nat.{◌*◌, ◌%◌}
 use native.Mathlib.Omega.{arith}
 use lib.Dec.{eqb}
-use lib.ListN.{length, take}
+use lib.ListN.{take}
 use Rattle.std.proofs.Common.{rules}
 use Rattle.std.proofs.lemmas.Iterator.{YieldsList-from_slice}
 use Rattle.std.proofs.lemmas.Iterator.Search.{all_from_yields_List, any_from_yields_List}
-use Rattle.record.proofs.Channels.{length_parts}
 use Rattle.record.proofs.Sizes.{count_3, n_1000}
 use Rattle.record.proofs.Turns.{marks, ends, dues}
 use Rattle.record.proofs.legal.LegalRun.blend_turn_refusal.Goals as goal
@@ -28,32 +27,28 @@ overflow_mul-end c = record { fits = omega (arith, n_1000 c.args.self.run c.args
 pub returns-then-any : goal.returns-then-any
 returns-then-any c =
     let r = c.args.self.run in
-    let three : length r.channels ≡ 3 = search (rules, length_parts) in
     let any = any_from_yields_List (λ x. x.mark) _ _ _ c.any.ensures.ran (YieldsList-from_slice (take r.count r.channels) cc) (λ x b q k. search rules) in
-    rw (sym (marks r c.args.self.holds three) ∙ sym any ∙ c.if-any.true)
+    rw (sym (marks r c.args.self.holds (omega arith)) ∙ sym any ∙ c.if-any.true)
 
 pub returns-then-any-2 : goal.returns-then-any-2
 returns-then-any-2 c =
     let r = c.args.self.run in
-    let three : length r.channels ≡ 3 = search (rules, length_parts) in
     let any = any_from_yields_List (λ x. x.mark) _ _ _ c.any.ensures.ran (YieldsList-from_slice (take r.count r.channels) cc) (λ x b q k. search rules) in
     let end = any_from_yields_List (λ x. eqb x.position (5 * r.n)) _ _ _ c.any-2.ensures.ran (YieldsList-from_slice (take r.count r.channels) cc) (λ x b q k. search rules) in
-    rw (sym (marks r c.args.self.holds three) ∙ sym any ∙ c.if-any.false, sym (ends r c.args.self.holds three) ∙ sym end ∙ c.if-any-2.true)
+    rw (sym (marks r c.args.self.holds (omega arith)) ∙ sym any ∙ c.if-any.false, sym (ends r c.args.self.holds (omega arith)) ∙ sym end ∙ c.if-any-2.true)
 
 pub returns-then-not-all : goal.returns-then-not-all
 returns-then-not-all c =
     let r = c.args.self.run in
-    let three : length r.channels ≡ 3 = search (rules, length_parts) in
     let any = any_from_yields_List (λ x. x.mark) _ _ _ c.any.ensures.ran (YieldsList-from_slice (take r.count r.channels) cc) (λ x b q k. search rules) in
     let end = any_from_yields_List (λ x. eqb x.position (5 * r.n)) _ _ _ c.any-2.ensures.ran (YieldsList-from_slice (take r.count r.channels) cc) (λ x b q k. search rules) in
     let due = all_from_yields_List (λ x. eqb (x.position % 5) 2) _ _ _ c.all.ensures.ran (YieldsList-from_slice (take r.count r.channels) cc) (λ x b q k. search rules) in
-    rw (sym (marks r c.args.self.holds three) ∙ sym any ∙ c.if-any.false, sym (ends r c.args.self.holds three) ∙ sym end ∙ c.if-any-2.false, sym (dues r c.args.self.holds three) ∙ sym due ∙ c.if-not-all.true)
+    rw (sym (marks r c.args.self.holds (omega arith)) ∙ sym any ∙ c.if-any.false, sym (ends r c.args.self.holds (omega arith)) ∙ sym end ∙ c.if-any-2.false, sym (dues r c.args.self.holds (omega arith)) ∙ sym due ∙ c.if-not-all.true)
 
 pub returns : goal.returns
 returns c =
     let r = c.args.self.run in
-    let three : length r.channels ≡ 3 = search (rules, length_parts) in
     let any = any_from_yields_List (λ x. x.mark) _ _ _ c.any.ensures.ran (YieldsList-from_slice (take r.count r.channels) cc) (λ x b q k. search rules) in
     let end = any_from_yields_List (λ x. eqb x.position (5 * r.n)) _ _ _ c.any-2.ensures.ran (YieldsList-from_slice (take r.count r.channels) cc) (λ x b q k. search rules) in
     let due = all_from_yields_List (λ x. eqb (x.position % 5) 2) _ _ _ c.all.ensures.ran (YieldsList-from_slice (take r.count r.channels) cc) (λ x b q k. search rules) in
-    rw (sym (marks r c.args.self.holds three) ∙ sym any ∙ c.if-any.false, sym (ends r c.args.self.holds three) ∙ sym end ∙ c.if-any-2.false, sym (dues r c.args.self.holds three) ∙ sym due ∙ c.if-not-all.false)
+    rw (sym (marks r c.args.self.holds (omega arith)) ∙ sym any ∙ c.if-any.false, sym (ends r c.args.self.holds (omega arith)) ∙ sym end ∙ c.if-any-2.false, sym (dues r c.args.self.holds (omega arith)) ∙ sym due ∙ c.if-not-all.false)

@@ -1,7 +1,0 @@
--- Kept: the check finds none of these alone (scripts/answers tries each).
-use Rattle.gradients.specs.Tv.{bump}
-use Rattle.gradients.proofs.grid.bump.Goals as goal
-
-pub returns : goal.returns
-unfolding bump
-returns c = rw (← c.before.before.px-k.ensures.0, ← c.mul_add.ensures)

@@ -1,9 +1,0 @@
-use Rattle.std.proofs.Common.{◌≡◌}
-use Rattle.std.specs.Float.Ieee.{neg}
-use Rattle.fold.specs.Fold.{upto}
-use Rattle.float.specs.Names.{◌⊕◌, ◌⊘◌, val}
-use Rattle.rows.proofs.RowLaws.{change_row}
-use Rattle.tv_rows.proofs.own_quotients.Given as goal
-
-abbrev pub invariant-loop-x : goal.invariant-loop-x
-invariant-loop-x l = l.q ≡ upto (change_row (λ k z. neg (val l.across k ⊕ val l.down k) ⊘ val l.norm k)) l.x l.initial.q
