@@ -18,7 +18,7 @@ fn told(e: Refused, which: &mut u32, line: &mut usize) -> u32
     u32::from(e.refusal)
 }
 
-// Kept: this and `stitch` are the bodies of two functions for C, whose answers are numbers.
+// Kept: a number and two `&mut` for which text and line, here and in `stitch`, as the C functions whose bodies these are have them; the `Err` arms share `told`.
 // The output's length. A refusal leaves it as it was. Ruled out: 16 for a right text that is itself refused; the line of the left text with the right's number.
 pub fn measure(
     left: &[u8],

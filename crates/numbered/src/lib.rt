@@ -10,7 +10,7 @@ use record::{Accepted, Job, Run};
 use refusal::Refusal;
 use run::values::{blend, data, move_plane, project, push};
 
-// Kept: the calls of a list are numbers that C lends, and this is where one becomes its call: each arm lends other buffers, so that a closure for each job would be handed all of these.
+// Kept: a switch on the job: each arm lends other buffers, so that a closure for each job would be handed all that any job is lent, and there would be five of them in the place of five arms.
 // The call of a job, lent all that any of them is lent. Rules out: another job's call made, and the call of another channel.
 pub fn job_value(
     run: &mut Run,

@@ -1,7 +1,7 @@
 -- Kept: the check finds none of these alone (scripts/answers tries each).
 -- `program::solved_with` meets its contract: a legal sheet is not refused, so that an answer other than done is 10.
 use native.Mathlib.Omega.{arith}
-use mathlib.Core.Path.{refl, ap}
+use mathlib.Core.Path.{refl}
 use Rattle.std.specs.Prelude.{Ok}
 use Rattle.contents.specs.Sheets.{lent}
 use Rattle.record.specs.Lent.{six_of}
