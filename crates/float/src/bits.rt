@@ -2,7 +2,7 @@
 ghost use Rattle.std.specs.Prelude.{◌≡◌, from_bits, to_bits};
 ghost use Rattle.std.specs.Float.{binary32};
 
-// Kept: this and `to_bits`, the names of the Rust: std's methods of these names say nothing of a NaN, and its functions that do end in `_with_nan` and say the width; only `contents`, which uses no crate, calls one itself.
+// Kept: this and `to_bits`: std's methods of these names say nothing of a NaN, and its functions that do, `std::num::f32_from_bits_with_nan` and `f32_to_bits_with_nan`, would say the width at each caller; `contents`, which uses no crate, calls one itself.
 // The value with these bits; each pattern of a NaN gives the NaN.
 // Ruled out: an infinity for a NaN's pattern; +0 for the bits of -0.
 pub fn from_bits(bits: u32) -> f32

@@ -4,7 +4,7 @@ ghost use Rattle.std.specs.Float.{binary64};
 ghost use Rattle.float.specs.Ops.{fused_at};
 ghost use Rattle.float.specs.Names.{◌⊗◌, ◌⊞◌};
 
-// Kept: std's `f64::from(a).mul_add(f64::from(b), t)` has the same contract (`fused_std` of proofs/FusedStd.antt) and takes 15.8 ns a value in a sum of 512, where this takes 1.3: blend sums two for each pixel, and its bar is 1.2 times the Rust.
+// Kept: std's `f64::from(a).mul_add(f64::from(b), t)` has the same contract (`fused_std` of proofs/FusedStd.antt) and would be one expression for one expression; measured in a sum of 512 values it takes 15.8 ns a value where this takes 1.3, since it can't know that the product is exact.
 // The method `f64::mul_add` of two widened f32 and an f64: a * b + t, rounded once. The product of two f32 is exact in f64.
 // Ruled out: the product rounded to f32 before the sum; the sum rounded to f32.
 #[tactic(auto, using(crate::proofs::Wider::fused_by_product))]

@@ -16,7 +16,7 @@ pub struct ChannelForward {
 }
 
 // The forward differences at (x, y) of each channel.
-// Kept: the test of `held` within the loop, here, in two below and in two of tgv.rt: `for c in (0..n).filter(|&c| !held[c])` has the same test, in a closure, and says no more plainly that these channels are passed over.
+// Kept: the test of `held` within the loop, here, in two below, in two of tgv.rt, and in both norms' loops over a `zip`: `for c in (0..n).filter(|&c| !held[c])`, or a filter of the pairs, has the same test, in a closure, and says no more plainly that these channels are passed over.
 fn differences(plane: &[f32], g: Grid, y: usize, x: usize) -> [ChannelForward; 3]
     requires { (g.n ≤ 3) × Inside g y x × Fills g (length plane.now) }
     ensures { result ≡ tv_differences g.w g.h g.n (flag g.held) plane.now y x }

@@ -32,7 +32,7 @@ pub struct Channel {
 
 // The run's record: W, H, N, the smoothing weight, the letter of line A, and its channels, the first `count` of three. Every value of the letter is
 // legal, and only start looks at it.
-// Kept: three channels and their count: there is no heap, and C lends the record as this struct; `channels` gives those that it has.
+// Kept: three channels and their count: there is no heap, and `LentRun` of `smoother`, which C lends, has three; `channels` gives those that the record has.
 #[derive(Clone, Copy)]
 pub struct Run {
     pub w: u32,

@@ -13,8 +13,8 @@ use gradients::grid::Grid;
 
 // Where row y of channel c starts. Rules out: the start of the row below, and of another channel's row.
 // Kept: beside `px(g, c, y, 0)` of `gradients`, which asks for a column 0, and so for a row that isn't empty.
-// Kept: that y and c lie within the grid, and that it has a column, here and in the seven below: each is the bound of one number, as an index has one, and the numbers go into `row_at` and `px` one by one. The rows of
-// both gradients have them in their type (`NormedRow`) once there are norms; of the seven, which have norms, see their line.
+// Kept: that y and c lie within the grid, here and in the seven below, and in those seven that it has a column: each is the bound of one number, as an index has one. The rows of both gradients have y and the column in their
+// type (`NormedRow`) once there are norms, but not c; of the seven, which have norms, see their line.
 pub fn row_at(g: Grid, c: usize, y: usize) -> usize
     requires { (c < g.n) × (y < g.h) × (g.n * (g.w * g.h) < 2 ^ 63) }
     ensures { (result ≡ px_idx g.w g.h c y 0) × (result + g.w ≤ g.n * (g.w * g.h)) }

@@ -19,7 +19,7 @@ use refusal::Refusal;
 use rounds::run_value;
 
 // What a whole run answers that is not refused: done, with each channel's number of clipped coefficients, or blown.
-// Kept: done or blown, both of a call that isn't refused, as document 01 has them; as an `Option<[u32; 3]>` in the `Ok` each caller would have to know that `None` is blown.
+// Kept: done or blown, both of a call that isn't refused, as `Accepted` has them of a job; as an `Option<[u32; 3]>` in the `Ok` each caller would have to know that `None` is blown.
 #[derive(Clone, Copy)]
 pub enum Solved {
     Done([u32; 3]),

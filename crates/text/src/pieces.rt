@@ -4,7 +4,7 @@ ghost use Rattle.text.specs.Pieces.{before, split};
 ghost use Rattle.text.specs.Cursor.{IsLine};
 
 // A line: how many bytes it has, and how many fields.
-// Kept: a length and not the line itself: `sheet::walk` asks the length four times, against 1,024, the text's end and what is left, and cuts the line once.
+// Kept: a length and not the line itself: three tests of `sheet::walk` and its cut of what is left need the length; with the line in its place each would be `l.row.len()`, for one cut less there and one in `stitch`.
 #[derive(Clone, Copy, Debug, PartialEq, Eq)]
 pub struct Line {
     pub length: usize,

@@ -33,7 +33,7 @@ fn copy8(input: &[f32], output: &mut [f32], from: usize, to: usize)
 
 // Values of bh lines of bw blocks brought to this order, the Rust's `from_blocks` and `to_blocks`: the first w * h values of `output`.
 // Ruled out: the rows of a block one after the other above width 8; blocks taken column by column; and the other order, which differs above width 8.
-// Kept: w, h and their eighths are the Rust's parameters of both functions, whose names the port keeps; without the eighths each use would be `w / 8`, with a clause that the sides are multiples of 8 in the place of this one.
+// Kept: the Rust's four parameters of `from_blocks` and `to_blocks`, in its order, since the port keeps the Rust's, a rule of the project; with the eighths alone both clauses on them would go.
 #[tactic(auto, using(crate::proofs::Places::placed, fold::proofs::Loops::upto_more, fold::proofs::Loops::upto_none, crate::proofs::Opened::move_is))]
 pub fn move_blocks(
     input: &[f32],

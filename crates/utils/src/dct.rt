@@ -145,7 +145,7 @@ fn transform_line(a: &mut [f32], b: usize, d: usize, transform: Transform)
 
 // The transform of the 64 values of a block, the Rust's `dct8x8` and `idct8x8`: of the eight columns, and then of the eight rows.
 // Ruled out: rows before columns; and `mul_add!` rounded once.
-// Kept: a slice with its length. Document 01 names what it is handed, "a part starting at 64 times the block number"; an array of that part would be `as_mut_array().unwrap()` at `transform_block` and in `probe`.
+// Kept: a slice with its length. Document 01 names what it is handed, "a part starting at 64 times the block number"; an array of that part would be `as_mut_array().unwrap()` in `transform_block` and twice in `probe`, for two other callers that have an array.
 #[tactic(auto, using(fold::proofs::Loops::upto_more, fold::proofs::Loops::upto_none))]
 pub fn transform8x8(a: &mut [f32], transform: Transform)
     requires { length a.old ≡ 64 }
