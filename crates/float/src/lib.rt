@@ -13,7 +13,7 @@ ghost use Rattle.std.specs.Prelude.{◌≡◌};
 ghost use Rattle.float.specs.Ops.{clamp, fused, midpoint, mul_add, root, square};
 
 // Kept: document 01 asks that the method `mul_add` round "from whole numbers" and that "leading zeros of a u64 give the shift in the fused product, root and midpoint"; so do this, `midpoint` and `sqrt`. `wide` comes to this where f64
-// can't decide, but for a factor of 0 or 1; a step's constants go by the other two.
+// can't decide, but for a factor of 0 or a first one of 1; a step's constants take the midpoint, and every root but that of the next term, from the other two.
 // The method `mul_add`: a * b + c, rounded once.
 // Ruled out: the product rounded before the sum (0 for 1 + 2^-23, 1 - 2^-23, -1); -0 where the exact sum cancels.
 #[tactic(auto, using(crate::proofs::Values::fused_value, crate::proofs::Values::fused_left, crate::proofs::Values::fused_right, crate::proofs::Values::fused_last, crate::proofs::Fields::not_finite, crate::proofs::Fields::is_finite))]

@@ -64,7 +64,7 @@ fn mul_add_unclear(a: f32, b: f32, c: f32) -> f32
 
 // Kept: std's `a.mul_add(b, c)` has the same contract (`fused_std` of float/proofs/FusedStd.antt). Document 01 names the form, "from whole numbers", "leading zeros of a u64 give the shift in the fused product", and says
 // "We want this even where the planning page would suggest another form": `float::mul_add` is that, and this comes to it wherever f64 can't decide, but
-// for a factor of 0 or 1; std's method never would. A step's constants take midpoint and root from `float`.
+// for a factor of 0 or a first one of 1; std's method never would. A step's constants take the midpoint, and every root but that of the next term, from `float`.
 // The method `mul_add`: a * b + c, rounded once. A factor a of 1, that of the first-order term in a run of one channel, leaves the f32 sum, which often is a tie of the f64 one.
 // Else the product is exact in f64. A NaN, a zero and any other sum that isn't clear go to `mul_add_unclear`.
 // Ruled out: the f64 sum at a tie of two f32 taken for the exact sum; -0 where the exact sum cancels.
