@@ -1,11 +1,12 @@
 -- A row of the second-order term: what the code does row by row is `tgv_gradient_row`.
-use mathlib.Core.Path.{◌≡◌, refl, ap, ◌∙◌, sym}
+use mathlib.Core.Path.{◌≡◌, refl, ap, ap₂, ◌∙◌, sym}
 use mathlib.Core.Bool.{Bool, true, false, cond, ◌||◌}
 use mathlib.Core.List.{List}
 use Prim.Native.Nat.{ℕ, ◌+◌, ◌-◌, ◌*◌, ◌≤◌, ◌<◌}
 use lib.ListN.{length, replicate, length-replicate}
 use lib.Ieee.{Float, neg, eq}
 use Rattle.fold.specs.Fold.{upto}
+use Rattle.fold.specs.Part.{part}
 use Rattle.fold.proofs.Loops.{upto_ext}
 use Rattle.fold.proofs.Stores.{stored-at}
 use Rattle.float.specs.Ops.{mul_add, root}
@@ -13,10 +14,11 @@ use Rattle.float.specs.Names.{◌⊕◌, ◌⊗◌, ◌⊘◌, ◌⊞◌, f0, f2
 use Rattle.gradients.specs.declared.tgv.ChannelSecond.{ChannelSecond}
 use Rattle.gradients.specs.Tv.{px_idx, right_edge, bottom_edge, bump, bump_unless}
 use Rattle.gradients.specs.Tgv.{second_of, tgv_difference, left_edge, top_edge, tgv_differences, tgv_differences_at, g2_norm_at, g2_norm_of, tgv_beside, tgv_up_down, tgv_corners, tgv_channel_derivatives, tgv_derivatives, tgv_derivatives_at, tgv_gradient_px, tgv_gradient_row, tgv_total_px, tgv_total_row}
-use Rattle.rows.specs.Rows.{store_from, own_row, right_row, left_row, below_row, above_row, above_right_row, below_left_row, none}
+use Rattle.rows.specs.Rows.{Row, store_from, own_row, right_row, left_row, below_row, above_row, above_right_row, below_left_row, none}
 use Rattle.tgv_rows.specs.TgvRows.{xx_of, xy_of, yy_of, row_in, own_quot, side_quot, end_quot, corner_quot, tgv_squares, tgv_norms, tgv_turn, tgv_besides, tgv_aboves, tgv_belows, tgv_kinds, tgv_totals}
 use Rattle.rows.proofs.Commute.{upto_idle, hit_off, hit_on, hit_own}
 use Rattle.rows.proofs.Filled.{row_at}
+use Rattle.rows.proofs.Lent.{in_part}
 use Rattle.rows.proofs.RowLaws.{hits_idle, hits_then}
 use Rattle.tgv_rows.proofs.KindByKind.{tgv-kinds}
 
@@ -140,6 +142,24 @@ module _ (W H : ℕ) (alpha : Float) (ns xx xy yy : List Float) (y c : ℕ) wher
 
   abbrev Y : ℕ → ℕ → Float
   Y d x = row_in W yy d x
+
+  -- as the code has them, of the channel's own values, which are a part of the row's
+  abbrev own_part : List Float → List Float
+  own_part xs = part xs (c * W) (c * W + W)
+
+  module _ {l : ℕ} (q : List Float) (long : l ≡ W) where
+    pub sums_in : (us vs : List Float) → c * W + W ≤ length us → c * W + W ≤ length vs → Row l q (λ x. (val (own_part us) x ⊕ val (own_part vs) x) ⊘ N x) → Row W q (λ x. (row_in W us c x ⊕ row_in W vs c x) ⊘ N x)
+    sums_in us vs hu hv r x m = r x (rw long m) ∙ ap₂ (λ (u v : Float). (u ⊕ v) ⊘ N x) (in_part us (c * W) W hu x m) (in_part vs (c * W) W hv x m)
+
+    pub negs_in : (us : List Float) → c * W + W ≤ length us → Row l q (λ x. neg (val (own_part us) x) ⊘ N x) → Row W q (λ x. neg (row_in W us c x) ⊘ N x)
+    negs_in us hu r x m = r x (rw long m) ∙ ap (λ (u : Float). neg u ⊘ N x) (in_part us (c * W) W hu x m)
+
+    pub owns_in : c * W + W ≤ length xx → c * W + W ≤ length xy → c * W + W ≤ length yy
+        → Row l q (λ x. neg (mul_add f2 (val (own_part yy) x) (mul_add f2 (val (own_part xx) x) (f2 ⊗ val (own_part xy) x))) ⊘ N x) → Row W q (own_quot W H alpha N X M Y y c)
+    owns_in hx hm hy r x m =
+        r x (rw long m)
+        ∙ ap₂ (λ (u v : Float). neg (mul_add f2 u v) ⊘ N x) (in_part yy (c * W) W hy x m)
+        (ap₂ (λ (u v : Float). mul_add f2 u (f2 ⊗ v)) (in_part xx (c * W) W hx x m) (in_part xy (c * W) W hm x m))
 
   pub besides_by : (q1 q2 q3 : ℕ → Float) (g g1 g2 g3 : List Float)
       → ((x : ℕ) → x < W → q1 x ≡ side_quot W H alpha N X M Y y c x) → ((x : ℕ) → x < W → q2 x ≡ own_quot W H alpha N X M Y y c x) → ((x : ℕ) → x < W → q3 x ≡ side_quot W H alpha N X M Y y c x)

@@ -178,17 +178,14 @@ fn besides(gradient: &mut [f32], q: &mut [f32], row: &NormedRow<'_>, c: usize)
 {
     let w = row.g.w;
     let b = c * w;
-    sum_quotients(&row.xy[b..b + w], &row.xx[b..b + w], row.norm, q);
+    let xx = &row.xx[b..b + w];
+    let xy = &row.xy[b..b + w];
+    let yy = &row.yy[b..b + w];
+    sum_quotients(xy, xx, row.norm, q);
     rows::right(gradient, row.norm, &q[..], row.g, row.alpha, row.y, c);
-    own_quotients(
-        &row.xx[b..b + w],
-        &row.xy[b..b + w],
-        &row.yy[b..b + w],
-        row.norm,
-        q,
-    );
+    own_quotients(xx, xy, yy, row.norm, q);
     rows::own(gradient, row.norm, &q[..], row.g, row.alpha, row.y, c);
-    sum_quotients(&row.xy[b..b + w], &row.xx[b..b + w], row.norm, q);
+    sum_quotients(xy, xx, row.norm, q);
     rows::left(gradient, row.norm, &q[..], row.g, row.alpha, row.y, c);
 }
 
@@ -200,9 +197,11 @@ fn aboves(gradient: &mut [f32], q: &mut [f32], row: &NormedRow<'_>, c: usize)
 {
     let w = row.g.w;
     let b = c * w;
-    neg_quotients(&row.xy[b..b + w], row.norm, q);
+    let xy = &row.xy[b..b + w];
+    let yy = &row.yy[b..b + w];
+    neg_quotients(xy, row.norm, q);
     rows::above_right(gradient, row.norm, &q[..], row.g, row.alpha, row.y, c);
-    sum_quotients(&row.yy[b..b + w], &row.xy[b..b + w], row.norm, q);
+    sum_quotients(yy, xy, row.norm, q);
     rows::above(gradient, row.norm, &q[..], row.g, row.alpha, row.y, c);
 }
 
@@ -214,9 +213,11 @@ fn belows(gradient: &mut [f32], q: &mut [f32], row: &NormedRow<'_>, c: usize)
 {
     let w = row.g.w;
     let b = c * w;
-    sum_quotients(&row.yy[b..b + w], &row.xy[b..b + w], row.norm, q);
+    let xy = &row.xy[b..b + w];
+    let yy = &row.yy[b..b + w];
+    sum_quotients(yy, xy, row.norm, q);
     rows::below(gradient, row.norm, &q[..], row.g, row.alpha, row.y, c);
-    neg_quotients(&row.xy[b..b + w], row.norm, q);
+    neg_quotients(xy, row.norm, q);
     rows::below_left(gradient, row.norm, &q[..], row.g, row.alpha, row.y, c);
 }
 
