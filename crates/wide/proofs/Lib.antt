@@ -2,7 +2,6 @@
 -- midpoint and root are std's; docs/changes/M-111.md names them.
 pub mod Twice
 pub mod Narrowing
-pub mod Pattern
 pub mod Clearly
 pub mod Tidied
 pub mod Widen

@@ -32,7 +32,7 @@ fn is_clear(s: f64) -> bool
 }
 
 // The last 29 digits of s rounded away, by its bit pattern: an f32, held as an f64.
-#[tactic(auto, using(crate::proofs::Tidied::tidied, crate::proofs::Tidied::tidy_number, crate::proofs::Pattern::bits_lt))]
+#[tactic(auto, using(crate::proofs::Tidied::tidied, crate::proofs::Tidied::tidy_number, crate::proofs::Tidied::bits_lt))]
 fn tidy(s: f64) -> f64
     requires { Clear s }
     ensures { result ≡ narrowed s }
