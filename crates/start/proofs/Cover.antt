@@ -21,6 +21,10 @@ own_fits o W H k =
     let b : o.height ≤ H = omega (arith, mul-le-mul_left o.height k.vertical_some) in
     mul-le-mul a b
 
+-- the own plane is no wider than the full plane may be
+pub own_narrow : (o : Own) (W H : ℕ) → Covers o W H → o.width ≤ 512
+own_narrow o W H k = omega (arith, mul-le-mul_left o.width k.horizontal_some, k.horizontal_cover, k.width_most)
+
 -- the own sample (cx, cy) has its place within the own plane, and so within the full one
 pub own_place : (o : Own) (W H : ℕ) → Covers o W H → (cy cx : ℕ) → cy < o.height → cx < o.width → (cy * o.width + cx < W * H) × (W * H ≤ 512 * 512)
 own_place o W H k cy cx p q =

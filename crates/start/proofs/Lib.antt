@@ -5,3 +5,5 @@ pub mod Writes
 pub mod Examples
 pub mod Once
 pub mod Equal
+pub mod Units
+pub mod Held

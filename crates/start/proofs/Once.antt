@@ -21,7 +21,7 @@ use Rattle.utils.proofs.Moves.{from_at, from_one}
 use Rattle.fold.proofs.Scatter.{sent_at, sent_length, sent_other}
 use Rattle.interval.specs.Interval.{dequantised}
 use Rattle.start.specs.declared.coef.Reorder.TheVariants.{Each, Once}
-use Rattle.start.specs.Coef.{Coef, Eights, Placement, block_count, block_h, block_values, block_w, dequantise, image_block, image_data, image_once, init_dct_target, px_count, quant_at}
+use Rattle.start.specs.Coef.{Coef, Eights, Placement, block_count, block_h, block_values, block_w, dequantise, image_block, image_data, image_once, init_dct_target, px_count, quant_at, transformed}
 use Rattle.start.specs.Auxiliary.{aux_init, init_pixels}
 use Rattle.start.proofs.Cover.{block_in, blocks_fill}
 use Rattle.start.proofs.Lengths.{dequantise_length, init_dct_target_length}
@@ -59,7 +59,7 @@ module _ (C : Coef) where
       sent_at nan (value i) (λ j. j) 64 (replicate 64 f0) (λ k m. omega arith) (λ k m a b e. e) j l
 
   -- dequantising block i, and the blocks before it
-  dequantised_block : (i : ℕ) (x : List Float) → i * 64 + 64 ≤ length x → block_of (dequantise C.middle C.table i x) i ≡ block_values C i
+  pub dequantised_block : (i : ℕ) (x : List Float) → i * 64 + 64 ≤ length x → block_of (dequantise C.middle C.table i x) i ≡ block_values C i
   unfolding dequantise
   dequantised_block i x h =
       same_block (dequantise C.middle C.table i x) (block_values C i) i (omega (arith, dequantise_length C.middle C.table i x)) (values_length i)
@@ -73,24 +73,32 @@ module _ (C : Coef) where
       (λ j m. sent_other nan (value i) (λ j. i * 64 + j) 64 x (k * 64 + j) (λ t b e. omega arith)
       ∙ sym (part_at x (k * 64) (k * 64 + 64) (omega arith) (omega arith) j nan (omega arith)))
 
-  abbrev zeros : List Float
+  abbrev pub zeros : List Float
   zeros = replicate (px_count C.own) f0
 
   abbrev blocks : List Float
-  blocks = upto (on_block idct8x8) (block_count C.own) (init_dct_target C zeros)
+  blocks = transformed C
 
   target_length : length (init_dct_target C zeros) ≡ px_count C.own
   target_length = init_dct_target_length C zeros ∙ length-replicate (px_count C.own) f0
 
-  once_length : length blocks ≡ px_count C.own
+  pub once_length : length blocks ≡ px_count C.own
   once_length = blocks_length idct8x8 idct_length (block_count C.own) (init_dct_target C zeros) ∙ target_length
 
+  pub each_length : (n : ℕ) → length (upto (image_block C) n zeros) ≡ px_count C.own
+  unfolding image_block
+  each_length n =
+      upto-keeps length (image_block C)
+      (λ i x. from_blocks_length C.own.width (block_w C.own) (block_h C.own) _ _
+      ∙ on_block_length idct8x8 idct_length i (dequantise C.middle C.table i x) ∙ dequantise_length C.middle C.table i x) n zeros
+      ∙ length-replicate (px_count C.own) f0
+
   module _ (e : Eights C.own) where
-    fill : block_count C.own * 64 ≡ px_count C.own
+    pub fill : block_count C.own * 64 ≡ px_count C.own
     fill = blocks_fill C.own.width C.own.height e.0 e.1
 
     -- block i before the reordering
-    once_block : (i : ℕ) → i < block_count C.own → block_of blocks i ≡ idct8x8 (block_values C i)
+    pub once_block : (i : ℕ) → i < block_count C.own → block_of blocks i ≡ idct8x8 (block_values C i)
     once_block i l =
         let t = init_dct_target C zeros in
         let n = target_length in
@@ -127,14 +135,6 @@ module _ (C : Coef) where
           ap (λ (w : ℕ). from_blocks w (w / 8) (block_h C.own) x x) narrow
           ∙ from_one (block_h C.own) x (omega (arith, ap (λ (w : ℕ). w * C.own.height) narrow, e.1))
 
-      each-length : (n : ℕ) → length (upto (image_block C) n zeros) ≡ px_count C.own
-      unfolding image_block
-      each-length n =
-          upto-keeps length (image_block C)
-          (λ i x. from_blocks_length C.own.width (block_w C.own) (block_h C.own) _ _
-          ∙ on_block_length idct8x8 idct_length i (dequantise C.middle C.table i x) ∙ dequantise_length C.middle C.table i x) n zeros
-          ∙ length-replicate (px_count C.own) f0
-
       turn : (i : ℕ) (x : List Float) → length x ≡ px_count C.own → image_block C i x ≡ on_block idct8x8 i (dequantise C.middle C.table i x)
       unfolding image_block
       turn i x n =
@@ -147,7 +147,7 @@ module _ (C : Coef) where
       each_block (suc n) h k l =
           let x = upto (image_block C) n zeros in
           let y = dequantise C.middle C.table n x in
-          let lx = each-length n in
+          let lx = each_length n in
           let ly = dequantise_length C.middle C.table n x in
           let new : length (idct8x8 (block_of y n)) ≡ n * 64 + 64 - n * 64 = idct_length (block_of y n) ∙ part_length y (n * 64) (n * 64 + 64) (omega arith) (omega arith) in
           ap (λ (s : List Float). block_of s k) (turn n x lx)
@@ -165,7 +165,7 @@ module _ (C : Coef) where
       images_agree =
           let n = block_count C.own in
           none blocks once_length
-          ∙ same_blocks blocks (upto (image_block C) n zeros) n (once_length ∙ sym fill) (each-length n ∙ sym fill)
+          ∙ same_blocks blocks (upto (image_block C) n zeros) n (once_length ∙ sym fill) (each_length n ∙ sym fill)
           (λ k l. once_block k l ∙ sym (each_block n (omega (arith, fill)) k l))
 
       pub starts_agree : (W H : ℕ) → aux_init Once C W H ≡ aux_init Each C W H

@@ -1,5 +1,6 @@
 -- coef.rs: a channel's coefficients, the pixels that its conversion makes of them, and the saved coefficients at the start.
 use Rattle.std.specs.Prelude.{◌≡◌, List, ℕ, ◌+◌, ◌*◌, ◌/◌, ◌%◌, ◌<◌, ◌≤◌, ℤ, pos, nat_abs, length, get_or, set, replicate, Float, cond, ◌==◌}
+use Rattle.std.specs.Prelude.{◌-◌, if◌then◌else◌}
 use Rattle.fold.specs.Fold.{upto}
 use Rattle.float.specs.Names.{f0, val}
 use Rattle.utils.specs.Blocks.{from_blocks, on_block}
@@ -86,12 +87,27 @@ image_data C = upto (image_block C) (block_count C.own) (replicate (px_count C.o
 unfoldable pub init_dct_target : Coef → List Float → List Float
 init_dct_target C out = upto (dequantise C.middle C.table) (block_count C.own) out
 
+-- all blocks dequantised and transformed, in block order
+abbrev pub transformed : Coef → List Float
+transformed C =
+    let dequantised = init_dct_target C (replicate (px_count C.own) f0) in
+    upto (on_block idct8x8) (block_count C.own) dequantised
+
 -- M-102's start: all blocks dequantised and transformed, and then the plane is reordered once
 unfoldable pub image_once : Coef → List Float
 image_once C =
     let o = C.own in
-    let x = upto (on_block idct8x8) (block_count o) (init_dct_target C (replicate (px_count o) f0)) in
-    from_blocks o.width (block_w o) (block_h o) x x
+    from_blocks o.width (block_w o) (block_h o) (transformed C) (transformed C)
+
+-- A unit is a row of eight values, and a stripe of eight rows of w values has w units. In place
+-- of an image that is reordered k times stands an array `held` that does not move: unit m of a
+-- stripe of the image is this unit of `held`, with 8 ^ k % (w - 1) for `power`. The last one stays.
+abbrev pub stripe_unit : ℕ → ℕ → ℕ → ℕ
+stripe_unit w power m = if m == w - 1 then m else m * power % (w - 1)
+
+-- the same of unit u of the whole image
+abbrev pub held_unit : ℕ → ℕ → ℕ → ℕ
+held_unit w power u = u / w * w + stripe_unit w power (u % w)
 
 -- a letter as it is lent: 1 is once, any other number after each block
 abbrev pub reorder_from : ℕ → Reorder

@@ -3,8 +3,8 @@ ghost use Rattle.std.specs.Prelude.{◌≡◌, ◌+◌, ◌*◌, ◌<◌, ◌≤
 ghost use Rattle.start.specs.Coef.{Covers, Eights, Lent, pairs};
 
 use interval::Interval;
-use utils::blocks::{Order, move_blocks};
-use utils::dct::{Transform, transform_block, transform_blocks};
+use utils::blocks::{Order, copy8, move_blocks};
+use utils::dct::{Transform, transform_blocks};
 
 // A channel's own sides and its factors.
 #[derive(Clone, Copy)]
@@ -46,11 +46,13 @@ pub struct ScalarCoef<'a> {
     pub highs: &'a [i16],
     pub table: &'a [u16],
     pub ghost eights: { Eights own },
+    pub ghost width_most: { own.width ≤ 512 },
     pub ghost lent: { Lent own (pairs lows.now highs.now) table.now },
 }
 
 impl ScalarCoef<'_> {
     ghost use Rattle.start.specs.Coef.{block_count, block_h, block_w, dequantise, high_at, image_of, init_dct_target, low_at, px_count, quant_at};
+    ghost use Rattle.start.specs.Coef.{held_unit, image_data, transformed};
     ghost use Rattle.start.specs.AsCoef.{scalar};
     ghost use Rattle.utils.specs.Blocks.{from_blocks};
 
@@ -99,6 +101,17 @@ impl ScalarCoef<'_> {
         }
     }
 
+    // All blocks dequantised and transformed, in block order: each transform is handed the 64
+    // values of one block.
+    fn transform(&self, image: &mut [f32])
+        requires { length image.old ≡ px_count self.now.own }
+        ensures { image.new ≡ transformed (scalar self.now) }
+    {
+        image.fill(0.0);
+        self.init_dct_target(image);
+        transform_blocks(image, Transform::Inverse);
+    }
+
     // The image from block order to raster order. The Rust's clone of the image goes to `scratch`.
     fn reorder(&self, image: &mut [f32], scratch: &mut [f32])
         requires { (length image.old ≡ px_count self.now.own) × (length scratch.old ≡ px_count self.now.own) }
@@ -110,26 +123,57 @@ impl ScalarCoef<'_> {
         move_blocks(scratch, image, w, h, w / 8, h / 8, Order::Raster);
     }
 
+    // The unit of `held` where unit u of the image lies, after k reorderings, of which `power`
+    // is 8 ^ k % (w - 1).
+    // Rules out: the last unit of a stripe turned as the others are, and one of another stripe.
+    fn held_unit(&self, u: usize, power: usize) -> usize
+        requires within { u * 8 + 8 ≤ px_count self.now.own }
+        requires reduced { power < self.now.own.width }
+        ensures unit { result ≡ held_unit self.now.own.width power u }
+        ensures ends { result * 8 + 8 ≤ px_count self.now.own }
+    {
+        let w = self.own.width;
+        let m = u % w;
+        let unit = if m == w - 1 { m } else { m * power % (w - 1) };
+        u / w * w + unit
+    }
+
+    // The image that is reordered after each block, from all blocks in block order, each of them
+    // transformed once: in linear time, since nothing in `held` moves. A block's units are stored
+    // where the reorderings after it look for them, and so over those of earlier blocks.
+    // Rules out: the blocks placed once, and one reordering more or fewer.
+    fn reorder_each(&self, image: &mut [f32], held: &mut [f32])
+        requires image_long { length image.old ≡ px_count self.now.own }
+        requires held_long { length held.old ≡ px_count self.now.own }
+        requires blocks { image.old ≡ transformed (scalar self.now) }
+        ensures { image.new ≡ image_data (scalar self.now) }
+    {
+        held.fill(0.0);
+        let mut power = 1;
+        for i in 0..self.block_count() {
+            for y in 0..8 {
+                let u = i * 8 + y;
+                let unit = self.held_unit(u, power);
+                copy8(image, held, u * 8, unit * 8);
+            }
+            power = power * 8 % (self.own.width - 1);
+        }
+        for u in 0..self.block_count() * 8 {
+            let unit = self.held_unit(u, power);
+            copy8(held, image, unit * 8, u * 8);
+        }
+    }
+
     // The channel's pixels in its own sides. Above width 8 an image that is reordered after each block is not the one that is reordered once, T.81's placement.
     // Rules out: with `Once` a reordering after each block, none with `Each`, and values that `image` held before.
     pub fn image_of(&self, image: &mut [f32], scratch: &mut [f32], reorder: Reorder)
         requires { (length image.old ≡ px_count self.now.own) × (length scratch.old ≡ px_count self.now.own) }
         ensures { image.new ≡ image_of reorder (scalar self.now) }
     {
-        image.fill(0.0);
+        self.transform(image);
         match reorder {
-            Reorder::Each => {
-                for i in 0..self.block_count() {
-                    self.dequantise(image, i);
-                    transform_block(image, i, Transform::Inverse);
-                    self.reorder(image, scratch);
-                }
-            }
-            Reorder::Once => {
-                self.init_dct_target(image);
-                transform_blocks(image, Transform::Inverse);
-                self.reorder(image, scratch);
-            }
+            Reorder::Each => self.reorder_each(image, scratch),
+            Reorder::Once => self.reorder(image, scratch),
         }
     }
 }
@@ -153,6 +197,7 @@ impl Coef<'_> {
     ghost use Rattle.start.specs.AsCoef.{as_coef, scalar};
 
     // Without the full sides. Rules out: the lows in the highs' place, and other sides than the own ones.
+    #[tactic(auto, using(crate::proofs::Cover::own_narrow))]
     pub fn scalar(&self) -> ScalarCoef<'_>
         ensures { (scalar result ≡ as_coef self.now) × (result.own ≡ self.now.own) }
     {

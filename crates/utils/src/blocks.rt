@@ -21,10 +21,11 @@ impl Order {
     }
 }
 
-// A row of a block.
+/// A row of a block: eight values.
+// Ruled out: a value outside the row changed.
 // Kept: tried with this line in `move_blocks` itself, and the proof of its bounds didn't close: both slices, the ends of both and the sum of the place and 8.
 #[tactic(auto, using(crate::proofs::Copied::copied))]
-fn copy8(input: &[f32], output: &mut [f32], from: usize, to: usize)
+pub fn copy8(input: &[f32], output: &mut [f32], from: usize, to: usize)
     requires { (from + 8 ≤ length input.now) × (to + 8 ≤ length output.old) }
     ensures { output.new ≡ copy8 input.now from to output.old }
 {
