@@ -2,3 +2,5 @@
 #![tactic(auto)]
 
 pub mod dct_gradient;
+mod difference;
+mod row;

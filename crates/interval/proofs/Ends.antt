@@ -47,7 +47,7 @@ abbrev pub is_neg : ℤ → Bool
 is_neg (pos n) = false
 is_neg (negsuc n) = true
 
-pub int_halves : (d : ℤ) → nat_abs d ≤ 2047 → Halves (of_int binary32 d) (is_neg d) (nat_abs d * 2)
+pub int_halves : (d : ℤ) → nat_abs d ≤ 32768 → Halves (of_int binary32 d) (is_neg d) (nat_abs d * 2)
 unfolding of_int
 int_halves (pos n) h = exact_f½ false n 1 (n * 2) (lit< tt) (omega arith) (omega arith)
 int_halves (negsuc n) h = exact_f½ true (suc n) 1 (suc n * 2) (lit< tt) (omega arith) (omega arith)
@@ -151,17 +151,17 @@ high_size (negsuc n) = suc (n * 2)
 
 minus_f½ : (d : ℤ) → nat_abs d ≤ 2047 → Halves (sub binary32 (of_int binary32 d) f½) (low_sign d) (low_size d)
 unfolding sub neg
-minus_f½ (pos zero) h = add-zero (of_int binary32 (pos 0)) false (int_halves (pos 0) h)
+minus_f½ (pos zero) h = add-zero (of_int binary32 (pos 0)) false (int_halves (pos 0) (omega arith))
 minus_f½ (pos (suc n)) h =
     let e : suc n * 2 ≡ suc (suc (n * 2)) = omega arith in
-    add_other (of_int binary32 (pos (suc n))) false (n * 2) (subst (Halves (of_int binary32 (pos (suc n))) false) e (int_halves (pos (suc n)) h)) (omega arith)
-minus_f½ (negsuc n) h = add_same (of_int binary32 (negsuc n)) true (suc n * 2) (int_halves (negsuc n) h) (omega arith)
+    add_other (of_int binary32 (pos (suc n))) false (n * 2) (subst (Halves (of_int binary32 (pos (suc n))) false) e (int_halves (pos (suc n)) (omega arith))) (omega arith)
+minus_f½ (negsuc n) h = add_same (of_int binary32 (negsuc n)) true (suc n * 2) (int_halves (negsuc n) (omega arith)) (omega arith)
 
 plus_f½ : (d : ℤ) → nat_abs d ≤ 2047 → Halves (add binary32 (of_int binary32 d) f½) (is_neg d) (high_size d)
-plus_f½ (pos n) h = add_same (of_int binary32 (pos n)) false (n * 2) (int_halves (pos n) h) (omega arith)
+plus_f½ (pos n) h = add_same (of_int binary32 (pos n)) false (n * 2) (int_halves (pos n) (omega arith)) (omega arith)
 plus_f½ (negsuc n) h =
     let e : suc n * 2 ≡ suc (suc (n * 2)) = omega arith in
-    add_other (of_int binary32 (negsuc n)) true (n * 2) (subst (Halves (of_int binary32 (negsuc n)) true) e (int_halves (negsuc n) h)) (omega arith)
+    add_other (of_int binary32 (negsuc n)) true (n * 2) (subst (Halves (of_int binary32 (negsuc n)) true) e (int_halves (negsuc n) (omega arith))) (omega arith)
 
 low_small : (d : ℤ) → nat_abs d ≤ 2047 → low_size d ≤ 4095
 low_small (pos zero) h = lit≤ tt

@@ -42,7 +42,7 @@ choose : (b : Bool) (x y : ℤ) (P : ℤ → Type 0) → (b ≡ true → P x) �
 choose true x y P t f = t refl
 choose false x y P t f = f refl
 
-total_halves : (low high : ℤ) → nat_abs low ≤ 2047 → nat_abs high ≤ 2047 → Halves (total low high) (is_neg (low +ℤ high)) (nat_abs (low +ℤ high) * 2)
+total_halves : (low high : ℤ) → nat_abs low ≤ 32768 → nat_abs high ≤ 32768 → Halves (total low high) (is_neg (low +ℤ high)) (nat_abs (low +ℤ high) * 2)
 total_halves (pos a) (pos b) h g = sum_same false (a * 2) (b * 2) 2 ((a + b) * 2) (lit< tt) (omega arith) (omega arith)
 total_halves (negsuc a) (negsuc b) h g = sum_same true (suc a * 2) (suc b * 2) 2 (suc (suc (a + b)) * 2) (lit< tt) (omega arith) (omega arith)
 total_halves (pos a) (negsuc b) h g =
@@ -63,31 +63,34 @@ half_of x s k l v =
     ap (λ (t : Bool). round binary32 t (m * up e * (1 * 1)) (down e * 2)) (unlike_false s)
     ∙ round_same binary32 s (m * up e * (1 * 1)) (down e * 2) k 2 (omega (arith, down_pos e)) (lit< tt) (omega arith))
 
-size_most : (low high : ℤ) → nat_abs low ≤ 2047 → nat_abs high ≤ 2047 → nat_abs (low +ℤ high) ≤ 4094
-size_most (pos a) (pos b) h g = omega arith
-size_most (negsuc a) (negsuc b) h g = omega arith
-size_most (pos a) (negsuc b) h g = choose (ltb a (suc b)) (negsuc (suc b - suc a)) (pos (a - suc b)) (λ z. nat_abs z ≤ 4094) (λ e. omega arith) (λ e. omega arith)
-size_most (negsuc a) (pos b) h g = choose (ltb b (suc a)) (negsuc (suc a - suc b)) (pos (b - suc a)) (λ z. nat_abs z ≤ 4094) (λ e. omega arith) (λ e. omega arith)
+pub size_most : (low high : ℤ) → nat_abs (low +ℤ high) ≤ nat_abs low + nat_abs high
+size_most (pos a) (pos b) = omega arith
+size_most (negsuc a) (negsuc b) = omega arith
+size_most (pos a) (negsuc b) = choose (ltb a (suc b)) (negsuc (suc b - suc a)) (pos (a - suc b)) (λ z. nat_abs z ≤ a + suc b) (λ e. omega arith) (λ e. omega arith)
+size_most (negsuc a) (pos b) = choose (ltb b (suc a)) (negsuc (suc a - suc b)) (pos (b - suc a)) (λ z. nat_abs z ≤ suc a + b) (λ e. omega arith) (λ e. omega arith)
 
-module _ (low high : ℤ) (low_ok : nat_abs low ≤ 2047) (high-ok : nat_abs high ≤ 2047) where
+-- any two levels of 16 bits
+module _ (low high : ℤ) (low_ok : nat_abs low ≤ 32768) (high_ok : nat_abs high ≤ 32768) where
   mid_round : mid low high ≡ round binary32 (is_neg (low +ℤ high)) (nat_abs (low +ℤ high)) 2
   unfolding mid
   mid_round =
-      let e = add_value binary32 (whole low) (whole high) (is_neg low) (is_neg high) (nat_abs low * 2) (nat_abs high * 2) 2 (lit< tt) (int_halves low low_ok) (int_halves high high-ok) in
+      let e = add_value binary32 (whole low) (whole high) (is_neg low) (is_neg high) (nat_abs low * 2) (nat_abs high * 2) 2 (lit< tt) (int_halves low low_ok) (int_halves high high_ok) in
       ap (λ (x : Float). mul binary32 x f½) e
-      ∙ half_of (total low high) (is_neg (low +ℤ high)) (nat_abs (low +ℤ high)) (omega (arith, size_most low high low_ok high-ok)) (total_halves low high low_ok high-ok)
+      ∙ half_of (total low high) (is_neg (low +ℤ high)) (nat_abs (low +ℤ high)) (omega (arith, size_most low high)) (total_halves low high low_ok high_ok)
 
   -- the half sum is (low + high) / 2
   pub mid_halves : Halves (mid low high) (is_neg (low +ℤ high)) (nat_abs (low +ℤ high))
   mid_halves =
-      rw mid_round (exact_f½ (is_neg (low +ℤ high)) (nat_abs (low +ℤ high)) 2 (nat_abs (low +ℤ high)) (lit< tt) (omega (arith, size_most low high low_ok high-ok)) refl)
+      rw mid_round (exact_f½ (is_neg (low +ℤ high)) (nat_abs (low +ℤ high)) 2 (nat_abs (low +ℤ high)) (lit< tt) (omega (arith, size_most low high)) refl)
 
+-- levels of a sheet
+module _ (low high : ℤ) (low_ok : nat_abs low ≤ 2047) (high-ok : nat_abs high ≤ 2047) where
   -- and its product with the quantiser (low + high) × q / 2
   pub product_halves : (q : ℕ) → q ≤ 255 → Halves (dequantised (mid low high) q) (is_neg (low +ℤ high)) (nat_abs (low +ℤ high) * q)
   unfolding dequantised
   product_halves q h =
-      mul_halves (mid low high) (of_int binary32 (pos q)) (is_neg (low +ℤ high)) (nat_abs (low +ℤ high)) q mid_halves (int_halves (pos q) (omega arith))
-      (small (nat_abs (low +ℤ high)) q (omega (arith, size_most low high low_ok high-ok)) h)
+      mul_halves (mid low high) (of_int binary32 (pos q)) (is_neg (low +ℤ high)) (nat_abs (low +ℤ high)) q (mid_halves low high (omega arith) (omega arith)) (int_halves (pos q) (omega arith))
+      (small (nat_abs (low +ℤ high)) q (omega (arith, size_most low high)) h)
 
 -- an equal pair has the level's own value
 twice_is : (d : ℤ) → (is_neg (d +ℤ d) ≡ is_neg d) × (nat_abs (d +ℤ d) ≡ nat_abs d * 2)
@@ -101,7 +104,7 @@ whole_round (negsuc n) = refl
 
 pub mid_equal : (d : ℤ) → nat_abs d ≤ 2047 → mid d d ≡ whole d
 mid_equal d h =
-    mid_round d d h h ∙ rw ((twice_is d).0, (twice_is d).1) (round_same binary32 (is_neg d) (nat_abs d * 2) 2 (nat_abs d) 1 (lit< tt) (lit< tt) (omega arith)) ∙ sym (whole_round d)
+    mid_round d d (omega arith) (omega arith) ∙ rw ((twice_is d).0, (twice_is d).1) (round_same binary32 (is_neg d) (nat_abs d * 2) 2 (nat_abs d) 1 (lit< tt) (lit< tt) (omega arith)) ∙ sym (whole_round d)
 
 -- ---- the half sum × quantiser is in the pair's interval
 
@@ -155,7 +158,7 @@ is_product x (negsuc n) q p h = let some : 0 < suc n = omega arith in less_half 
 pub half_sum : HalfSums
 half_sum low high q order h g l k =
     record {
-      half = is_half (mid low high) (low +ℤ high) (mid_halves low high h g);
+      half = is_half (mid low high) (low +ℤ high) (mid_halves low high (omega arith) (omega arith));
       product = is_product (dequantised (mid low high) q) (low +ℤ high) q l (product_halves low high h g q k);
       inside = mid_in low high q order h g k;
     }

@@ -12,9 +12,6 @@ ghost use Rattle.utils.specs.Auxiliary.{upsample_pixels};
 ghost use Rattle.utils.specs.Blocks.{from_blocks, to_blocks};
 ghost use Rattle.utils.specs.Dct.{dct8x8, idct8x8};
 
-use utils::blocks::{Order, move_blocks};
-use utils::dct::{Transform, transform8x8};
-
 #[unsafe(no_mangle)]
 pub extern "C" fn probe_mul_add(a: f32, b: f32, c: f32) -> f32
     ensures { result ≡ fused a b c }
@@ -79,7 +76,7 @@ pub extern "C" fn probe_idct8x8(a: &mut [f32])
     requires { length a.old ≡ 64 }
     ensures { a.new ≡ idct8x8 a.old }
 {
-    transform8x8(a, Transform::Inverse);
+    utils::dct::idct8x8(a);
 }
 
 #[unsafe(no_mangle)]
@@ -87,7 +84,7 @@ pub extern "C" fn probe_dct8x8(a: &mut [f32])
     requires { length a.old ≡ 64 }
     ensures { a.new ≡ dct8x8 a.old }
 {
-    transform8x8(a, Transform::Forward);
+    utils::dct::dct8x8(a);
 }
 
 // Kept: C calls this and probe_to_blocks each by its own name, and the body of each is the one call that it compares.
@@ -96,7 +93,7 @@ pub extern "C" fn probe_from_blocks(input: &[f32], output: &mut [f32], w: usize,
     requires { (w % 8 ≡ 0) × (h % 8 ≡ 0) × (w * h ≤ length input.now) × (w * h ≤ length output.old) }
     ensures { output.new ≡ from_blocks w (w / 8) (h / 8) input.now output.old }
 {
-    move_blocks(input, output, w, h, w / 8, h / 8, Order::Raster);
+    utils::blocks::from_blocks(input, output, w, h, w / 8, h / 8);
 }
 
 // Kept: as probe_from_blocks.
@@ -105,7 +102,7 @@ pub extern "C" fn probe_to_blocks(input: &[f32], output: &mut [f32], w: usize, h
     requires { (w % 8 ≡ 0) × (h % 8 ≡ 0) × (w * h ≤ length input.now) × (w * h ≤ length output.old) }
     ensures { output.new ≡ to_blocks w (w / 8) (h / 8) input.now output.old }
 {
-    move_blocks(input, output, w, h, w / 8, h / 8, Order::Blocks);
+    utils::blocks::to_blocks(input, output, w, h, w / 8, h / 8);
 }
 
 #[unsafe(no_mangle)]

@@ -2,3 +2,4 @@
 pub mod Bad
 pub mod Lengths
 pub mod Writes
+pub mod Clips

@@ -1,20 +1,25 @@
 -- What project leaves at each place of saved: the clamped values, and past them what was lent.
 use Rattle.std.proofs.Common.{◌≡◌, ℕ, zero, suc, ◌+◌, ◌*◌, ◌%◌, ◌<◌, ◌≤◌, Bool, true, false, cond, List, length, set, sym, refl, ap, ◌∙◌, arith, get_or-set_other}
-use Rattle.std.proofs.Common.{[], ◌∷◌, ◌++◌, take, drop, length-set, take-suc}
+use Rattle.std.proofs.Common.{[], ◌∷◌, ◌++◌, ◌||◌, ℤ, pos, get_or, slice_set, take, drop, length-set, take-suc}
 use Rattle.std.proofs.lemmas.List.{drop-set-lt, take-append-drop}
 use lib.Seq.{take-suc-set}
-use mir.Val.{bool_byte}
-use lib.Ieee.{Float, nan}
+use lib.Ieee.{Float, lt, nan}
 use Rattle.fold.specs.Fold.{upto}
 use Rattle.fold.proofs.Loops.{upto-keeps, upto_ext, upto_nest}
+use Rattle.fold.specs.Part.{part}
+use Rattle.fold.proofs.Parts.{part_at}
 use Rattle.fold.proofs.Grid.{column_of}
 use Rattle.fold.proofs.Turned.{turn_at, turned_above, turned_at}
 use Rattle.float.specs.Names.{val}
+use Rattle.float.specs.Ops.{clamp}
 use Rattle.utils.specs.Blocks.{on_block, to_blocks}
 use Rattle.utils.specs.Dct.{dct8x8}
 use Rattle.utils.proofs.Lengths.{to_blocks_length}
-use Rattle.interval.specs.Interval.{clamp_to, outside}
-use Rattle.start.specs.Coef.{Coef, Eights, block_count, block_h, block_w, Levels, low_at, high_at, px_count, quant_at}
+use Rattle.interval.specs.Interval.{clamp_to, highest, lowest, outside}
+use Rattle.start.specs.Coef.{Coef, Eights, Lent, block_count, block_h, block_w, Levels, low_at, high_at, pairs, px_count, quant_at}
+use Rattle.start.specs.declared.coef.Own.{Own}
+use Rattle.utils.specs.Lanes.{eight}
+use Rattle.utils.proofs.Rows.{eight_at}
 use Rattle.projection.specs.Projection.{Box, Boxed, clamp_at, clamp_block, clamped, clipped, clipped_at, clipped_block, count_at, keep, keep_at, onto_box, project_full, project_means, project_onto_box, resample, split, tally, transformed}
 use Rattle.start.proofs.Cover.{blocks_fill}
 use Rattle.projection.proofs.Lengths.{dcts_length}
@@ -111,11 +116,6 @@ kept n x saved h k =
     ∙ sym (ap (λ (t : List Float). take n y ++ t) (kept_rest x saved n n (omega arith)))
     ∙ take-append-drop n y
 
--- one more where it moved, as the code adds it
-pub tally_is : (b : Bool) (n : ℕ) → n + bool_byte b ≡ tally b n
-tally_is true n = refl
-tally_is false n = omega arith
-
 -- places that the clamping has not reached
 pub clamp_ahead : (levels : Levels) (table : List ℕ) (i n : ℕ) (x : List Float) (p : ℕ) → i * 64 + n ≤ p → val (upto (clamp_at levels table i) n x) p ≡ val x p
 unfolding upto clamp_at
@@ -123,6 +123,60 @@ clamp_ahead levels table i zero x p h = refl
 clamp_ahead levels table i (suc n) x p h =
     let y = upto (clamp_at levels table i) n x in
     get_or-set_other y (i * 64 + n) p (clamp_to (low_at levels (i * 64 + n)) (high_at levels (i * 64 + n)) (quant_at table n) (val y (i * 64 + n))) nan (λ e. omega arith) ∙ clamp_ahead levels table i n x p (omega arith)
+
+-- the ends of the intervals of row y of block i, by the parts of the levels and quantisers that are lent
+pub ends : (o : Own) (lows highs : List ℤ) (table : List ℕ) → Lent o (pairs lows highs) table → (i y : ℕ) → i * 64 + 64 ≤ px_count o → y < 8 → (j : ℕ) → j < 8
+    → (val (eight (λ j. lowest (get_or (part lows (i * 64 + y * 8) (i * 64 + y * 8 + 8)) j (pos 0)) (get_or (part table (y * 8) (y * 8 + 8)) j 0))) j
+    ≡ lowest (low_at (pairs lows highs) (i * 64 + (y * 8 + j))) (quant_at table (y * 8 + j)))
+    × (val (eight (λ j. highest (get_or (part highs (i * 64 + y * 8) (i * 64 + y * 8 + 8)) j (pos 0)) (get_or (part table (y * 8) (y * 8 + 8)) j 0))) j
+    ≡ highest (high_at (pairs lows highs) (i * 64 + (y * 8 + j))) (quant_at table (y * 8 + j)))
+ends o lows highs table lent i y h r j l =
+    let a = i * 64 + y * 8 in
+    let k : a + j ≡ i * 64 + (y * 8 + j) = omega arith in
+    let low : get_or (part lows a (a + 8)) j (pos 0) ≡ get_or lows (i * 64 + (y * 8 + j)) (pos 0) =
+    part_at lows a (a + 8) (omega arith) (omega arith) j (pos 0) (omega arith) ∙ ap (λ (p : ℕ). get_or lows p (pos 0)) k in
+    let high : get_or (part highs a (a + 8)) j (pos 0) ≡ get_or highs (i * 64 + (y * 8 + j)) (pos 0) =
+    part_at highs a (a + 8) (omega arith) (omega arith) j (pos 0) (omega arith) ∙ ap (λ (p : ℕ). get_or highs p (pos 0)) k in
+    let q : get_or (part table (y * 8) (y * 8 + 8)) j 0 ≡ get_or table (y * 8 + j) 0 =
+    part_at table (y * 8) (y * 8 + 8) (omega arith) (omega arith) j 0 (omega arith) in
+    let lows_at : ℕ → Float = λ j. lowest (get_or (part lows a (a + 8)) j (pos 0)) (get_or (part table (y * 8) (y * 8 + 8)) j 0) in
+    let highs_at : ℕ → Float = λ j. highest (get_or (part highs a (a + 8)) j (pos 0)) (get_or (part table (y * 8) (y * 8 + 8)) j 0) in (
+      eight_at lows_at j l ∙ rw (low, q),
+      eight_at highs_at j l ∙ rw (high, q),
+    )
+
+-- row y of block i, by the ends of its intervals
+module _ (levels : Levels) (table : List ℕ) (i y : ℕ) (ends_low ends_high : ℕ → Float)
+    (low_is : (j : ℕ) → j < 8 → ends_low j ≡ lowest (low_at levels (i * 64 + (y * 8 + j))) (quant_at table (y * 8 + j)))
+    (high_is : (j : ℕ) → j < 8 → ends_high j ≡ highest (high_at levels (i * 64 + (y * 8 + j))) (quant_at table (y * 8 + j))) where
+  abbrev at : ℕ
+  at = i * 64 + y * 8
+
+  pub clamp_row_is : (x : List Float)
+      → upto (λ j t. slice_set t (at + j) (clamp (val t (at + j)) (ends_low j) (ends_high j))) 8 x ≡ upto (λ j. clamp_at levels table i (y * 8 + j)) 8 x
+  unfolding clamp_at
+  clamp_row_is x =
+      upto_ext (λ j t. slice_set t (at + j) (clamp (val t (at + j)) (ends_low j) (ends_high j))) (λ j. clamp_at levels table i (y * 8 + j)) 8 x
+      (λ j t l.
+      let k : at + j ≡ i * 64 + (y * 8 + j) = omega arith in
+      let a = low_is j l in
+      let b = high_is j l in
+      ap (λ (p : ℕ). slice_set t p (clamp (val t p) (ends_low j) (ends_high j))) k
+      ∙ ap (λ (v : Float). slice_set t (i * 64 + (y * 8 + j)) (clamp (val t (i * 64 + (y * 8 + j))) v (ends_high j))) a
+      ∙ ap (λ (v : Float). slice_set t (i * 64 + (y * 8 + j)) (clamp (val t (i * 64 + (y * 8 + j))) (lowest (low_at levels (i * 64 + (y * 8 + j))) (quant_at table (y * 8 + j))) v)) b)
+
+  pub clip_row_is : (x t : List Float) → t ≡ upto (λ y t. upto (λ j. clamp_at levels table i (y * 8 + j)) 8 t) y x → (n : ℕ)
+      → upto (λ j n. tally (lt (val t (at + j)) (ends_low j) || lt (ends_high j) (val t (at + j))) n) 8 n ≡ upto (λ j. clipped_at levels table x i (y * 8 + j)) 8 n
+  unfolding outside
+  clip_row_is x t e n =
+      let so_far : t ≡ upto (clamp_at levels table i) (y * 8) x = e ∙ upto_nest (clamp_at levels table i) 8 y x in
+      upto_ext (λ j n. tally (lt (val t (at + j)) (ends_low j) || lt (ends_high j) (val t (at + j))) n) (λ j. clipped_at levels table x i (y * 8 + j)) 8 n
+      (λ j m l.
+      let p = i * 64 + (y * 8 + j) in
+      let k : at + j ≡ p = omega arith in
+      let v : val t (at + j) ≡ val x p =
+      ap (λ (q : ℕ). val t q) k ∙ ap (λ (s : List Float). val s p) so_far ∙ clamp_ahead levels table i (y * 8) x p (omega arith) in
+      rw (v, low_is j l, high_is j l))
 
 blocks_ahead : (levels : Levels) (table : List ℕ) (n : ℕ) (x : List Float) (p : ℕ) → n * 64 ≤ p → val (upto (clamp_block levels table) n x) p ≡ val x p
 unfolding upto clamp_block

@@ -2,4 +2,5 @@
 #![tactic(auto)]
 
 pub mod blown;
+mod clip;
 pub mod projection;

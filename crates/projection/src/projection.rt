@@ -8,6 +8,7 @@ ghost use Rattle.utils.specs.Blocks.{on_block, to_blocks};
 ghost use Rattle.utils.specs.Dct.{dct8x8};
 ghost use Rattle.projection.specs.Projection.{resample, mean_of, split, clamp_block, clamped, keep, back, project_full, project_onto_box, transformed, clipped, clipped_block};
 
+use crate::clip::{clamp_row, least_of, most_of};
 use start::coef::{Coef, Sample};
 use utils::blocks::{Order, move_blocks};
 use utils::dct::{Transform, transform_blocks};
@@ -79,14 +80,14 @@ fn clamp_block(x: &mut [f32], coef: &Coef, i: usize, n: usize) -> usize
     ensures { (x.new ≡ clamp_block (as_coef coef.now).levels coef.now.table.now i x.old)
         × (result ≡ clipped_block (as_coef coef.now).levels coef.now.table.now x.old i n) × (result ≤ i * 64 + 64) }
 {
-    let scalar = coef.scalar();
     let mut moved = n;
-    // Kept: tried with `x[i * 64..i * 64 + 64].iter_mut().enumerate()`, and the proof didn't close, for what stands at `dequantise` of `start`. The number so far goes in and out, since the sum's bound is that of the places passed.
-    for j in 0..64 {
-        let k = i * 64 + j;
-        let c = scalar.interval(i, j).clamp_to(x[k]);
-        x[k] = c.value;
-        moved += usize::from(c.moved);
+    for y in 0..8 {
+        let from = y * 8;
+        let at = i * 64 + from;
+        let table = &coef.table[from..from + 8];
+        let least = least_of(&coef.lows[at..at + 8], table);
+        let most = most_of(&coef.highs[at..at + 8], table);
+        moved = clamp_row(x, at, least, most, moved);
     }
     moved
 }

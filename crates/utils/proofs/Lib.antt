@@ -6,4 +6,6 @@ pub mod Lengths
 pub mod Copied
 pub mod Blockwise
 pub mod Upsampled
+pub mod Lanes
+pub mod Rows
 pub mod Examples

@@ -6,11 +6,9 @@ use lib.Ieee.{Float}
 use Rattle.fold.specs.Fold.{upto}
 use Rattle.utils.specs.Auxiliary.{upsample_pixels, upsample_row}
 use Rattle.utils.specs.Blocks.{from_blocks, move_blocks, move_lines, row_index, row_start, stored, taken, to_blocks}
-use Rattle.utils.specs.Dct.{columns_rows, dct8, dct8x8, transform8, idct8, idct8x8, transform8x8}
+use Rattle.utils.specs.Dct.{columns_rows, dct8, dct8x8, idct8, idct8x8}
 use Rattle.utils.specs.declared.blocks.Order.{Order}
 use Rattle.utils.specs.declared.blocks.Order.TheVariants.{Blocks, Raster}
-use Rattle.utils.specs.declared.dct.Transform.{Transform}
-use Rattle.utils.specs.declared.dct.Transform.TheVariants.{Forward, Inverse}
 
 pub idct_is : (s : List Float) → columns_rows idct8 s ≡ idct8x8 s
 unfolding idct8x8
@@ -19,10 +17,6 @@ idct_is s = refl
 pub dct_is : (s : List Float) → columns_rows dct8 s ≡ dct8x8 s
 unfolding dct8x8
 dct_is s = refl
-
-pub transform_is : (t : Transform) (s : List Float) → columns_rows (transform8 t) s ≡ transform8x8 t s
-transform_is Inverse s = idct_is s
-transform_is Forward s = dct_is s
 
 pub from_is : (w bw bh : ℕ) (input output : List Float) → move_lines (row_index bw) (row_start w) input bw bh output ≡ from_blocks w bw bh input output
 unfolding from_blocks

@@ -90,11 +90,6 @@ dct8 a =
     let a5 = mul_add C8_3R x3i (C8_3I ⊗ x3r) in
     a0 ∷ a1 ∷ a2 ∷ a3 ∷ a4 ∷ a5 ∷ a6 ∷ a7 ∷ []
 
--- either of the two
-abbrev pub transform8 : Transform → List Float → List Float
-transform8 Forward = dct8
-transform8 Inverse = idct8
-
 -- The eight values of s at the places `at 0` to `at 7`, and s with those of v there. The places differ, so the order of the stores
 -- does not show.
 abbrev pub line : (ℕ → ℕ) → List Float → List Float

@@ -2,3 +2,4 @@
 pub mod Blocks
 pub mod Dct
 pub mod Auxiliary
+pub mod Lanes

@@ -1,6 +1,6 @@
 // blocks.rs: block order, where the 64 values of a block follow one another, and raster order.
 ghost use Rattle.std.specs.Prelude.{◌≡◌, ◌+◌, ◌*◌, ◌≤◌, length};
-ghost use Rattle.utils.specs.Blocks.{copy8, move_blocks, stored, taken};
+ghost use Rattle.utils.specs.Blocks.{copy8, from_blocks, move_blocks, stored, taken, to_blocks};
 
 // The order that values are brought to.
 #[derive(Clone, Copy)]
@@ -32,7 +32,7 @@ pub fn copy8(input: &[f32], output: &mut [f32], from: usize, to: usize)
     output[to..to + 8].copy_from_slice(&input[from..from + 8]);
 }
 
-// Values of bh lines of bw blocks brought to this order, the Rust's `from_blocks` and `to_blocks`: the first w * h values of `output`.
+// Values of bh lines of bw blocks brought to this order: the first w * h values of `output`.
 // Ruled out: the rows of a block one after the other above width 8; blocks taken column by column; and the other order, which differs above width 8.
 // Kept: the Rust's four parameters of `from_blocks` and `to_blocks`, in its order, since the port keeps the Rust's, a rule of the project; with the eighths alone both clauses on them would go.
 #[tactic(auto, using(crate::proofs::Places::placed, fold::proofs::Loops::upto_more, fold::proofs::Loops::upto_none, crate::proofs::Opened::move_is))]
@@ -59,4 +59,30 @@ pub fn move_blocks(
             }
         }
     }
+}
+
+/// Values of bh lines of bw blocks from block order to raster order: the first w * h values of
+/// `output`, and the rest of it stays.
+// Ruled out: the other order, which differs above width 8.
+pub fn from_blocks(input: &[f32], output: &mut [f32], w: usize, h: usize, bw: usize, bh: usize)
+    requires width { w ≡ bw * 8 }
+    requires height { h ≡ bh * 8 }
+    requires given { w * h ≤ length input.now }
+    requires room { w * h ≤ length output.old }
+    ensures { output.new ≡ from_blocks w bw bh input.now output.old }
+{
+    move_blocks(input, output, w, h, bw, bh, Order::Raster);
+}
+
+/// Values of bh lines of bw blocks from raster order to block order: the first w * h values of
+/// `output`, and the rest of it stays.
+// Ruled out: the other order, which differs above width 8.
+pub fn to_blocks(input: &[f32], output: &mut [f32], w: usize, h: usize, bw: usize, bh: usize)
+    requires width { w ≡ bw * 8 }
+    requires height { h ≡ bh * 8 }
+    requires given { w * h ≤ length input.now }
+    requires room { w * h ≤ length output.old }
+    ensures { output.new ≡ to_blocks w bw bh input.now output.old }
+{
+    move_blocks(input, output, w, h, bw, bh, Order::Blocks);
 }

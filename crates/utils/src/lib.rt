@@ -5,3 +5,4 @@
 pub mod auxiliary;
 pub mod blocks;
 pub mod dct;
+pub mod wholes;

@@ -3,23 +3,13 @@ use borrow.Author.Rules.{rules}
 use mathlib.Core.Path.{◌≡◌, ◌∙◌, ap}
 use Prim.Native.Nat.{◌+◌, ◌*◌}
 use Rattle.fold.specs.Part.{part}
-use native.Mathlib.Omega.{arith}
-use Rattle.fold.proofs.Loops.{upto-call, upto-end}
-use Rattle.fold.specs.Fold.{upto}
 use Rattle.fidelity.specs.DctGradient.{cosbs_of}
 use Rattle.utils.specs.Dct.{idct8x8}
 use Rattle.fidelity.proofs.dct_gradient.cosbs_of.Goals as goal
-
-pub loop-j-init : goal.loop-j-init
-unfolding upto
-loop-j-init c = search rules
-
-pub loop-j-preserved : goal.loop-j-preserved
-loop-j-preserved c = (search rules, upto-call _ _ _ c.loop-j.invariant.1 (search rules))
 
 pub returns : goal.returns
 unfolding cosbs_of
 returns c =
     let i = c.args.i in
     let e : c.copy_from_slice.new.self ≡ part c.args.cos.now (i * 64) (i * 64 + 64) = search rules in
-    c.transform8x8.ensures ∙ ap idct8x8 (rw (← e) (upto-end _ _ _ _ c.loop-j.invariant.1 (omega arith)))
+    c.idct8x8.ensures ∙ ap idct8x8 (rw (← e) c.difference.ensures)

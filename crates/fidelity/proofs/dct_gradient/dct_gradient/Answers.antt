@@ -16,7 +16,7 @@ loop-bx-init c = search rules
 
 pub loop-bx-preserved : goal.loop-bx-preserved
 unfolding gradient_block
-loop-bx-preserved c = (search rules, upto-call _ _ _ c.loop-bx.invariant.1 (rw (← c.block_index-i.ensures.0, ← c.cosbs_of-cosbs.ensures) c.spread_block.ensures))
+loop-bx-preserved c = (search rules, upto-call _ _ _ c.loop-bx.invariant.1 (rw (← c.block_index-i.ensures.0, ← c.cosbs_of-cosbs.ensures) c.place_block.ensures))
 
 pub loop-by-preserved : goal.loop-by-preserved
 loop-by-preserved c = (search rules, upto-call _ _ _ c.loop-by.invariant.1 (upto-end _ _ _ _ c.loop-bx.invariant.1 (omega arith)))

@@ -1,0 +1,20 @@
+use borrow.Author.Rules.{rules}
+use native.Mathlib.Omega.{arith}
+use mathlib.Core.Path.{◌∙◌}
+use Rattle.fold.specs.Fold.{upto}
+use Rattle.fold.proofs.Loops.{upto-call, upto-end}
+use Rattle.float.specs.Names.{val}
+use Rattle.float.specs.Ops.{fused}
+use Rattle.utils.proofs.Rows.{turned_eight}
+use Rattle.fidelity.proofs.row.add_each.Goals as goal
+
+pub loop-j-init : goal.loop-j-init
+unfolding upto
+loop-j-init c = search rules
+
+pub loop-j-preserved : goal.loop-j-preserved
+loop-j-preserved c = (search rules, upto-call _ _ _ c.loop-j.invariant.1 (search rules))
+
+pub returns : goal.returns
+returns c =
+    upto-end _ _ 8 _ c.loop-j.invariant.1 (omega arith) ∙ turned_eight (λ j x. fused c.args.alpha (val c.args.v.now j) x) c.args.row.now c.requires.held
