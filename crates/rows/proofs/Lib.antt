@@ -4,4 +4,5 @@ pub mod Commute
 pub mod RowLaws
 pub mod Filled
 pub mod Lent
+pub mod Eights
 pub mod Summed

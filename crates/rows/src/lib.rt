@@ -10,6 +10,7 @@ ghost use Rattle.gradients.specs.Grid.{Fills};
 ghost use Rattle.rows.specs.Rows.{Row, Idle, store_in, hit_in, own_row, right_row, left_row, below_row, above_row, above_right_row, below_left_row};
 
 use gradients::grid::Grid;
+use std::simd::prelude::*;
 
 // Where row y of channel c starts. Rules out: the start of the row below, and of another channel's row.
 // Kept: beside `px(g, c, y, 0)` of `gradients`, which asks for a column 0, and so for a row that isn't empty.
@@ -52,8 +53,8 @@ pub fn combine_three<F: Fn(f32, f32, f32, f32) -> f32>(
     }
 }
 
-// alpha.mul_add(q, ..) at each place, unless its norm is 0.
-fn put(gradient: &mut [f32], norm: &[f32], q: &[f32], alpha: f32)
+// alpha.mul_add(q, ..) at each place, unless its norm is 0; place by place.
+fn put_each(gradient: &mut [f32], norm: &[f32], q: &[f32], alpha: f32)
     requires { (length norm.now ≡ length gradient.old) × (length q.now ≡ length gradient.old) }
     ensures { gradient.new ≡ upto (hit_in alpha norm.now q.now) (length gradient.old) gradient.old }
 {
@@ -64,6 +65,44 @@ fn put(gradient: &mut [f32], norm: &[f32], q: &[f32], alpha: f32)
             wide::mul_add(alpha, quotient, value)
         }
     });
+}
+
+// The same at eight places at once, where f64 or f32 decides them all, and else place by place.
+// Where the norm is 0 the quotient is a NaN or an infinity, and f64 would decide nothing: 0 takes
+// its place, and the old value is kept.
+// Ruled out: a change where the norm is 0; a value kept where it is not.
+fn put_eight(gradient: &mut [f32], norm: &[f32], q: &[f32], alpha: f32)
+    requires { (length gradient.old ≡ 8) × (length norm.now ≡ 8) × (length q.now ≡ 8) }
+    ensures { gradient.new ≡ upto (hit_in alpha norm.now q.now) (length gradient.old) gradient.old }
+{
+    let zeros = f32x8::splat(0.0);
+    let idle = f32x8::from_slice(norm).simd_eq(zeros);
+    let old = f32x8::from_slice(gradient);
+    let factors = idle.select(zeros, f32x8::from_slice(q));
+    let (new, decided) = lanes::mul_add_eight(alpha, factors, old);
+    if decided {
+        idle.select(old, new).copy_to_slice(gradient);
+    } else {
+        put_each(gradient, norm, q, alpha);
+    }
+}
+
+// The same at any number of places, eight at once, and place by place those that are left.
+// Never inlined: ten copies of the loop in blend take longer than one.
+#[inline(never)]
+fn put(gradient: &mut [f32], norm: &[f32], q: &[f32], alpha: f32)
+    requires { (length norm.now ≡ length gradient.old) × (length q.now ≡ length gradient.old) }
+    ensures { gradient.new ≡ upto (hit_in alpha norm.now q.now) (length gradient.old) gradient.old }
+{
+    let whole = gradient.len() / 8;
+    for k in 0..whole {
+        let at = k * 8;
+        let e = at + 8;
+        put_eight(&mut gradient[at..e], &norm[at..e], &q[at..e], alpha);
+    }
+    let at = whole * 8;
+    let e = gradient.len();
+    put_each(&mut gradient[at..e], &norm[at..e], &q[at..e], alpha);
 }
 
 // The differences to - from of two rows. Rules out: the sign turned, and the difference of another column.
@@ -92,9 +131,9 @@ pub fn any(norm: &[f32]) -> bool
     norm.iter().any(|&m| m != 0.0)
 }
 
-// Whether more than 1 in 16 of a row's norms are 0: then the changes are quicker pixel by pixel than kind by kind. Nothing is said of the answer, since both ways change the same.
+// Whether more than 3 in 4 of a row's norms are 0: then the changes are quicker pixel by pixel than kind by kind. Nothing is said of the answer, since both ways change the same.
 pub fn sparse(norm: &[f32]) -> bool {
-    norm.len() / 16 < norm.iter().filter(|m| **m == 0.0).count()
+    norm.len() / 4 * 3 < norm.iter().filter(|m| **m == 0.0).count()
 }
 
 // Kept: the seven below, and what each takes. One function over an enum of neighbours would be a match with these seven calls for its arms; a struct of norm, g, alpha and y would be a row without its differences beside the
