@@ -1,0 +1,2 @@
+-- What any answer of the program looks like.
+pub mod Answer

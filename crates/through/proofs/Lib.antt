@@ -1,0 +1,2 @@
+-- From what is read to what is written.
+mod Whole
