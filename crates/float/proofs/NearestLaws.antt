@@ -4,7 +4,8 @@ use Prim.Native.Nat.{compare, Ordering}
 use native.Mathlib.Nat.{div-div-eq-div-mul, mul-mod_left}
 use lib.Dec.{nleb→lt}
 use lib.Pow.{pow-lt}
-use lib.Ieee.{Float, Format, inf, prec, low, size, nearest, odd, units, round}
+use Rattle.std.specs.Float.{is_sign_negative}
+use lib.Ieee.{Float, Format, nan, inf, fin, prec, low, size, nearest, odd, units, round}
 use lib.Ieee.Digits.{size_reaches}
 use lib.Ieee.Fits.{kept-lt, nearest-le, two, two-le_pos, round_is}
 use lib.Ieee.Exact.{HasValue, units_val}
@@ -296,3 +297,17 @@ module _ (f : Format) (s : Bool) (n c : ℕ) (C : 0 < c) where
     near = near;
     even = even;
   }
+
+  -- `round` keeps the sign, of a zero and of an infinity too
+  pub round_sign : is_sign_negative (round f s n c) ≡ s
+  unfolding is_sign_negative
+  round_sign = go (order (overflow f) (grid f n c))
+    where
+      of_value : (x : Float) (a d : ℕ) → HasValue x s a d → is_sign_negative x ≡ s
+      of_value nan a d h = absurd h
+      of_value (inf t) a d h = absurd h
+      of_value (fin t m e) a d h = h.0
+
+      go : (overflow f ≤ grid f n c) ⊎ (grid f n c < overflow f) → is_sign_negative (round f s n c) ≡ s
+      go (inl l) = ap is_sign_negative (round_is f s n c ∙ round_over f s _ _ l)
+      go (inr l) = of_value (round f s n c) (grid f n c) (2 ^ low f) (subst (λ (z : Float). HasValue z s (grid f n c) (2 ^ low f)) (sym (round_is f s n c)) (units_val f s _ _ l))

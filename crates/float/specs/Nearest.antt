@@ -1,4 +1,4 @@
--- What "rounded once" means (document 01, "Arithmetic below the Rust": IEEE 754, nearest even): of the values that the format holds, the
+-- What "rounded once" means (IEEE 754, nearest even): of the values that the format holds, the
 -- one nearest to the exact one, and of two that are equally near the even one. Stated with whole numbers, over either format.
 use Rattle.std.specs.Prelude.{◌≡◌, ℕ, ◌+◌, ◌-◌, ◌*◌, ◌%◌, ◌^◌, ◌<◌, ◌≤◌, Bool, true, false, ◌≢◌, ℤ, pos, ◌-ℤ◌, ◌*ℤ◌, neg_ℤ, unsigned_abs, Float}
 use Rattle.std.specs.Float.{Format, nan, inf, fin}

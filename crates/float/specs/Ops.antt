@@ -1,4 +1,4 @@
--- The operations of document 01, "Arithmetic below the Rust", over lib.Ieee, and the f64 ones of the totals (document 02, M-103). Definitions only.
+-- The operations that the Rust calls, over lib.Ieee, and the f64 ones of the totals. Definitions only.
 -- Each works out its result exactly and rounds it once, but `mul_add`, which rounds twice. What names no format is of f32.
 use Rattle.std.specs.Prelude.{ℕ, zero, suc, ◌+◌, ◌*◌, ◌/◌, ◌^◌, true, false, cond, negsuc, ◌+ℤ◌, ◌==◌, nat_le, Float}
 use Rattle.std.specs.Float.{Format, nan, inf, fin, binary32}

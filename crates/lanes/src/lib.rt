@@ -7,6 +7,7 @@ ghost use Rattle.std.specs.Float.{binary32, binary64};
 ghost use Rattle.std.specs.Float.Ieee.{is_nan, of_bits, to_bits};
 ghost use Rattle.float.specs.Names.{val};
 ghost use Rattle.float.specs.Ops.{fused};
+ghost use Rattle.float.specs.Results.{IsFused};
 ghost use Rattle.lanes.specs.Lanes.{Finite, Finites, Decided, high_word, low_word, tidied, lane, wide_sum};
 
 use std::simd::prelude::*;
@@ -107,13 +108,15 @@ fn narrow(b: u64x8) -> f32x8
 
 /// Eight times alpha * q + g, each rounded once, and whether f64 or f32 decides all of them; where
 /// not, g itself.
-// Ruled out: a tie of two f32 in one lane, a subnormal sum or an infinity taken for decided; -0
+// Rules out: a tie of two f32 in one lane, a subnormal sum or an infinity taken for decided; -0
 // where the exact sum cancels.
 #[inline(always)]
 pub fn mul_add_eight(alpha: f32, q: f32x8, g: f32x8) -> (f32x8, bool)
     ensures len { length result.0 ≡ 8 }
     ensures lanes { result.1 ≡ true
         → (i : ℕ) → i < 8 → val result.0 i ≡ fused alpha (val q i) (val g i) }
+    ensures once { result.1 ≡ true
+        → (i : ℕ) → i < 8 → IsFused binary32 alpha (val q i) (val g i) (val result.0 i) }
 {
     if alpha == 1.0 {
         return (q + g, true);

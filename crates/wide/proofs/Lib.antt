@@ -1,5 +1,5 @@
--- Lemmas that the proofs of several functions use. That a guessed root is right where whole numbers confirm it (`Near`), and what of the others is about a half sum, no function cites any more, since
--- midpoint and root are std's; docs/changes/M-111.md names them.
+-- Lemmas that the proofs of several functions use. `Near` is what `guess_law` states. What of the others is about a half sum (`half_exact`, `midpoint_wide`, `narrowed_half` of Widen,
+-- `both_zero` of Zero) no function cites, since the midpoint is std's: with these a midpoint by way of f64 was proved.
 pub mod Twice
 pub mod Narrowing
 pub mod Clearly

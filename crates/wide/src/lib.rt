@@ -2,11 +2,12 @@
 // mislead the second; everything else goes to `float`, which works from whole numbers. The midpoint and the root are std's.
 #![tactic(auto)]
 
-ghost use Rattle.std.specs.Prelude.{◌≡◌, Bool, true, ℕ, ◌<◌};
+ghost use Rattle.std.specs.Prelude.{◌≡◌, Bool, true, false, ℕ, ◌+◌, ◌/◌, ◌<◌};
 ghost use Rattle.std.specs.Float.{binary32, binary64};
-ghost use Rattle.std.specs.Float.Ieee.{round};
-ghost use Rattle.float.specs.Ops.{fused, midpoint, root};
-ghost use Rattle.wide.specs.Wide.{Clear, narrowed};
+ghost use Rattle.std.specs.Float.Ieee.{round, units};
+ghost use Rattle.float.specs.Ops.{fused, midpoint, root, root_of};
+ghost use Rattle.float.specs.Results.{IsFused, IsMidpoint, IsSquareRoot};
+ghost use Rattle.wide.specs.Wide.{Clear, IsGuess, narrowed};
 
 // The digit of an f64's sign, and the patterns of 2^-125 and of 2^127, between which the clear sums lie.
 const SIGN: u64 = 0x8000000000000000;
@@ -62,15 +63,16 @@ fn mul_add_unclear(a: f32, b: f32, c: f32) -> f32
     float::mul_add(a, b, c)
 }
 
-// Kept: std's `a.mul_add(b, c)` has the same contract (`fused_std` of float/proofs/FusedStd.antt). Document 01 names the form, "from whole numbers", "leading zeros of a u64 give the shift in the fused product", and says
-// "We want this even where the planning page would suggest another form": `float::mul_add` is that, and this comes to it wherever f64 can't decide, but
-// for a factor of 0 or a first one of 1; std's method never would. A step's constants take the midpoint, and every root but that of the next term, from `float`.
-// The method `mul_add`: a * b + c, rounded once. A factor a of 1, that of the first-order term in a run of one channel, leaves the f32 sum, which often is a tie of the f64 one.
-// Else the product is exact in f64. A NaN, a zero and any other sum that isn't clear go to `mul_add_unclear`.
-// Ruled out: the f64 sum at a tie of two f32 taken for the exact sum; -0 where the exact sum cancels.
-#[tactic(auto, using(crate::proofs::One::is_one, crate::proofs::One::first_one))]
+// Kept: std's `a.mul_add(b, c)` gives the same (`float::fused_law`). The form that is wanted rounds from whole numbers, by a shift that the leading zeros of a u64 give: `float::mul_add`
+// does, and this comes to it wherever f64 can't decide, but for a factor of 0 or a first one of 1; std's method never would. A step's constants take the midpoint, and every root but
+// that of the next term, from `float`.
+/// The method `mul_add`: a * b + c, rounded once. A factor a of 1, that of the first-order term in a run of one channel, leaves the f32 sum, which often is a tie of the f64 one.
+/// Else the product is exact in f64. A NaN, a zero and any other sum that isn't clear go to `mul_add_unclear`.
+// Rules out: the f64 sum at a tie of two f32 taken for the exact sum; -0 where the exact sum cancels.
+#[tactic(auto, using(float::proofs::ResultLaws::fused_is, crate::proofs::One::is_one, crate::proofs::One::first_one))]
 pub fn mul_add(a: f32, b: f32, c: f32) -> f32
-    ensures { result ≡ fused a b c }
+    ensures is { result ≡ fused a b c }
+    ensures once { IsFused binary32 a b c result }
 {
     if a == 1.0 {
         return b + c;
@@ -82,20 +84,28 @@ pub fn mul_add(a: f32, b: f32, c: f32) -> f32
     mul_add_unclear(a, b, c)
 }
 
-// The function `f32::midpoint`: (a + b) / 2, rounded once.
-// Ruled out: an infinity for two largest values, whose sum overflows; a subnormal half sum rounded twice.
-#[tactic(auto, using(float::proofs::MidpointStd::midpoint_std))]
+/// The function `f32::midpoint`: (a + b) / 2, rounded once.
+// Rules out: an infinity for two largest values, whose sum overflows; a subnormal half sum rounded twice.
+#[tactic(auto, using(float::proofs::MidpointStd::midpoint_std, float::proofs::ResultLaws::midpoint_is))]
 pub fn midpoint(a: f32, b: f32) -> f32
-    ensures { result ≡ midpoint a b }
+    ensures is { result ≡ midpoint a b }
+    ensures once { IsMidpoint binary32 a b result }
 {
     a.midpoint(b)
 }
 
-// The method `sqrt`: the square root, rounded once.
-// Ruled out: a value beside the nearest one; +0 for -0.
-#[tactic(auto, using(float::proofs::RootStd::sqrt_root))]
+/// The method `sqrt`: the square root, rounded once.
+// Rules out: a value beside the nearest one; +0 for -0.
+#[tactic(auto, using(float::proofs::RootStd::sqrt_root, float::proofs::ResultLaws::root_is))]
 pub fn sqrt(x: f32) -> f32
-    ensures { result ≡ root x }
+    ensures is { result ≡ root x }
+    ensures once { IsSquareRoot binary32 x result }
 {
     x.sqrt()
 }
+
+/// A guess of a root that whole numbers confirm is the root, rounded once.
+#[tactic(auto, using(crate::proofs::Near::guess_is))]
+pub fn guess_law()
+    ensures { (m k q : ℕ) → IsGuess m k q → units binary32 false q (63 + k / 2) ≡ root_of m k }
+{}

@@ -19,7 +19,7 @@ unfolding tgv_differences_at
 loop-c-preserved c = (
   search rules,
   upto-call _ _ _ c.loop-c.invariant.1
-      (rw (c.if-held-c.false, c.midpoint-g_xy_sym.ensures, c.difference-g_xx.ensures, c.difference-g_yx.ensures, c.difference-g_yy.ensures, c.difference-g_xy.ensures, c.saturating_sub-left.ensures, c.saturating_sub-above.ensures)),
+      (rw (c.if-held-c.false, c.midpoint-g_xy_sym.ensures.is, c.difference-g_xx.ensures, c.difference-g_yx.ensures, c.difference-g_yy.ensures, c.difference-g_xy.ensures, c.saturating_sub-left.ensures, c.saturating_sub-above.ensures)),
 )
 
 pub returns : goal.returns

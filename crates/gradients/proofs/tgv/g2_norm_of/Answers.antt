@@ -26,5 +26,5 @@ pub returns : goal.returns
 unfolding g2_norm_of
 returns c =
     let l = c.loop-held in
-    c.sqrt.ensures
+    c.sqrt.ensures.is
     ∙ ap root (ended c.args.n c.args.held c.args.d l.yielded c.into_iter-held-iterator.result l.held-iterator c.next.new.self c.next.result (cc) (cc) l.yielded_by c.next.ensures.steps _ _ l.invariant (omega (arith, c.requires)) (omega (arith, c.requires)) c.in-None.is)

@@ -7,4 +7,4 @@ unfolding tgv_gradient_px tgv_total_px
 returns c =
     let d = c.differences-d.ensures in
     let norm = c.g2_norm_of-norm.ensures in
-    (rw (← d, ← norm) c.derivatives.ensures, rw (← d, ← norm) c.add_product.ensures)
+    (rw (← d, ← norm) c.derivatives.ensures, rw (← d, ← norm) c.add_product.ensures.is)

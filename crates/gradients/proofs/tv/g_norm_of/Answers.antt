@@ -20,11 +20,11 @@ loop-held-preserved-then-held c =
 pub loop-held-preserved : goal.loop-held-preserved
 loop-held-preserved c =
     let l = c.loop-held in
-    added c.args.n c.args.held c.args.d l.yielded c.into_iter-held-iterator.result l.held-iterator c.next.new.self c.next.result (cc) (cc) l.yielded_by c.next.ensures.steps _ _ l.invariant _ c.in-Some.is c.if-held.false (λ e. rw (← e (record { g_x = nan; g_y = nan }), c.powi2-g_norm.ensures, c.powi2-g_norm-in-loop-held.ensures))
+    added c.args.n c.args.held c.args.d l.yielded c.into_iter-held-iterator.result l.held-iterator c.next.new.self c.next.result (cc) (cc) l.yielded_by c.next.ensures.steps _ _ l.invariant _ c.in-Some.is c.if-held.false (λ e. rw (← e (record { g_x = nan; g_y = nan }), c.powi2-g_norm.ensures.is, c.powi2-g_norm-in-loop-held.ensures.is))
 
 pub returns : goal.returns
 unfolding g_norm_of
 returns c =
     let l = c.loop-held in
-    c.sqrt.ensures
+    c.sqrt.ensures.is
     ∙ ap root (ended c.args.n c.args.held c.args.d l.yielded c.into_iter-held-iterator.result l.held-iterator c.next.new.self c.next.result (cc) (cc) l.yielded_by c.next.ensures.steps _ _ l.invariant (omega (arith, c.requires)) (omega (arith, c.requires)) c.in-None.is)

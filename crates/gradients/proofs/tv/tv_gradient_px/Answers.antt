@@ -7,4 +7,4 @@ unfolding tv_gradient_px tv_total_px
 returns c =
     let d = c.differences-d.ensures in
     let norm = c.g_norm_of-norm.ensures in
-    (rw (← d, ← norm, ← c.derivatives.ensures, ← c.store.ensures.0, ← c.store.ensures.1), rw (← d, ← norm) c.mul_add.ensures)
+    (rw (← d, ← norm, ← c.derivatives.ensures, ← c.store.ensures.0, ← c.store.ensures.1), rw (← d, ← norm) c.mul_add.ensures.is)

@@ -4,4 +4,4 @@ use Rattle.gradients.proofs.grid.ChannelPixel.bump.Goals as goal
 
 pub returns : goal.returns
 unfolding bump
-returns c = rw (← c.before.before.px-k.ensures.0, ← c.mul_add.ensures)
+returns c = rw (← c.before.before.px-k.ensures.0, ← c.mul_add.ensures.is)
