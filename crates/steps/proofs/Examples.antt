@@ -1,4 +1,4 @@
--- Document 01's marked example on push, by computation.
+-- The example on push, by computation.
 use Rattle.std.proofs.Common.{◌≡◌, false, [], ◌∷◌, negsuc, refl}
 use lib.Count.{count_trailing_zeros}
 use lib.Ieee.{fin, add, sub, mul, sum, round, units, odd, size, span, climb, of_bits, of_fields, neg, of_int}

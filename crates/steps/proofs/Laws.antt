@@ -1,6 +1,7 @@
 -- What push and move do at each place, and that they keep lengths.
-use Rattle.std.proofs.Common.{◌≡◌, ℕ, zero, suc, ◌-◌, ◌<◌, ◌≤◌, List, ◌++◌, take, drop, length, length-append, length-take, length-drop, sym, refl, ap, ◌∙◌, not-suc-le-zero, arith, length-set, ext_get_or}
-use Rattle.std.proofs.lemmas.List.{get_or-take, get_or-drop, get_or_append_left, get_or-append_right}
+use Rattle.std.proofs.Common.{◌≡◌, ℕ, zero, suc, ◌+◌, ◌-◌, ◌⊎◌, inl, inr, ap₂, le_refl, eq-or-lt_of_le, slice_set, ◌<◌, ◌≤◌, List, ◌++◌, take, drop, length, length-append, length-take, length-drop, sym, refl, ap, ◌∙◌, not-suc-le-zero, arith, length-set, ext_get_or}
+use Rattle.std.proofs.lemmas.Grind.{get_or-set_at}
+use Rattle.std.proofs.lemmas.List.{get_or-set_other, get_or-take, get_or-drop, get_or_append_left, get_or-append_right}
 use lib.Ieee.{Float, nan, ne}
 use Rattle.fold.specs.Fold.{upto}
 use Rattle.fold.proofs.Loops.{upto-keeps}
@@ -81,3 +82,35 @@ pushed_front factor plane prior xs ys n h d =
       plane_length = omega (arith, length-append {A = Float}, length-drop {A = Float});
       prior_length = d.prior_length;
     }
+
+-- one place more
+pub pushed_more : (factor : Float) (s : Planes) (xs ys : List Float) (i : ℕ) → i < length s.plane → i < length s.prior
+    → PushedTo factor s i (record { plane = xs; prior = ys }) → (v : Float) → v ≡ mul_add factor (val xs i ⊖ val ys i) (val xs i)
+    → PushedTo factor s (i + 1) (record { plane = slice_set xs i v; prior = slice_set ys i (val xs i) })
+pushed_more factor s xs ys i a b d v e = record {
+  new-plane = λ k l. new_at k (eq-or-lt_of_le (omega arith));
+  new-prior = λ k l. prior_at k (eq-or-lt_of_le (omega arith));
+  old_plane = λ k l. get_or-set_other xs i k v nan (later k l) ∙ d.old_plane k (omega arith);
+  old_prior = λ k l. get_or-set_other ys i k (val xs i) nan (later k l) ∙ d.old_prior k (omega arith);
+  plane_length = length-set xs i v ∙ d.plane_length;
+  prior_length = length-set ys i (val xs i) ∙ d.prior_length;
+}
+  where
+    later : (k : ℕ) → i + 1 ≤ k → k ≡ i → ⊥
+    later k l q = omega (arith, l, q)
+
+    before : (k : ℕ) → k < i → k ≡ i → ⊥
+    before k l q = omega (arith, l, q)
+
+    here : val xs i ≡ val s.plane i
+    here = d.old_plane i (le_refl i)
+
+    new_at : (k : ℕ) → (k ≡ i) ⊎ (k < i) → val (slice_set xs i v) k ≡ new_plane factor s k
+    new_at k (inl q) =
+        get_or-set_at xs i k v nan q (omega (arith, a, d.plane_length)) ∙ e
+        ∙ ap₂ (λ (x y : Float). mul_add factor (x ⊖ y) x) here (d.old_prior i (le_refl i)) ∙ ap (new_plane factor s) (sym q)
+    new_at k (inr l) = get_or-set_other xs i k v nan (before k l) ∙ d.new-plane k l
+
+    prior_at : (k : ℕ) → (k ≡ i) ⊎ (k < i) → val (slice_set ys i (val xs i)) k ≡ new_prior s k
+    prior_at k (inl q) = get_or-set_at ys i k (val xs i) nan q (omega (arith, b, d.prior_length)) ∙ here ∙ ap (new_prior s) (sym q)
+    prior_at k (inr l) = get_or-set_other ys i k (val xs i) nan (before k l) ∙ d.new-prior k l

@@ -1,5 +1,6 @@
 -- Laws for the crates above.
 pub mod Laws
 pub mod Examples
+mod Eights
 pub mod Marks
 pub mod Summed

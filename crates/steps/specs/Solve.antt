@@ -1,4 +1,4 @@
--- scalar/mod.rs, `solve`: the step constants of document 01, "Modules towards the jobs", and job 1, push.
+-- scalar/mod.rs, `solve`: the step constants, and job 1, push.
 use Rattle.std.specs.Prelude.{◌≡◌, ℕ, zero, suc, ◌*◌, ◌<◌, ◌≤◌, List, [], ◌∷◌, length, Float}
 use Rattle.fold.specs.Fold.{upto}
 use Rattle.fold.specs.Part.{part, splice}
@@ -49,7 +49,7 @@ unfoldable pub pushed : Float → Planes → Planes
 pushed factor old =
     record { plane = values (length old.plane) (new_plane factor old); prior = values (length old.prior) (new_prior old) }
 
--- Document 02, M-101: after each place both planes hold new values up to it and old ones after it. `now` is what they hold once n places are done.
+-- After each place both planes hold new values up to it and old ones after it. `now` is what they hold once n places are done.
 -- `push_places` of src/solve.rt ensures it for each n, and it is the invariant of that function's loop.
 pub record PushedTo (factor : Float) (old : Planes) (n : ℕ) (now : Planes) : Type 0 where
   pub new-plane : (k : ℕ) → k < n → val now.plane k ≡ new_plane factor old k

@@ -4,7 +4,7 @@ ghost use Rattle.float.specs.Ops.{root};
 ghost use Rattle.float.specs.Names.{float};
 ghost use Rattle.steps.specs.Solve.{next_term, term_of, constants, pushed, PushedTo, pushed_part};
 
-// The constants of a step: term, factor, step size, second-order weight.
+/// The constants of a step: term, factor, step size, second-order weight.
 #[derive(Clone, Copy)]
 pub struct Constants {
     pub term: f32,
@@ -14,7 +14,7 @@ pub struct Constants {
     pub second: f32,
 }
 
-// next_term = f32::midpoint(1.0, mul_add!(4.0, term.powi(2), 1.0).sqrt()). A job takes up to 64 of each: the root is by `wide`, since that of `float` would show in a whole run; the midpoint is by `float`, from whole numbers as document 01 names it.
+// next_term = f32::midpoint(1.0, mul_add!(4.0, term.powi(2), 1.0).sqrt()). A job takes up to 64 of each: the root is by `wide`, since that of `float` would show in a whole run; the midpoint is by `float`, from whole numbers.
 #[tactic(auto, unfolding(crate::specs::Solve::next_term))]
 fn next_term(term: f32) -> f32
     ensures { result ≡ next_term term }
@@ -47,14 +47,16 @@ fn term_of(step: u32) -> f32
     (from..step).fold(MARKS[k], |term, _| next_term(term))
 }
 
-// √n of a whole number. Rules out: a root cut to a whole number, and a number above 2 ^ 24 cut, and not rounded, to f32.
+/// √n of a whole number.
+// Rules out: a root cut to a whole number, and a number above 2 ^ 24 cut, and not rounded, to f32.
 pub fn root_of(n: u32) -> f32
     ensures { result ≡ root (float n) }
 {
     float::sqrt(std::num::nearest_u32_to_f32(n))
 }
 
-// The constants of a step, from the sheet and the step's number alone. Rules out: a term carried one step too far, and a step size of the own sides.
+/// The constants of a step, from the sheet and the step's number alone.
+// Rules out: a term carried one step too far, and a step size of the own sides.
 #[tactic(auto, unfolding(crate::specs::Solve::constants))]
 pub fn step_constants(w: u32, h: u32, iterations: u32, weight: f32, step: u32) -> Constants
     requires { (w ≤ 512) × (h ≤ 512) }
@@ -71,9 +73,9 @@ pub fn step_constants(w: u32, h: u32, iterations: u32, weight: f32, step: u32) -
     }
 }
 
-// The first n places of push, in one pass and with no further buffer: both values of a place are read once, then both are written once.
+/// The first n places of push, in one pass and with no further buffer: both values of a place are read once, then both are written once.
 // Rules out: a prior taken after the plane is written, and a plane made from a prior that lags by one place.
-// Kept: n beside the slices, since document 02 (M-101) asks for a proof of what stands after each place: this is its contract, for every n.
+// Kept: n beside the slices: what stands after each place is to be proved, and this is its contract, for every n.
 #[tactic(auto, using(crate::proofs::Laws::pushed_front))]
 pub fn push_places(plane: &mut [f32], prior: &mut [f32], factor: f32, n: usize)
     requires { (n ≤ length plane.old) × (n ≤ length prior.old) }
@@ -88,19 +90,23 @@ pub fn push_places(plane: &mut [f32], prior: &mut [f32], factor: f32, n: usize)
     }
 }
 
-// Job 1: new plane = mul_add!(factor, plane - prior, plane), new prior = old plane.
+/// Job 1: new plane = mul_add!(factor, plane - prior, plane), new prior = old plane.
 // Rules out: the product and sum rounded once, and a prior that is the old prior.
 pub fn push(plane: &mut [f32], prior: &mut [f32], k: Constants)
     requires { length plane.old ≡ length prior.old }
-    ensures { record { plane = plane.new; prior = prior.new }
+    ensures is { record { plane = plane.new; prior = prior.new }
         ≡ pushed k.factor (record { plane = plane.old; prior = prior.old }) }
+    ensures places { PushedTo k.factor (record { plane = plane.old; prior = prior.old })
+        (length plane.old) (record { plane = plane.new; prior = prior.new }) }
+    ensures prior { prior.new ≡ plane.old }
 {
     let n = plane.len();
     push_places(plane, prior, k.factor, n);
 }
 
-// Kept: c and n, by document 01: the "mutable part from channel times W times H, handed to push, move and project" is cut here.
-// Job 1 on the part of channel c, of n values. Rules out: another channel's part pushed, and a place beyond the part changed.
+// Kept: c and n: the mutable part from c * n on, which push, move and project work on, is cut here.
+/// Job 1 on the part of channel c, of n values.
+// Rules out: another channel's part pushed, and a place beyond the part changed.
 pub fn push_channel(plane: &mut [f32], prior: &mut [f32], k: Constants, c: usize, n: usize)
     requires { (c * n + n ≤ length plane.old) × (length plane.old ≡ length prior.old) }
     ensures { record { plane = plane.new; prior = prior.new }

@@ -1,4 +1,4 @@
--- `steps::solve::push_places` meets its contract. The loop's invariant is the sentence of M-101, on the first n places: after i of them both planes hold new values
+-- `steps::solve::push_places` meets its contract. The loop's invariant, on the first n places: after i of them both planes hold new values
 -- up to i and old ones after it. Assumes nothing.
 use Rattle.steps.specs.Solve.{PushedTo}
 use Rattle.steps.proofs.solve.push_places.Given as goal

@@ -13,4 +13,4 @@ pub returns : goal.returns
 unfolding gradient_norm
 returns c =
     let h = λ (t x : Float). mul_add x x t in
-    c.sqrt.ensures ∙ ap root (fold_from_yields_List _ h _ _ c.fold-sum.ensures.ran (YieldsList-from_slice c.args.gradient.now cc) (λ t x b q k. search rules) ∙ folded h f0 c.args.gradient.now)
+    c.sqrt.ensures.is ∙ ap root (fold_from_yields_List _ h _ _ c.fold-sum.ensures.ran (YieldsList-from_slice c.args.gradient.now cc) (λ t x b q k. search rules) ∙ folded h f0 c.args.gradient.now)
