@@ -5,10 +5,12 @@ pub mod grid;
 pub mod tgv;
 pub mod tv;
 
-ghost use Rattle.std.specs.Prelude.{◌≡◌, ◌≤◌, length};
+ghost use Rattle.std.specs.Prelude.{◌≡◌, ◌*◌, ◌≤◌, Bool, Float, List, length, ℕ};
+ghost use Rattle.gradients.specs.Apart.{Alike, AllAlike, NotRead, NotWritten};
 ghost use Rattle.gradients.specs.Held.{flag};
 ghost use Rattle.gradients.specs.Grid.{Fills};
 ghost use Rattle.gradients.specs.Blend.{blended, totals};
+ghost use Rattle.gradients.specs.Tv.{Terms};
 
 use grid::Grid;
 use steps::solve::Constants;
@@ -43,3 +45,12 @@ pub fn blend(
     let tgv = tgv::tgv_gradient(&across[..], &down[..], gradient, g, k.second);
     Totals { tv, tgv }
 }
+
+/// Blend writes nothing of a held channel, and what it writes and returns does not depend on that
+/// channel's values.
+pub fn held_law()
+    ensures written { (W H n : ℕ) (held : ℕ → Bool) (second : Float) (plane : List Float)
+        (b : Terms) → NotWritten W H n held second plane b }
+    ensures read { (W H n : ℕ) (held : ℕ → Bool) (second : Float) (p q : List Float) (a b : Terms)
+        → Alike (W * H) held p q → AllAlike (W * H) held a b → NotRead W H n held second p q a b }
+{}

@@ -8,11 +8,13 @@ use lib.IntN.{ℤ, pos, negsuc, neg_ℤ, nat_abs, ◌+ℤ◌, ◌*ℤ◌}
 use lib.Signed.{◌≤ℤ◌, le_z_yes}
 use lib.Dec.{T, le→leb, leb→le, lit<}
 use borrow.Author.Tests.{lt-ltb, le-ltb, ltb-false}
+use Rattle.std.specs.Prelude.{int_lt}
+use Rattle.std.proofs.lemmas.Int.{ints}
 use lib.Ieee.{Float, nan, inf, fin, up, down, below, binary32, fits, lt}
 use lib.Ieee.Fits.{down_pos}
 use Rattle.fold.proofs.Choice.{neither}
 use Rattle.float.specs.Nearest.{signed}
-use Rattle.interval.specs.Interval.{low_end, high_end, InInterval, lowest, highest, outside}
+use Rattle.interval.specs.Interval.{low_end, high_end, InInterval, OfSheet, lies_outside, lowest, highest, outside}
 use Rattle.float.specs.Ops.{at_least, clamp}
 use Rattle.float.proofs.Scaled.{scaled_exact}
 use Rattle.interval.proofs.Ends.{Halves, finite_with, is_neg, low_sign, low_size, high_size, low_halves, high_halves}
@@ -336,3 +338,43 @@ unfolding outside clamp
 unmoved low high q x h =
     let n = neither (lt x (lowest low q)) (lt (highest high q) x) h in
     rw (n.0, n.1)
+
+-- ---- the same as a test by whole numbers
+
+not_less : (x y : ℤ) → x ≤ℤ y → int_lt y x ≡ false
+not_less x y h = by (int_lt y x) refl
+  where
+    by : (t : Bool) → int_lt y x ≡ t → int_lt y x ≡ false
+    by true e = absurd (omega (arith, ints))
+    by false e = e
+
+less_not : (x y : ℤ) → int_lt y x ≡ false → x ≤ℤ y
+less_not x y h = omega (arith, ints)
+
+both_false : (a b : Bool) → a ≡ false → b ≡ false → (a || b) ≡ false
+both_false a b h k = rw (h, k)
+
+-- For a finite value the test says whether it is in the interval.
+pub in_test : (low high : ℤ) (q : ℕ) (s : Bool) (m : ℕ) (e : ℤ) → InInterval low high q (fin s m e) → lies_outside low high q (fin s m e) ≡ false
+unfolding InInterval lies_outside
+in_test low high q s m e h = both_false _ _ (not_less _ _ h.0) (not_less _ _ h.1)
+
+pub test_in : (low high : ℤ) (q : ℕ) (s : Bool) (m : ℕ) (e : ℤ) → lies_outside low high q (fin s m e) ≡ false → InInterval low high q (fin s m e)
+unfolding InInterval lies_outside
+test_in low high q s m e h = let n = neither _ _ h in (less_not _ _ n.0, less_not _ _ n.1)
+
+same : (a b : Bool) → (a ≡ false → b ≡ false) → (b ≡ false → a ≡ false) → a ≡ b
+same true true h k = refl
+same false false h k = refl
+same true false h k = k refl
+same false true h k = sym (h refl)
+
+-- The comparisons of f32 with the computed ends are that test.
+pub outside_is : (low high : ℤ) (q : ℕ) → OfSheet low high q → (x : Float) → T (fits binary32 x) → outside low high q x ≡ lies_outside low high q x
+unfolding lies_outside
+outside_is low high q o nan t = nan_inside low high q o.ordered o.low_most o.high_most o.most
+outside_is low high q o (inf s) t = inf_outside low high q o.ordered o.low_most o.high_most o.most s
+outside_is low high q o (fin s m e) t =
+    same (outside low high q (fin s m e)) (lies_outside low high q (fin s m e))
+    (λ h. in_test low high q s m e (inside_in low high q o.ordered o.low_most o.high_most o.most s m e h))
+    (λ h. in_inside low high q o.ordered o.low_most o.high_most o.most s m e t (test_in low high q s m e h))

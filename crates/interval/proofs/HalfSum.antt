@@ -14,7 +14,7 @@ use lib.Ieee.{Float, fin, up, down, binary32, round, sum, mul, of_int, below, lt
 use lib.Ieee.Fits.{down_pos}
 use lib.Ieee.Scale.{round_same}
 use Rattle.float.proofs.SumCases.{add_value}
-use Rattle.interval.specs.Interval.{InInterval, IsHalf, HalfSums, EndsApart, dequantised, f½, lowest, highest, mid, whole}
+use Rattle.interval.specs.Interval.{InInterval, IsHalf, HalfSums, OfSheet, EndsApart, dequantised, f½, lowest, highest, mid, whole}
 use Rattle.interval.proofs.Ends.{Halves, exact_f½, finite_with, high_halves, high_size, int_halves, is_neg, low_halves, low_sign, low_size, mul_halves, small, sum_larger, sum_same, sum_smaller, unlike_false}
 use Rattle.interval.proofs.Clamp.{Below, halves_in}
 
@@ -102,9 +102,9 @@ unfolding of_int
 whole_round (pos n) = refl
 whole_round (negsuc n) = refl
 
-pub mid_equal : (d : ℤ) → nat_abs d ≤ 2047 → mid d d ≡ whole d
+pub mid_equal : (d : ℤ) → nat_abs d ≤ 32768 → mid d d ≡ whole d
 mid_equal d h =
-    mid_round d d (omega arith) (omega arith) ∙ rw ((twice_is d).0, (twice_is d).1) (round_same binary32 (is_neg d) (nat_abs d * 2) 2 (nat_abs d) 1 (lit< tt) (lit< tt) (omega arith)) ∙ sym (whole_round d)
+    mid_round d d h h ∙ rw ((twice_is d).0, (twice_is d).1) (round_same binary32 (is_neg d) (nat_abs d * 2) 2 (nat_abs d) 1 (lit< tt) (lit< tt) (omega arith)) ∙ sym (whole_round d)
 
 -- ---- the half sum × quantiser is in the pair's interval
 
@@ -154,6 +154,16 @@ less_half x (suc m) p h = h
 is_product : (x : Float) (z : ℤ) (q : ℕ) → 0 < q → Halves x (is_neg z) (nat_abs z * q) → IsHalf x (z *ℤ pos q)
 is_product x (pos n) q p h = h
 is_product x (negsuc n) q p h = let some : 0 < suc n = omega arith in less_half x (suc n * q) (mul-pos some p) h
+
+pub mid_is_half : (low high : ℤ) → nat_abs low ≤ 32768 → nat_abs high ≤ 32768 → IsHalf (mid low high) (low +ℤ high)
+mid_is_half low high h g = is_half (mid low high) (low +ℤ high) (mid_halves low high h g)
+
+pub product_is_half : (low high : ℤ) (q : ℕ) → OfSheet low high q → IsHalf (dequantised (mid low high) q) ((low +ℤ high) *ℤ pos q)
+product_is_half low high q o =
+    is_product (dequantised (mid low high) q) (low +ℤ high) q o.some (product_halves low high o.low_most o.high_most q o.most)
+
+pub product_in : (low high : ℤ) (q : ℕ) → OfSheet low high q → InInterval low high q (dequantised (mid low high) q)
+product_in low high q o = mid_in low high q o.ordered o.low_most o.high_most o.most
 
 pub half_sum : HalfSums
 half_sum low high q order h g l k =

@@ -1,7 +1,7 @@
 -- A coefficient's interval (document 01, demand 3 and "Arithmetic below the Rust"): for levels from `low` to `high` and quantiser q,
 -- twice the value lies from (2 low − 1) × q to (2 high + 1) × q. Both sides are taken times 2 ^ 149, so that whole numbers are compared.
 -- A level of document 01 stands in both places: low and high are equal.
-use Rattle.std.specs.Prelude.{ℕ, suc, ◌*◌, ◌/◌, ◌^◌, ◌≤◌, ◌≡◌, Bool, true, false, ◌||◌, ℤ, pos, negsuc, nat_abs, ◌+ℤ◌, ◌-ℤ◌, ◌*ℤ◌, ◌≤ℤ◌, Float}
+use Rattle.std.specs.Prelude.{ℕ, suc, ◌*◌, ◌/◌, ◌^◌, ◌≤◌, ◌≡◌, Bool, true, false, ◌||◌, ℤ, pos, negsuc, nat_abs, ◌+ℤ◌, ◌-ℤ◌, ◌*ℤ◌, ◌≤ℤ◌, int_lt, Float}
 use Rattle.std.specs.Float.{nan, inf, fin, binary32}
 use Rattle.std.specs.Float.Ieee.{up, down, lt, of_int}
 use Rattle.std.specs.Float.Ieee.Exact.{HasValue}
@@ -27,6 +27,21 @@ InInterval low high q (inf s) = ⊥
 InInterval low high q (fin s m e) =
     ((low_end low q *ℤ pos (2 ^ 149)) ≤ℤ (pos 2 *ℤ scaled s m e))
     × ((pos 2 *ℤ scaled s m e) ≤ℤ (high_end high q *ℤ pos (2 ^ 149)))
+
+-- The same of any value as a test: twice a finite one, times 2 ^ 149, is below the lower end or above the upper. An infinity lies outside; a NaN doesn't.
+unfoldable pub lies_outside : ℤ → ℤ → ℕ → Float → Bool
+lies_outside low high q nan = false
+lies_outside low high q (inf s) = true
+lies_outside low high q (fin s m e) =
+    int_lt (pos 2 *ℤ scaled s m e) (low_end low q *ℤ pos (2 ^ 149)) || int_lt (high_end high q *ℤ pos (2 ^ 149)) (pos 2 *ℤ scaled s m e)
+
+-- a pair of levels and a quantiser as a sheet has them
+pub record OfSheet (low high : ℤ) (q : ℕ) : Type 0 where
+  pub ordered : low ≤ℤ high
+  pub low_most : nat_abs low ≤ 2047
+  pub high_most : nat_abs high ≤ 2047
+  pub some : 1 ≤ q
+  pub most : q ≤ 255
 
 -- ---- the Rust's arithmetic of an interval (projection.rs, coef.rs)
 

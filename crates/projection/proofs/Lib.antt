@@ -2,4 +2,5 @@
 pub mod Bad
 pub mod Lengths
 pub mod Writes
+pub mod Exact
 pub mod Clips

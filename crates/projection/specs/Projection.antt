@@ -1,10 +1,10 @@
 -- projection.rs: the projection of each block onto its coefficients' intervals.
-use Rattle.std.specs.Prelude.{ℕ, ◌+◌, ◌*◌, ◌%◌, Bool, cond, not, ◌||◌, List, ◌==◌, slice_set, Float}
+use Rattle.std.specs.Prelude.{ℕ, ◌+◌, ◌*◌, ◌%◌, ◌<◌, Bool, cond, not, ◌||◌, List, ◌==◌, slice_set, Float}
 use Rattle.fold.specs.Fold.{upto}
 use Rattle.float.specs.Names.{◌⊕◌, ◌⊖◌, ◌⊘◌, f0, float, val}
 use Rattle.utils.specs.Blocks.{from_blocks, on_block, to_blocks}
 use Rattle.utils.specs.Dct.{dct8x8, idct8x8}
-use Rattle.interval.specs.Interval.{clamp_to, outside}
+use Rattle.interval.specs.Interval.{OfSheet, clamp_to, lies_outside, outside}
 use Rattle.start.specs.declared.coef.Own.{Own}
 use Rattle.start.specs.Coef.{Coef, block_w, block_h, block_count, px_count, Levels, low_at, high_at, quant_at, spot, change}
 
@@ -145,7 +145,19 @@ count_at C x k n = tally (outside (low_at C.levels k) (high_at C.levels k) (quan
 unfoldable pub clipped : Coef → List Float → ℕ
 clipped C x = upto (count_at C x) (px_count C.own) 0
 
--- the same block by block, on from n: place j of block i
+-- the same by the exact intervals: place k, if its value in x lies outside its own
+abbrev pub exactly_at : Coef → List Float → ℕ → ℕ → ℕ
+exactly_at C x k n = tally (lies_outside (low_at C.levels k) (high_at C.levels k) (quant_at C.table (k % 64)) (val x k)) n
+
+-- how many of the w × h block places hold a value of x that lies outside its exact interval
+unfoldable pub clipped_exactly : Coef → List Float → ℕ
+clipped_exactly C x = upto (exactly_at C x) (px_count C.own) 0
+
+-- levels and quantisers are those of a sheet, at each of the w × h places
+abbrev pub FromSheet : Coef → Type 0
+FromSheet C = (k : ℕ) → k < px_count C.own → OfSheet (low_at C.levels k) (high_at C.levels k) (quant_at C.table (k % 64))
+
+-- the number block by block, on from n: place j of block i
 abbrev pub clipped_at : Levels → List ℕ → List Float → ℕ → ℕ → ℕ → ℕ
 clipped_at levels table x i j n =
     let k = i * 64 + j in

@@ -1,4 +1,4 @@
-// Document 01's condition of job 5, which the Rust has not.
+// The condition under which project marks a channel, which the Rust has not.
 ghost use Rattle.std.specs.Prelude.{◌≡◌, ◌||◌, ℕ, ◌<◌, false, length, true};
 ghost use Rattle.std.specs.Float.Ieee.{lt};
 ghost use Rattle.float.specs.Names.{val};

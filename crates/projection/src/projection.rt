@@ -7,11 +7,12 @@ ghost use Rattle.fold.specs.Fold.{upto};
 ghost use Rattle.utils.specs.Blocks.{on_block, to_blocks};
 ghost use Rattle.utils.specs.Dct.{dct8x8};
 ghost use Rattle.projection.specs.Projection.{resample, mean_of, split, clamp_block, clamped, keep, back, project_full, project_onto_box, transformed, clipped, clipped_block};
+ghost use Rattle.projection.specs.Projection.{FromSheet, clipped_exactly};
 
 use crate::clip::{clamp_row, least_of, most_of};
 use start::coef::{Coef, Sample};
-use utils::blocks::{Order, move_blocks};
-use utils::dct::{Transform, transform_blocks};
+use utils::blocks::{from_blocks, to_blocks};
+use utils::dct::{dct_blocks, idct_blocks};
 
 fn resample(coef: &Coef) -> bool
     ensures { result ≡ resample coef.now.own coef.now.w coef.now.h }
@@ -99,7 +100,7 @@ fn clamped(x: &mut [f32], coef: &Coef) -> usize
         × (result ≡ clipped (as_coef coef.now) (upto (on_block dct8x8) (block_count coef.now.own) x.old)) }
 {
     let n = coef.scalar().block_count();
-    transform_blocks(&mut x[..n * 64], Transform::Forward);
+    dct_blocks(&mut x[..n * 64]);
     let mut moved = 0;
     for i in 0..n {
         moved = clamp_block(x, coef, i, moved);
@@ -122,18 +123,20 @@ fn project_full(plane: &mut [f32], across: &mut [f32], saved: &mut [f32], coef: 
     let bw = width / 8;
     let bh = height / 8;
     let count = coef.px_count();
-    move_blocks(plane, across, width, height, bw, bh, Order::Blocks);
+    to_blocks(plane, across, width, height, bw, bh);
     let moved = clamped(across, coef);
     let own = &mut across[..count];
     saved[..count].copy_from_slice(own);
-    transform_blocks(own, Transform::Inverse);
-    move_blocks(across, plane, width, height, bw, bh, Order::Raster);
+    idct_blocks(own);
+    from_blocks(across, plane, width, height, bw, bh);
     moved
 }
 
-// Job 5 on a channel's part of each buffer: with own sides that are not the full sides, the blocks are those of the means.
-// Gives the number of coefficients that it moved.
-// Rules out: saved taken after the inverse transform, and resampling decided by the factors.
+/// Job 5 on a channel's part of each buffer: with own sides that are not the full sides, the blocks
+/// are those of the means. Gives the number of coefficients that it moved: with the levels and
+/// quantisers of a sheet, of those that lie outside their exact intervals.
+// Rules out: saved taken after the inverse transform; resampling decided by the factors; a number
+// that counts values at an end, NaN, or places past the channel's own.
 pub fn project_onto_box(
     plane: &mut [f32],
     across: &mut [f32],
@@ -143,11 +146,20 @@ pub fn project_onto_box(
 ) -> usize
     requires { (length plane.old ≡ coef.now.w * coef.now.h) × (length across.old ≡ coef.now.w * coef.now.h)
         × (length down.old ≡ coef.now.w * coef.now.h) × (length saved.old ≡ coef.now.w * coef.now.h) }
-    ensures { (record { plane = plane.new; across = across.new; down = down.new; saved = saved.new }
+    ensures boxed { record {
+      plane = plane.new;
+      across = across.new;
+      down = down.new;
+      saved = saved.new;
+    }
         ≡ project_onto_box (as_coef coef.now) coef.now.w coef.now.h
-        (record { plane = plane.old; across = across.old; down = down.old; saved = saved.old }))
-        × (result ≡ clipped (as_coef coef.now) (transformed (as_coef coef.now) coef.now.w coef.now.h
-        (record { plane = plane.old; across = across.old; down = down.old; saved = saved.old }))) }
+        (record { plane = plane.old; across = across.old; down = down.old; saved = saved.old }) }
+    ensures counted { result ≡ clipped (as_coef coef.now)
+        (transformed (as_coef coef.now) coef.now.w coef.now.h
+        (record { plane = plane.old; across = across.old; down = down.old; saved = saved.old })) }
+    ensures exact { FromSheet (as_coef coef.now) → result ≡ clipped_exactly (as_coef coef.now)
+        (transformed (as_coef coef.now) coef.now.w coef.now.h
+        (record { plane = plane.old; across = across.old; down = down.old; saved = saved.old })) }
 {
     if !resample(coef) {
         return project_full(plane, across, saved, coef);

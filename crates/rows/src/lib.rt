@@ -70,7 +70,7 @@ fn put_each(gradient: &mut [f32], norm: &[f32], q: &[f32], alpha: f32)
 // The same at eight places at once, where f64 or f32 decides them all, and else place by place.
 // Where the norm is 0 the quotient is a NaN or an infinity, and f64 would decide nothing: 0 takes
 // its place, and the old value is kept.
-// Ruled out: a change where the norm is 0; a value kept where it is not.
+// Rules out: a change where the norm is 0; a value kept where it is not.
 fn put_eight(gradient: &mut [f32], norm: &[f32], q: &[f32], alpha: f32)
     requires { (length gradient.old ≡ 8) × (length norm.now ≡ 8) × (length q.now ≡ 8) }
     ensures { gradient.new ≡ upto (hit_in alpha norm.now q.now) (length gradient.old) gradient.old }

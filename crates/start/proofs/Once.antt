@@ -1,5 +1,5 @@
 -- M-102: the image reordered once is T.81's placement; and at own width 8 it is the image that is reordered after each block.
-use mathlib.Core.Path.{◌≡◌, ap, ◌∙◌, sym, subst}
+use mathlib.Core.Path.{◌≡◌, refl, ap, ◌∙◌, sym, subst}
 use mathlib.Core.Logic.{⊎_elim}
 use mathlib.Core.List.{List}
 use Prim.Native.Nat.{ℕ, zero, suc, ◌+◌, ◌-◌, ◌*◌, ◌/◌, ◌%◌, ◌<◌, ◌≤◌}
@@ -20,6 +20,7 @@ use Rattle.utils.proofs.Lengths.{blocks_length, from_blocks_length, idct_length,
 use Rattle.utils.proofs.Moves.{from_at, from_one}
 use Rattle.fold.proofs.Scatter.{sent_at, sent_length, sent_other}
 use Rattle.interval.specs.Interval.{dequantised}
+use Rattle.start.specs.declared.coef.Reorder.{Reorder}
 use Rattle.start.specs.declared.coef.Reorder.TheVariants.{Each, Once}
 use Rattle.start.specs.Coef.{Coef, Eights, Placement, block_count, block_h, block_values, block_w, dequantise, image_block, image_data, image_once, init_dct_target, px_count, quant_at, transformed}
 use Rattle.start.specs.Auxiliary.{aux_init, init_pixels}
@@ -174,3 +175,9 @@ module _ (C : Coef) where
           ap (λ (image : List Float).
           let zeros = replicate (W * H) f0 in
           record { plane = init_pixels image C.own W H; prior = init_pixels image C.own W H; gradient = zeros; across = zeros; down = zeros; saved = init_dct_target C zeros }) images_agree
+
+      pub starts_alike : (one other : Reorder) (W H : ℕ) → aux_init one C W H ≡ aux_init other C W H
+      starts_alike Each Each W H = refl
+      starts_alike Once Once W H = refl
+      starts_alike Once Each W H = starts_agree W H
+      starts_alike Each Once W H = sym (starts_agree W H)

@@ -1,10 +1,11 @@
 // coef.rs: the pixels and the saved coefficients that a channel starts with.
 ghost use Rattle.std.specs.Prelude.{◌≡◌, ◌+◌, ◌*◌, ◌<◌, ◌≤◌, Float, length};
-ghost use Rattle.start.specs.Coef.{Covers, Eights, Lent, pairs};
+ghost use Rattle.start.specs.declared.coef.Reorder.TheVariants.{Once};
+ghost use Rattle.start.specs.Coef.{Covers, Eights, EqualLevels, Lent, Placement, pairs};
 
 use interval::Interval;
-use utils::blocks::{Order, copy8, move_blocks};
-use utils::dct::{Transform, transform_blocks};
+use utils::blocks::{copy8, from_blocks};
+use utils::dct::idct_blocks;
 
 // A channel's own sides and its factors.
 #[derive(Clone, Copy)]
@@ -15,7 +16,7 @@ pub struct Own {
     pub vertical: usize,
 }
 
-// When the image is reordered: after each block, as the Rust does, or once after all of them (M-102).
+// When the image is reordered: after each block, as the Rust does, or once after all of them.
 #[derive(Clone, Copy, Debug, PartialEq, Eq)]
 pub enum Reorder {
     Each,
@@ -90,9 +91,9 @@ impl ScalarCoef<'_> {
         }
     }
 
-    // The saved coefficients at the start: half sum × quantiser.
-    // Rules out: the inverse transform of those values, and a value changed past the channel's own.
-    pub fn init_dct_target(&self, out: &mut [f32])
+    /// The saved coefficients at the start: half sum × quantiser.
+    // Rules out: the inverse transform of those values; a value changed past the channel's own.
+    pub fn init_dct_target_into(&self, out: &mut [f32])
         requires { px_count self.now.own ≤ length out.old }
         ensures { out.new ≡ init_dct_target (scalar self.now) out.old }
     {
@@ -108,8 +109,8 @@ impl ScalarCoef<'_> {
         ensures { image.new ≡ transformed (scalar self.now) }
     {
         image.fill(0.0);
-        self.init_dct_target(image);
-        transform_blocks(image, Transform::Inverse);
+        self.init_dct_target_into(image);
+        idct_blocks(image);
     }
 
     // The image from block order to raster order. The Rust's clone of the image goes to `scratch`.
@@ -120,7 +121,7 @@ impl ScalarCoef<'_> {
         let w = self.own.width;
         let h = self.own.height;
         scratch.copy_from_slice(image);
-        move_blocks(scratch, image, w, h, w / 8, h / 8, Order::Raster);
+        from_blocks(scratch, image, w, h, w / 8, h / 8);
     }
 
     // The unit of `held` where unit u of the image lies, after k reorderings, of which `power`
@@ -164,11 +165,15 @@ impl ScalarCoef<'_> {
         }
     }
 
-    // The channel's pixels in its own sides. Above width 8 an image that is reordered after each block is not the one that is reordered once, T.81's placement.
-    // Rules out: with `Once` a reordering after each block, none with `Each`, and values that `image` held before.
+    /// The channel's pixels in its own sides. Reordered once, the image has the blocks where T.81
+    /// places them; above width 8 one that is reordered after each block has not.
+    // Rules out: with `Once` a reordering after each block; none with `Each`; blocks placed column
+    // by column; values that `image` held before.
     pub fn image_of(&self, image: &mut [f32], scratch: &mut [f32], reorder: Reorder)
         requires { (length image.old ≡ px_count self.now.own) × (length scratch.old ≡ px_count self.now.own) }
-        ensures { image.new ≡ image_of reorder (scalar self.now) }
+        ensures image { image.new ≡ image_of reorder (scalar self.now) }
+        ensures placed { reorder ≡ Once → Placement (scalar self.now) image.new }
+        ensures narrow { self.now.own.width ≡ 8 → Placement (scalar self.now) image.new }
     {
         self.transform(image);
         match reorder {
@@ -263,3 +268,9 @@ impl Sample<'_, '_> {
         }
     }
 }
+
+/// A pair of equal levels is the level itself: with legal levels a channel's coefficients, and so
+/// all that the jobs compute of them, are those of a sheet that has one level for each place.
+pub fn equal_levels_law()
+    ensures { EqualLevels }
+{}

@@ -7,5 +7,6 @@ pub mod Copied
 pub mod Blockwise
 pub mod Upsampled
 pub mod Lanes
+pub mod Fit
 pub mod Rows
 pub mod Examples

@@ -5,13 +5,13 @@ use mathlib.Core.List.{List}
 use Prim.Native.Nat.{ℕ, ◌+◌, ◌*◌, ◌/◌, ◌%◌, ◌<◌, ◌≤◌}
 use native.Mathlib.Nat.{div-add-mod', div-lt_iff_lt-mul, eq-zero-or-pos, lt_of_lt_of_le, mod-lt, mul_comm, mul-mul-mul_comm, ne_of_gt, not-suc-le-zero, zero-mul}
 use native.Mathlib.Omega.{arith}
-use lib.ListN.{length, set}
-use lib.Seq.{ext_get_or}
+use lib.ListN.{length, set, take}
+use lib.Seq.{ext_get_or, get_or-take, length-take-le}
 use lib.Ieee.{Float, nan}
 use Rattle.fold.specs.Fold.{upto}
 use Rattle.fold.proofs.Loops.{upto_ext, upto_nest}
 use Rattle.float.specs.Names.{val}
-use Rattle.utils.specs.Blocks.{block_place, copy_at, from_blocks, move_block, move_line, move_lines, move_row, raster_place, row_index, row_start, to_blocks}
+use Rattle.utils.specs.Blocks.{IsPlaced, block_place, copy_at, from_blocks, move_block, move_line, move_lines, move_row, raster_place, row_index, row_start, to_blocks}
 use Rattle.fold.proofs.Grid.{column_of, row_of}
 use Rattle.utils.proofs.Lengths.{from_blocks_length, to_blocks_length}
 use Rattle.utils.proofs.Opened.{from_is, to_is}
@@ -165,7 +165,43 @@ module _ (w h bw bh : ℕ) (across : w ≡ bw * 8) (down : h ≡ bh * 8) where
         pub to_at : val (to_blocks w bw bh input output) (row_index bw by bx y + k) ≡ val input (row_start w by bx y + k)
         to_at = to_place (row_index bw by bx y + k) index_in ∙ ap (val input) (raster_of by bx y k across-in row-in column_in)
 
-  -- Each undoes the other.
+  -- The same as one fact of both lists.
+  module _ (input output : List Float) (long : w * h ≤ length output) where
+    pub from_placed : IsPlaced w bw bh input (from_blocks w bw bh input output)
+    from_placed by bx y k a b c d =
+        let raster : (by * 8 + y) * w + (bx * 8 + k) ≡ row_start w by bx y + k = omega arith in
+        let block : row_index bw by bx y + k ≡ (by * bw + bx) * 64 + (y * 8 + k) = omega arith in
+        ap (val (from_blocks w bw bh input output)) raster ∙ from_at input output long by bx y k a b c d ∙ ap (val input) block
+
+    pub to_placed : IsPlaced w bw bh (to_blocks w bw bh input output) input
+    to_placed by bx y k a b c d =
+        let raster : (by * 8 + y) * w + (bx * 8 + k) ≡ row_start w by bx y + k = omega arith in
+        let block : (by * bw + bx) * 64 + (y * 8 + k) ≡ row_index bw by bx y + k = omega arith in
+        ap (val input) raster ∙ sym (ap (val (to_blocks w bw bh input output)) block ∙ to_at input output long by bx y k a b c d)
+
+  -- Two lists agree in their first w * h values.
+  firsts : (x y : List Float) → w * h ≤ length x → w * h ≤ length y → ((p : ℕ) → p < w * h → val x p ≡ val y p) → take (w * h) x ≡ take (w * h) y
+  firsts x y a b e =
+      ext_get_or nan (take (w * h) x) (take (w * h) y) (length-take-le (w * h) x a ∙ sym (length-take-le (w * h) y b))
+      (λ p l.
+      let m : p < w * h = omega (arith, length-take-le (w * h) x a) in
+      get_or-take (w * h) x p nan m ∙ e p m ∙ sym (get_or-take (w * h) y p nan m))
+
+  -- Each undoes the other, of the values that it moves.
+  module _ (input between output : List Float) (n : w * h ≤ length input) (b : w * h ≤ length between) (o : w * h ≤ length output) where
+    pub undone_by_to : take (w * h) (to_blocks w bw bh (from_blocks w bw bh input between) output) ≡ take (w * h) input
+    undone_by_to =
+        firsts (to_blocks w bw bh (from_blocks w bw bh input between) output) input (omega (arith, to_blocks_length w bw bh (from_blocks w bw bh input between) output)) n
+        (λ i m. to_place (from_blocks w bw bh input between) output o i m ∙ from_raster input between b i m)
+
+    pub undone_by_from : take (w * h) (from_blocks w bw bh (to_blocks w bw bh input between) output) ≡ take (w * h) input
+    undone_by_from =
+        firsts (from_blocks w bw bh (to_blocks w bw bh input between) output) input (omega (arith, from_blocks_length w bw bh (to_blocks w bw bh input between) output)) n
+        (λ p m.
+        from_place (to_blocks w bw bh input between) output o p m
+        ∙ to_place input between b (block_place w bw p) (block_in p m) ∙ ap (val input) (raster_block p m))
+
+  -- Of whole lists too.
   module _ (input between output : List Float) (n : length input ≡ w * h) (b : length between ≡ w * h) (o : length output ≡ w * h) where
     pub to_from : to_blocks w bw bh (from_blocks w bw bh input between) output ≡ input
     to_from =

@@ -7,8 +7,6 @@ use lib.Dec.{lit<}
 use lib.Ieee.{Float, nan}
 use lib.ListN.{length, take, drop, set, take-append-drop}
 use lib.Seq.{length-take-le, get_or-append-add}
-use lib.Lanes.{pick_l}
-use Rattle.std.specs.List.{range_with_len}
 use Rattle.std.proofs.lemmas.Simd.{pick_l_whole}
 use Rattle.std.proofs.lemmas.List.{set-append_right}
 use Rattle.fold.specs.Fold.{upto}

@@ -2,12 +2,13 @@
 use mathlib.Core.Path.{◌≡◌, ap, ◌∙◌, sym}
 use mathlib.Core.List.{List}
 use Prim.Native.Nat.{ℕ, ◌+◌, ◌*◌, ◌/◌, ◌%◌, ◌<◌, ◌≤◌}
-use native.Mathlib.Nat.{mul_comm}
+use native.Mathlib.Nat.{lt_of_lt_of_le, mul_comm, ne_of_gt}
 use lib.ListN.{length}
 use lib.Ieee.{Float, nan}
 use Rattle.fold.specs.Fold.{upto}
 use Rattle.fold.proofs.Grid.{column_of, in_grid, row_of}
 use Rattle.fold.proofs.Loops.{upto_ext, upto_nest}
+use Rattle.fold.proofs.Scatter.{sent_other}
 use Rattle.fold.proofs.Stores.{store_at, stored-at}
 use Rattle.float.specs.Names.{val}
 use Rattle.utils.specs.Auxiliary.{sample_of, upsample_at, upsample_pixels, upsample_row}
@@ -34,3 +35,10 @@ module _ (image : List Float) (w h horizontal vertical W H : ℕ) (out : List Fl
       ap (λ (s : List Float). val s (y * W + x)) flat
       ∙ stored-at nan sample out (H * W) (rw mul_comm long) (y * W + x) (in_grid y H x W l m)
       ∙ rw (row_of y W x m, column_of y W x m)
+
+  -- what stands past the pixels stays
+  pub upsampled_past : (p : ℕ) → W * H ≤ p → val (upsample_pixels image w h horizontal vertical W H out) p ≡ val out p
+  upsampled_past p g =
+      let past : H * W ≤ p = rw (mul_comm H W) g in
+      ap (λ (s : List Float). val s p) flat
+      ∙ sent_other nan sample (λ i. i) (H * W) out p (λ i l. ne_of_gt (lt_of_lt_of_le l past))

@@ -1,5 +1,5 @@
 -- blocks.rs: block order and raster order, and what is done to one block of block order.
-use Rattle.std.specs.Prelude.{List, ℕ, ◌+◌, ◌*◌, ◌/◌, ◌%◌, set, Float}
+use Rattle.std.specs.Prelude.{◌≡◌, List, ℕ, ◌+◌, ◌*◌, ◌/◌, ◌%◌, ◌<◌, set, Float}
 use Rattle.fold.specs.Fold.{upto}
 use Rattle.fold.specs.Part.{part, splice}
 use Rattle.float.specs.Names.{val}
@@ -66,7 +66,13 @@ abbrev pub stored : Order → ℕ → ℕ → ℕ
 stored Blocks start index = index
 stored Raster start index = start
 
--- T.81's placement as a map of places and its inverse. Place i of block order is row i % 64 / 8 and column i % 8 of block i / 64;
+-- T.81's placement: in bh lines of bw blocks, value 8 y + k of block by × bw + bx stands in column 8 bx + k of row 8 by + y of the raster
+abbrev pub IsPlaced : ℕ → ℕ → ℕ → List Float → List Float → Type 0
+IsPlaced w bw bh blocks raster =
+    (by bx y k : ℕ) → by < bh → bx < bw → y < 8 → k < 8
+    → val raster ((by * 8 + y) * w + (bx * 8 + k)) ≡ val blocks ((by * bw + bx) * 64 + (y * 8 + k))
+
+-- The placement as a map of places and its inverse. Place i of block order is row i % 64 / 8 and column i % 8 of block i / 64;
 -- place p of the raster is row p / w and column p % w.
 abbrev pub raster_place : ℕ → ℕ → ℕ → ℕ
 raster_place w bw i = row_start w (i / 64 / bw) (i / 64 % bw) (i % 64 / 8) + i % 8

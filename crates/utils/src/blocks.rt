@@ -1,6 +1,8 @@
 // blocks.rs: block order, where the 64 values of a block follow one another, and raster order.
-ghost use Rattle.std.specs.Prelude.{◌≡◌, ◌+◌, ◌*◌, ◌≤◌, length};
+ghost use Rattle.std.specs.Prelude.{◌≡◌, ℕ, ◌+◌, ◌*◌, ◌≤◌, Float, List, length, take};
+ghost use Rattle.float.specs.Names.{val};
 ghost use Rattle.utils.specs.Blocks.{copy8, from_blocks, move_blocks, stored, taken, to_blocks};
+ghost use Rattle.utils.specs.Blocks.{IsPlaced};
 
 // The order that values are brought to.
 #[derive(Clone, Copy)]
@@ -22,7 +24,7 @@ impl Order {
 }
 
 /// A row of a block: eight values.
-// Ruled out: a value outside the row changed.
+// Rules out: a value outside the row changed.
 // Kept: tried with this line in `move_blocks` itself, and the proof of its bounds didn't close: both slices, the ends of both and the sum of the place and 8.
 #[tactic(auto, using(crate::proofs::Copied::copied))]
 pub fn copy8(input: &[f32], output: &mut [f32], from: usize, to: usize)
@@ -62,27 +64,37 @@ pub fn move_blocks(
 }
 
 /// Values of bh lines of bw blocks from block order to raster order: the first w * h values of
-/// `output`, and the rest of it stays.
-// Ruled out: the other order, which differs above width 8.
+/// `output`, and the rest of it stays. `to_blocks` undoes it.
+// Rules out: the other order, which differs above width 8; blocks placed column by column; a value
+// past the raster changed.
 pub fn from_blocks(input: &[f32], output: &mut [f32], w: usize, h: usize, bw: usize, bh: usize)
     requires width { w ≡ bw * 8 }
     requires height { h ≡ bh * 8 }
     requires given { w * h ≤ length input.now }
     requires room { w * h ≤ length output.old }
-    ensures { output.new ≡ from_blocks w bw bh input.now output.old }
+    ensures moved { output.new ≡ from_blocks w bw bh input.now output.old }
+    ensures placed { IsPlaced w bw bh input.now output.new }
+    ensures rest { (p : ℕ) → w * h ≤ p → val output.new p ≡ val output.old p }
+    ensures undone { (held : List Float) → w * h ≤ length held
+        → take (w * h) (to_blocks w bw bh output.new held) ≡ take (w * h) input.now }
 {
     move_blocks(input, output, w, h, bw, bh, Order::Raster);
 }
 
 /// Values of bh lines of bw blocks from raster order to block order: the first w * h values of
-/// `output`, and the rest of it stays.
-// Ruled out: the other order, which differs above width 8.
+/// `output`, and the rest of it stays. `from_blocks` undoes it.
+// Rules out: the other order, which differs above width 8; blocks taken column by column; a value
+// past the blocks changed.
 pub fn to_blocks(input: &[f32], output: &mut [f32], w: usize, h: usize, bw: usize, bh: usize)
     requires width { w ≡ bw * 8 }
     requires height { h ≡ bh * 8 }
     requires given { w * h ≤ length input.now }
     requires room { w * h ≤ length output.old }
-    ensures { output.new ≡ to_blocks w bw bh input.now output.old }
+    ensures moved { output.new ≡ to_blocks w bw bh input.now output.old }
+    ensures placed { IsPlaced w bw bh output.new input.now }
+    ensures rest { (p : ℕ) → w * h ≤ p → val output.new p ≡ val output.old p }
+    ensures undone { (held : List Float) → w * h ≤ length held
+        → take (w * h) (from_blocks w bw bh output.new held) ≡ take (w * h) input.now }
 {
     move_blocks(input, output, w, h, bw, bh, Order::Blocks);
 }

@@ -179,7 +179,7 @@ fn dct8(a: [f32x8; 8]) -> [f32x8; 8]
 
 /// The inverse transform of the 64 values of a block, in place: of its eight columns, and then of
 /// its eight rows.
-// Ruled out: rows before columns; and `mul_add!` rounded once.
+// Rules out: rows before columns; `mul_add!` rounded once.
 pub fn idct8x8(a: &mut [f32])
     requires { length a.old ≡ 64 }
     ensures { a.new ≡ idct8x8 a.old }
@@ -191,7 +191,7 @@ pub fn idct8x8(a: &mut [f32])
 
 /// The forward transform of the 64 values of a block, in place: of its eight columns, and then of
 /// its eight rows.
-// Ruled out: rows before columns; and the inverse transform.
+// Rules out: rows before columns; the inverse transform.
 pub fn dct8x8(a: &mut [f32])
     requires { length a.old ≡ 64 }
     ensures { a.new ≡ dct8x8 a.old }
@@ -209,7 +209,9 @@ pub enum Transform {
 }
 
 // The transform of the 64 values of a block.
-// Kept: a slice with its length. Document 01 names what it is handed, "a part starting at 64 times the block number"; an array of that part would be `as_mut_array().unwrap()` in `transform_block` and twice in `probe`, for two other callers that have an array.
+// Kept: a slice with its length, since it is handed the part that starts at 64 times the block
+// number; an array of that part would be `as_mut_array().unwrap()` in `transform_block` and twice
+// in `probe`, for two other callers that have an array.
 pub fn transform8x8(a: &mut [f32], transform: Transform)
     requires { length a.old ≡ 64 }
     ensures { a.new ≡ transform8x8 transform a.old }
@@ -238,4 +240,22 @@ pub fn transform_blocks(xs: &mut [f32], transform: Transform)
     for i in 0..xs.len() / 64 {
         transform_block(xs, i, transform);
     }
+}
+
+/// The inverse transform of each whole block.
+// Rules out: the forward transform; the first block alone; a value past the last whole block
+// changed.
+pub fn idct_blocks(xs: &mut [f32])
+    ensures { xs.new ≡ upto (on_block idct8x8) (length xs.old / 64) xs.old }
+{
+    transform_blocks(xs, Transform::Inverse);
+}
+
+/// The forward transform of each whole block.
+// Rules out: the inverse transform; the first block alone; a value past the last whole block
+// changed.
+pub fn dct_blocks(xs: &mut [f32])
+    ensures { xs.new ≡ upto (on_block dct8x8) (length xs.old / 64) xs.old }
+{
+    transform_blocks(xs, Transform::Forward);
 }

@@ -12,7 +12,6 @@ use Rattle.fold.proofs.Loops.{upto_ext}
 use Rattle.fold.proofs.Parts.{part_at, part_length}
 use Rattle.float.specs.Names.{val}
 use Rattle.float.specs.Ops.{clamp}
-use Rattle.utils.specs.Lanes.{eight}
 use Rattle.utils.proofs.Rows.{eight_ext, turned_row}
 use Rattle.projection.specs.Projection.{tally}
 use Rattle.projection.proofs.clip.clamp_row.Goals as goal

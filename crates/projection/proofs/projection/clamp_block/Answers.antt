@@ -1,5 +1,5 @@
 -- Kept: the check finds none of these alone (scripts/answers tries each).
-use Rattle.std.proofs.Common.{◌≡◌, ℕ, ◌+◌, ◌*◌, ◌<◌, List, ap, ◌∙◌, arith, rules}
+use Rattle.std.proofs.Common.{ℕ, ◌<◌, List, ap, ◌∙◌, arith, rules}
 use lib.Ieee.{Float}
 use Rattle.float.specs.Names.{val}
 use Rattle.fold.proofs.Loops.{upto-call, upto-end, upto_nest}

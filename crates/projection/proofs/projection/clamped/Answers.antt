@@ -34,7 +34,7 @@ returns c =
     let n : c.block_count-n.result ≡ block_count c.args.coef.now.own = rw (← c.scalar.ensures.1) c.block_count-n.ensures.0 in
     let own = take (c.block_count-n.result * 64) c.args.x.now in
     let m : length own / 64 ≡ c.block_count-n.result = omega (arith, length-take-le (c.block_count-n.result * 64) c.args.x.now (search rules)) in
-    let transformed : c.transform_blocks.new.xs ++ drop (c.block_count-n.result * 64) c.args.x.now ≡ upto (on_block dct8x8) c.block_count-n.result c.args.x.now =
-    ap (λ t. t ++ drop (c.block_count-n.result * 64) c.args.x.now) (rw (c.transform_blocks.ensures, m)) ∙ blocks_within dct8x8 dct_length c.block_count-n.result (c.block_count-n.result * 64) c.args.x.now (search rules) (omega arith) in
+    let transformed : c.dct_blocks.new.xs ++ drop (c.block_count-n.result * 64) c.args.x.now ≡ upto (on_block dct8x8) c.block_count-n.result c.args.x.now =
+    ap (λ t. t ++ drop (c.block_count-n.result * 64) c.args.x.now) (rw (c.dct_blocks.ensures, m)) ∙ blocks_within dct8x8 dct_length c.block_count-n.result (c.block_count-n.result * 64) c.args.x.now (search rules) (omega arith) in
     rw (← n, ← transformed)
     (upto-end _ _ _ _ v.2 (omega arith), upto-end _ _ _ _ v.3 (omega arith ∙ n) ∙ clipped_blocks (as_coef c.args.coef.now) c.args.coef.now.covers.eights _)

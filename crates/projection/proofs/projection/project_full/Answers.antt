@@ -24,8 +24,8 @@ returns c =
     let saved : c.copy_from_slice.new.self ++ drop w c.args.saved.now ≡ keep w x c.args.saved.now =
     ap (λ t. t ++ drop w c.args.saved.now) own ∙ kept w x c.args.saved.now long (search rules) in
     let n : length (take w x) / 64 ≡ block_count o = omega (arith, length-take-le w x long, fill) in
-    let across : c.transform_blocks.new.xs ++ drop w x ≡ upto (on_block idct8x8) (block_count o) x =
-    ap (λ t. t ++ drop w x) (rw (c.transform_blocks.ensures, n)) ∙ blocks_within idct8x8 idct_length (block_count o) w x long (omega (arith, fill)) in (
-      λ d. rw (← c.move_blocks.ensures, ← m.0, ← c.px_count-count.ensures.0, ← saved, ← across, ← c.move_blocks-2.ensures),
-      rw (← c.move_blocks.ensures) m.1,
+    let across : c.idct_blocks.new.xs ++ drop w x ≡ upto (on_block idct8x8) (block_count o) x =
+    ap (λ t. t ++ drop w x) (rw (c.idct_blocks.ensures, n)) ∙ blocks_within idct8x8 idct_length (block_count o) w x long (omega (arith, fill)) in (
+      λ d. rw (← c.to_blocks.ensures.moved, ← m.0, ← c.px_count-count.ensures.0, ← saved, ← across, ← c.from_blocks.ensures.moved),
+      rw (← c.to_blocks.ensures.moved) m.1,
     )

@@ -13,5 +13,5 @@ pub returns : goal.returns
 returns c =
     let e : c.fill.new.self ≡ replicate (px_count c.args.self.now.own) f0 = search (rules, c.requires) in
     let o = c.args.self.now.own in
-    let n : length c.init_dct_target.new.out / 64 ≡ block_count o = omega (arith, c.requires, blocks_fill o.width o.height c.args.self.now.eights.0 c.args.self.now.eights.1) in
-    rw (← e, ← c.init_dct_target.ensures, ← n) c.transform_blocks.ensures
+    let n : length c.init_dct_target_into.new.out / 64 ≡ block_count o = omega (arith, c.requires, blocks_fill o.width o.height c.args.self.now.eights.0 c.args.self.now.eights.1) in
+    rw (← e, ← c.init_dct_target_into.ensures, ← n) c.idct_blocks.ensures

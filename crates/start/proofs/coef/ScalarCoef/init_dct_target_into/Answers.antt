@@ -4,7 +4,7 @@ use native.Mathlib.Omega.{arith}
 use Rattle.fold.proofs.Loops.{upto-call, upto-end}
 use Rattle.fold.specs.Fold.{upto}
 use Rattle.start.specs.Coef.{init_dct_target}
-use Rattle.start.proofs.coef.ScalarCoef.init_dct_target.Goals as goal
+use Rattle.start.proofs.coef.ScalarCoef.init_dct_target_into.Goals as goal
 
 pub loop-i-init : goal.loop-i-init
 unfolding upto
