@@ -1,11 +1,12 @@
 // A sheet but for its text: the types that reading gives and solving takes.
 #![tactic(auto)]
 
-ghost use Rattle.std.specs.Prelude.{◌≡◌, ◌<◌};
-ghost use Rattle.contents.specs.Weights.{value_of};
+ghost use Rattle.std.specs.Prelude.{◌≡◌, ◌<◌, ◌≤◌, ℕ, true};
+ghost use Rattle.contents.specs.Weights.{value_of, plain};
+ghost use Rattle.contents.specs.Legal.{LegalWeight};
 ghost use Rattle.contents.specs.Three.{three_at};
 ghost use Rattle.contents.specs.Letters.{chosen, letter_from, reader_from};
-ghost use Rattle.contents.specs.Hold.{measured, hold_at};
+ghost use Rattle.contents.specs.Hold.{measured, hold_at, LegalHold};
 ghost use Rattle.contents.specs.Sheets.{no_weight, channel_at, channels_of};
 ghost use Rattle.contents.specs.Marks.{blocks_in, blocks_before, block_of, has_block};
 
@@ -235,3 +236,16 @@ pub fn has_block(s: Sheet, m: Mark) -> bool
     let c = channel_at(s, m.channel);
     m.channel < s.header.channels && m.row < c.height / 8 && m.column < c.width / 8
 }
+
+/// A legal weight is worth a finite number with no sign bit.
+// Rules out: a weight of NaN, of an infinity or of -0.
+pub fn weights_law()
+    ensures { (w : Weight) → LegalWeight w → plain (value_of w) ≡ true }
+{}
+
+/// No channel is held after more steps than it has.
+// Rules out: a held count above the iteration count that it is measured against.
+pub fn holds_law()
+    ensures { (s : Sheet) → LegalHold s.header s.settings.hold → (c : ℕ) →
+        hold_at s c ≤ measured s.header c }
+{}

@@ -48,6 +48,10 @@ pub decimal_some : (n : ℕ) → 1 ≤ length (decimal n)
 unfolding decimal
 decimal_some n = some_digits 5 n
 
+pub decimal_head : (n : ℕ) → 1 ≤ n → n < 10 ^ 6 → get_or (decimal n) 0 0 ≡ 48 → ⊥
+unfolding decimal
+decimal_head n l h = head_digit 5 n l h
+
 pub hex_length : (k n : ℕ) → length (hex_of k n) ≡ k
 hex_length zero n = refl
 hex_length (suc k) n = length-append (hex_of k (n / 16)) (hex_byte (n % 16) ∷ []) ∙ omega (arith, hex_length k (n / 16))

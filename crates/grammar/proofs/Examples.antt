@@ -367,6 +367,6 @@ unfolding reads
 other_lengths = (refl, refl, refl, refl, refl)
 
 -- so many bytes decide any text of `smooth`
-decides_at_32 : decisive 32 ≡ 39294
+pub decides_at_32 : decisive 32 ≡ 39294
 unfolding decisive longest decimal
 decides_at_32 = refl

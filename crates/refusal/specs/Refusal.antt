@@ -1,5 +1,5 @@
 -- The table of refusals: "No. | Word | In plain words" of README.
-use Rattle.std.specs.Prelude.{ℕ, ◌-◌, ◌≡◌, List, [], ◌∷◌, get_or, Result, Ok, Err, refl}
+use Rattle.std.specs.Prelude.{ℕ, ◌-◌, ◌≡◌, List, [], ◌∷◌, ◌++◌, get_or, codes, decimal, Result, Ok, Err, refl}
 use Rattle.refusal.specs.declared.Refusal.{Refusal}
 use Rattle.refusal.specs.declared.Refusal.TheVariants as refusal
 
@@ -25,6 +25,33 @@ number_of refusal.Hold = 17
 number_of refusal.Mark = 18
 number_of refusal.Segment = 19
 number_of refusal.Precision = 20
+
+-- its word there
+abbrev pub word_of : Refusal → List ℕ
+word_of refusal.Form = codes "form"
+word_of refusal.Size = codes "size"
+word_of refusal.Factor = codes "factor"
+word_of refusal.Table = codes "table"
+word_of refusal.Level = codes "level"
+word_of refusal.Weight = codes "weight"
+word_of refusal.Cut = codes "cut"
+word_of refusal.Length = codes "length"
+word_of refusal.Turn = codes "turn"
+word_of refusal.Blown = codes "blown"
+word_of refusal.Done = codes "done"
+word_of refusal.Channel = codes "channel"
+word_of refusal.Record = codes "record"
+word_of refusal.Range = codes "range"
+word_of refusal.Page = codes "page"
+word_of refusal.Seam = codes "seam"
+word_of refusal.Hold = codes "hold"
+word_of refusal.Mark = codes "mark"
+word_of refusal.Segment = codes "segment"
+word_of refusal.Precision = codes "precision"
+
+-- what is printed of it: its number, and its word in brackets
+abbrev pub shown : Refusal → List ℕ
+shown r = codes "refusal " ++ (decimal (number_of r) ++ (codes " (" ++ (word_of r ++ codes ")")))
 
 -- the number that a call answers: 0 where nothing is refused
 abbrev pub answer_number : {A : Type 0} → Result A Refusal → ℕ

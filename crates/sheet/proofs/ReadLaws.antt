@@ -8,6 +8,10 @@ use lib.ListN.{length, drop_of_length-le}
 use lib.Seq.{sets, sets-eq}
 use lib.IntN.{ℤ, pos}
 use borrow.Author.Tests.{eq-eqb}
+use Rattle.std.specs.Prelude.{Err}
+use Rattle.contents.specs.declared.Limits.{Limits}
+use Rattle.refusal.specs.Refusal.{number_of}
+use Rattle.sheet.specs.declared.walk.Refused as walk
 use Rattle.sheet.specs.declared.walk.Walked.{Walked}
 use Rattle.contents.specs.declared.Reader.{Reader}
 use Rattle.contents.specs.declared.Reader.TheVariants as reader
@@ -15,7 +19,7 @@ use Rattle.contents.specs.Sheets.{Lent, lent, Marked, Held}
 use Rattle.contents.specs.Marks.{hidden, hide, seen_by}
 use Rattle.sheet.specs.Reading.{Outcome, Contents}
 use Rattle.sheet.specs.Reading.Outcome.{Gives, Refused}
-use Rattle.sheet.specs.Calls.{fitted, sheet_in, lent_after}
+use Rattle.sheet.specs.Calls.{fitted, reading, sheet_in, lent_after, Reads}
 use Rattle.hiding.specs.Shown.{shown_by, shown_to}
 use Rattle.sheet.specs.Walk.{Bits, walked_of, Stores, Maps}
 
@@ -60,3 +64,11 @@ module _ (who : Reader) (into : Lent) (w : Walked) (g : w.lows ≡ length into.l
       let y : after.tables ≡ b.tables = z.2 ∙ all_set into.tables b.tables tables in
       rw (eq-eqb (length b.lows) (length into.lows) lows, eq-eqb (length b.highs) (length into.highs) highs, eq-eqb (length b.tables) (length into.tables) tables)
       (ap Gives (sym (counts c v r).sheet), (λ i. lent (shown_to who bits (l i)) (shown_to who bits (k i)) (y i)) ∙ seen-is who c.held bits o)
+
+-- a refusal leaves the lent buffers
+kept_by : (who : Reader) (T : Outcome Contents) (into after : Lent) (k line : ℕ) → Refused k line ≡ sheet_in T → after ≡ lent_after who T into → after ≡ into
+kept_by who (Gives c) into after k line e h = absurd cc
+kept_by who (Refused j b) into after k line e h = h
+
+pub refused_kept : (limits : Limits) (text : List ℕ) (who : Reader) (into after : Lent) (f : walk.Refused) → Reads limits who text into after (Err f) → after ≡ into
+refused_kept limits text who into after f r = kept_by who (reading limits text into) into after (number_of f.refusal) f.line r.answer r.lent

@@ -1,9 +1,10 @@
 -- What measuring and reading promise.
-use Rattle.std.specs.Prelude.{ℕ, ◌≡◌, List, Bool, cond, ◌&&◌, length, eqb, Result}
+use Rattle.std.specs.Prelude.{ℕ, ◌≡◌, List, Bool, cond, ◌&&◌, length, replicate, eqb, Result}
 use Rattle.std.proofs.lemmas.List.Edits.{sets}
 use Rattle.contents.specs.declared.Limits.{Limits}
 use Rattle.contents.specs.declared.Sheet.{Sheet}
 use Rattle.sheet.specs.declared.Lengths.{Lengths}
+use Rattle.sheet.specs.declared.Outlined.{Outlined}
 use Rattle.sheet.specs.declared.walk.Walked.{Walked}
 use Rattle.sheet.specs.declared.walk.Refused as walk
 use Rattle.contents.specs.declared.Reader.{Reader}
@@ -20,6 +21,18 @@ lengths_of (Refused k line) = Refused k line
 
 abbrev pub measuring : Limits → List ℕ → Outcome Lengths
 measuring limits text = lengths_of (read_text limits text)
+
+-- What stands before the levels of a legal text: the sheet, and its tables at the front of places for three
+abbrev pub outline_in : Contents → Outlined
+outline_in c = record { sheet = c.sheet; tables = sets (replicate 192 0) 0 c.held.lent.tables }
+
+abbrev pub outline_of : Outcome Contents → Outcome Outlined
+outline_of (Gives c) = Gives (outline_in c)
+outline_of (Refused k line) = Refused k line
+
+-- the outline of a legal text, and for any other the same refusal as reading
+abbrev pub outlining : Limits → List ℕ → Outcome Outlined
+outlining limits text = outline_of (read_text limits text)
 
 -- Counting a text: its answer, and a legal text's quantisers at the front of the lent tables, as far as there is room
 abbrev pub Listed : Outcome Contents → List ℕ → List ℕ → Type 0

@@ -1,5 +1,5 @@
 -- What the walk over a text promises its two callers.
-use Rattle.std.specs.Prelude.{ℕ, ◌≡◌, List, Bool, false, length, get_or, Ok, Err, Result}
+use Rattle.std.specs.Prelude.{ℕ, ◌≡◌, List, ◌++◌, Bool, false, length, get_or, codes, decimal, Ok, Err, Result}
 use Rattle.std.proofs.lemmas.List.Edits.{sets}
 use Rattle.refusal.specs.Refusal as table
 use Rattle.contents.specs.declared.Limits.{Limits}
@@ -20,6 +20,10 @@ pub record Bits (ms : List Marked) (bits : List Bool) : Type 0 where
 abbrev pub said : {A : Type 0} → Result A walk.Refused → Outcome A
 said (Ok x) = Gives x
 said (Err r) = Refused (table.number_of r.refusal) r.line
+
+-- What is printed of a refusal: its number and word, and its line
+abbrev pub shown : walk.Refused → List ℕ
+shown r = table.shown r.refusal ++ (codes " at line " ++ decimal r.line)
 
 -- The answer of a walk
 abbrev pub walked_of : Outcome Contents → Outcome Walked

@@ -1,8 +1,8 @@
 // Reading line by line and field by field.
-ghost use Rattle.std.specs.Prelude.{◌≡◌};
+ghost use Rattle.std.specs.Prelude.{◌≡◌, Some};
 ghost use Rattle.contents.specs.Sheets.{lent};
 ghost use Rattle.sheet.specs.Reading.{allowed};
-ghost use Rattle.sheet.specs.Walk.{Walks};
+ghost use Rattle.sheet.specs.Walk.{Walks, shown};
 
 use contents::{Limits, Sheet};
 use lines::Tag;
@@ -12,18 +12,22 @@ use std::fmt;
 use text::field::Field;
 use text::{field, pieces};
 
-// Why a text is refused, and at which line, counted from 1; line 0 where it is no line's fault.
+/// Why a text is refused, and at which line, counted from 1; line 0 where it is no line's fault.
 #[derive(Clone, Copy, Debug, PartialEq, Eq)]
 pub struct Refused {
     pub refusal: Refusal,
     pub line: usize,
 }
 
+/// The refusal as it is shown alone, and the line: `refusal 4 (table) at line 2`.
+// Rules out: the line in the number's place; the line counted from 0.
 impl fmt::Display for Refused {
+    ghost output = { λ r. Some (shown r) };
+
     fn fmt<W: fmt::Write>(&self, f: &mut fmt::Formatter<W>) -> fmt::Result {
-        let number = self.refusal.number();
+        let refusal = self.refusal;
         let line = self.line;
-        write!(f, "refusal {number} at line {line}")
+        write!(f, "{refusal} at line {line}")
     }
 }
 

@@ -6,62 +6,50 @@ use mathlib.Core.Bool.{Bool, true, false, cond, ◌&&◌}
 use mathlib.Core.Logic.{⊎_elim}
 use native.Mathlib.Omega.{arith}
 use lib.Dec.{eqb, leb}
-use lib.ListN.{length, drop, drop_of_length-le}
+use lib.ListN.{length, drop, replicate, drop_of_length-le}
 use lib.Seq.{sets, sets-eq}
-use borrow.Author.Tests.{eq-eqb, ne_eqb, leb-true}
+use borrow.Author.Tests.{eq-eqb, ne_eqb, leb-true, le-leb}
 use Rattle.digits.specs.Written.{decimal}
 use Rattle.digits.proofs.Both.{both_left}
-use Rattle.std.specs.Prelude.{Result, Ok, Err, Some}
+use Rattle.std.specs.Prelude.{Result, Ok, Err}
 use Rattle.contents.specs.declared.Sheet.{Sheet}
 use Rattle.contents.specs.Legal.{LegalSheet, LegalBlocks, LegalMarks}
 use Rattle.refusal.specs.Refusal.{number_of}
-use Rattle.stitch.specs.declared.Side.{Side}
-use Rattle.sheet.specs.declared.walk.Walked.{Walked}
+use Rattle.sheet.specs.declared.Outlined.{Outlined}
 use Rattle.sheet.specs.declared.walk.Refused as walk
-use Rattle.sheet.specs.Walk.{walked_of}
-use Rattle.sheet.specs.Calls.{Listed, Counts}
+use Rattle.sheet.specs.Calls.{outline_in, outline_of}
 use Rattle.sheet.specs.Reading.{Outcome, Contents, contents, read_text}
 use Rattle.sheet.specs.Reading.Outcome.{Gives, Refused}
 use Rattle.grammar.specs.Longest.{longest}
-use Rattle.grammar.proofs.CanonicalLaws.{canonical}
+use Rattle.grammar.specs.Accepts.{TextOf}
+use Rattle.grammar.proofs.CanonicalLaws.{canonical, accepts}
 use Rattle.grammar.proofs.LegalLaws.{legal, legal_blocks, legal_marks}
 use Rattle.grammar.proofs.RoundTrip.{round_trip}
 use Rattle.grammar.proofs.PrefixLaws.{at-most}
 use Rattle.stitch.specs.declared.Fit.{Fit}
 use Rattle.stitch.specs.declared.Refused as faults
-use Rattle.stitch.specs.Numbers.{Numbers, which_of, numbers}
+use Rattle.stitch.specs.Numbers.{Numbers, numbers}
 use Rattle.seam.specs.Seam.{same_sheet, same_numbers, seam}
 use Rattle.stitch.specs.Stitched.{stitched_sheet, stitched_held}
 use Rattle.stitch.specs.Bytes.{stitch_text}
-use Rattle.stitch.specs.Calls.{whole, Stitch, output_of, joining, stitching, measuring, sized, answering, out_after, Stitches}
+use Rattle.stitch.specs.Calls.{whole, Stitch, output_of, joining, stitching, measuring, sized, answering, out_after, Stitches, FitTogether}
 use Rattle.stitch.specs.Calls.Stitch.{Text, Fault}
-use Rattle.stitch.specs.Judging.{Outlines, outlining, neither, judging, fit_of}
+use Rattle.stitch.specs.Judging.{outlining, neither, judging, fit_of}
 use Rattle.stitch.proofs.TextLaws.{as_copied}
 use Rattle.stitch.proofs.LegalLaws.{Fits, sheets_fit, pair, stitched_legal, stitched_blocks, stitched-marks}
 
 -- A text's outline
+pub outlined : (which : ℕ) (T : Outcome Contents) (o : Outlined) → Gives o ≡ outline_of T → Ok o ≡ outlining which T
+outlined which (Gives c) o e = let g : o ≡ outline_in c = cc in ap Ok g
+outlined which (Refused k line) o e = absurd cc
 
-outlined_ok : (which : ℕ) (T : Outcome Contents) (w : Walked) → Gives w ≡ walked_of T → Ok w.sheet ≡ outlining which T
-outlined_ok which (Gives c) w e =
-    let g : w ≡ record { sheet = c.sheet; lows = length c.held.lent.lows; highs = length c.held.lent.highs; tables = length c.held.lent.tables } = cc in
-    ap (λ (x : Walked). Ok x.sheet) g
-outlined_ok which (Refused k line) w e = absurd cc
+unread_by : (which k line : ℕ) (T : Outcome Contents) → Refused k line ≡ outline_of T → Err (record { number = k; which = which; line = line }) ≡ outlining which T
+unread_by which k line (Gives c) e = absurd cc
+unread_by which k line (Refused j b) e = cc
 
-outlined_err : (which k line : ℕ) (T : Outcome Contents) → Refused k line ≡ walked_of T → Err (record { number = k; which = which; line = line }) ≡ outlining which T
-outlined_err which k line (Gives c) e = absurd cc
-outlined_err which k line (Refused j b) e = cc
-
-module _ (side : Side) (text before after : List ℕ) where
-  pub outlined : (w : Walked) → Counts whole text before after (Ok w) → Outlines side text before after (Ok w.sheet)
-  outlined w o = record { answer = outlined_ok (which_of (Some side)) (read_text whole text) w o.answer; tables = o.tables }
-
-  pub unread : (r : walk.Refused) (s : faults.Refused) → numbers s ≡ record { number = number_of r.refusal; which = which_of (Some side); line = r.line }
-      → Counts whole text before after (Err r) → Outlines side text before after (Err s)
-  unread r s n o =
-      record {
-        answer = ap Err n ∙ outlined_err (which_of (Some side)) (number_of r.refusal) r.line (read_text whole text) o.answer;
-        tables = o.tables;
-      }
+pub unread : (which : ℕ) (T : Outcome Contents) (r : walk.Refused) (n : Numbers) → n ≡ record { number = number_of r.refusal; which = which; line = r.line }
+    → Refused (number_of r.refusal) r.line ≡ outline_of T → Err n ≡ outlining which T
+unread which T r n e o = ap Err e ∙ unread_by which (number_of r.refusal) r.line T o
 
 -- Whether they fit
 
@@ -131,7 +119,7 @@ module _ (left right : List ℕ) (c d : Contents) (p : read_text whole left ≡ 
         (stitched_blocks c.sheet d.sheet c.held d.held legal_left blocks_left legal_right blocks_right fits)
         (stitched-marks c.sheet d.sheet c.held d.held legal_left blocks_left legal_right blocks_right fits marks_left marks_right)
 
-    text_is : stitch_text c.sheet d.sheet left right ≡ output_of c d
+    pub text_is : stitch_text c.sheet d.sheet left right ≡ output_of c d
     unfolding output_of
     text_is =
         (λ i. stitch_text c.sheet d.sheet (canonical whole left c.sheet c.held p i) (canonical whole right d.sheet d.held q i))
@@ -221,22 +209,39 @@ module _ (left right : List ℕ) where
 -- What judging answers
 
 -- both are read
-module _ (left right z a b : List ℕ) (n : length z ≡ 192) (s t : Sheet) where
-  pub judge_both : (T U : Outcome Contents) → read_text whole left ≡ T → read_text whole right ≡ U → Ok s ≡ outlining 1 T → Ok t ≡ outlining 2 U → Listed T z a → Listed U z b → fit_of s t a b ≡ judging T U
+module _ (left right : List ℕ) (s t : Outlined) where
+  pub judge_both : (T U : Outcome Contents) → read_text whole left ≡ T → read_text whole right ≡ U → Ok s ≡ outlining 1 T → Ok t ≡ outlining 2 U → fit_of s.sheet t.sheet s.tables t.tables ≡ judging T U
   unfolding seam
-  judge_both (Refused m l) U f g e h y u = absurd cc
-  judge_both (Gives c) (Refused m l) f g e h y u = absurd cc
-  judge_both (Gives c) (Gives d) f g e h y u =
-      let p : c.sheet ≡ s = cc in
-      let q : d.sheet ≡ t = cc in
-      (λ i. fit_of (sym p i) (sym q i) a b)
+  judge_both (Refused m l) U f g e h = absurd cc
+  judge_both (Gives c) (Refused m l) f g e h = absurd cc
+  judge_both (Gives c) (Gives d) f g e h =
+      let p : outline_in c ≡ s = cc in
+      let q : outline_in d ≡ t = cc in
+      (λ i. fit_of (sym p i).sheet (sym q i).sheet (sym p i).tables (sym q i).tables)
       ∙ ap
       (λ (x : Bool). cond x (cond (leb (c.sheet.header.width + d.sheet.header.width) 512) (Ok (record { left = c.sheet; right = d.sheet })) (Err (neither 2))) (Err (neither 16)))
       seam_is
     where
-      by : (x : Bool) → same_sheet c.sheet d.sheet ≡ x → (same_sheet c.sheet d.sheet && same_numbers a b) ≡ (same_sheet c.sheet d.sheet && same_numbers c.held.lent.tables d.held.lent.tables)
-      by false e = rw e
-      by true e = rw e ((λ i. same_numbers (y i) (u i)) ∙ seam_tables left right c d f g z n e)
+      places : List ℕ
+      places = replicate 192 0
 
-      seam_is : (same_sheet c.sheet d.sheet && same_numbers a b) ≡ seam c d
+      by : (x : Bool) → same_sheet c.sheet d.sheet ≡ x
+          → (same_sheet c.sheet d.sheet && same_numbers (sets places 0 c.held.lent.tables) (sets places 0 d.held.lent.tables)) ≡ (same_sheet c.sheet d.sheet && same_numbers c.held.lent.tables d.held.lent.tables)
+      by false e = rw e
+      by true e = rw e (seam_tables left right c d f g places refl e)
+
+      seam_is : (same_sheet c.sheet d.sheet && same_numbers (sets places 0 c.held.lent.tables) (sets places 0 d.held.lent.tables)) ≡ seam c d
       seam_is = by (same_sheet c.sheet d.sheet) refl
+
+-- What stitching two texts that fit writes
+module _ (left right : List ℕ) (c d : Contents) (f : FitTogether left right c d) where
+  pub joined_text : stitching left right ≡ Text (output_of c d)
+  joined_text = whole_text left right c d f.left_reads f.right_reads f.fit (le-leb (c.sheet.header.width + d.sheet.header.width) 512 f.wide)
+
+  pub joined_legal : TextOf whole (stitched_sheet c.sheet d.sheet) (stitched_held c.sheet d.sheet c.held d.held) (output_of c d)
+  joined_legal =
+      (accepts whole (output_of c d) (stitched_sheet c.sheet d.sheet) (stitched_held c.sheet d.sheet c.held d.held)).only
+      (output_reads left right c d f.left_reads f.right_reads f.fit f.wide)
+
+  pub joined_copied : stitch_text c.sheet d.sheet left right ≡ output_of c d
+  joined_copied = text_is left right c d f.left_reads f.right_reads f.fit f.wide

@@ -1,5 +1,5 @@
 -- What stitching and measuring promise. Document 02, M-107.
-use Rattle.std.specs.Prelude.{ℕ, ◌+◌, ◌≡◌, List, cond, length, eqb, leb, Result, Ok, Err}
+use Rattle.std.specs.Prelude.{ℕ, ◌+◌, ◌≤◌, ◌≡◌, List, true, cond, length, eqb, leb, Result, Ok, Err}
 use Rattle.contents.specs.declared.Limits.{Limits}
 use Rattle.sheet.specs.Reading.{Outcome, Contents, read_text}
 use Rattle.sheet.specs.Reading.Outcome.{Gives, Refused}
@@ -58,3 +58,10 @@ out_after (Fault k which line) out = out
 pub record Stitches (left right before after : List ℕ) (r : Result Unit faults.Refused) : Type 0 where
   pub answer : numbered r ≡ answering (sized before (stitching left right))
   pub out : after ≡ out_after (sized before (stitching left right)) before
+
+-- Two texts that are read and fit side by side, with what they hold
+pub record FitTogether (left right : List ℕ) (c d : Contents) : Type 0 where
+  pub left_reads : read_text whole left ≡ Gives c
+  pub right_reads : read_text whole right ≡ Gives d
+  pub fit : seam c d ≡ true
+  pub wide : c.sheet.header.width + d.sheet.header.width ≤ 512

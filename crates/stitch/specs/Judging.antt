@@ -1,24 +1,18 @@
 -- What judging both texts promises: the sheets where they fit, else the refusal.
-use Rattle.std.specs.Prelude.{ℕ, ◌+◌, ◌≡◌, List, cond, ◌&&◌, leb, Some, Result, Ok, Err}
+use Rattle.std.specs.Prelude.{ℕ, ◌+◌, List, cond, ◌&&◌, leb, Result, Ok, Err}
 use Rattle.contents.specs.declared.Sheet.{Sheet}
-use Rattle.sheet.specs.Reading.{Outcome, Contents, read_text}
+use Rattle.sheet.specs.Reading.{Outcome, Contents}
 use Rattle.sheet.specs.Reading.Outcome.{Gives, Refused}
-use Rattle.sheet.specs.Calls.{Listed}
+use Rattle.sheet.specs.declared.Outlined.{Outlined}
+use Rattle.sheet.specs.Calls.{outline_in}
 use Rattle.stitch.specs.declared.Fit.{Fit}
-use Rattle.stitch.specs.declared.Refused as faults
-use Rattle.stitch.specs.declared.Side.{Side}
-use Rattle.stitch.specs.Numbers.{Numbers, which_of, numbered}
+use Rattle.stitch.specs.Numbers.{Numbers}
 use Rattle.seam.specs.Seam.{same_numbers, same_sheet, seam}
-use Rattle.stitch.specs.Calls.{whole}
 
--- a text's sheet, or the refusal of the text that `which` names
-abbrev pub outlining : ℕ → Outcome Contents → Result Sheet Numbers
-outlining which (Gives c) = Ok c.sheet
+-- a text's sheet and tables, or the refusal of the text that `which` names
+abbrev pub outlining : ℕ → Outcome Contents → Result Outlined Numbers
+outlining which (Gives c) = Ok (outline_in c)
 outlining which (Refused k line) = Err (record { number = k; which = which; line = line })
-
-pub record Outlines (side : Side) (text before after : List ℕ) (r : Result Sheet faults.Refused) : Type 0 where
-  pub answer : numbered r ≡ outlining (which_of (Some side)) (read_text whole text)
-  pub tables : Listed (read_text whole text) before after
 
 -- a refusal of neither text
 abbrev pub neither : ℕ → Numbers

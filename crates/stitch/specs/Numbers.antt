@@ -1,6 +1,7 @@
 -- The answers of calls in numbers: a refusal's in the table, which text it is about, and its line there.
-use Rattle.std.specs.Prelude.{ℕ, Option, Some, None, Result, Ok, Err}
+use Rattle.std.specs.Prelude.{ℕ, List, ◌++◌, codes, decimal, Option, Some, None, Result, Ok, Err}
 use Rattle.refusal.specs.Refusal.{number_of}
+use Rattle.refusal.specs.Refusal as table
 use Rattle.stitch.specs.declared.Side.{Side}
 use Rattle.stitch.specs.declared.Side.TheVariants as side
 use Rattle.stitch.specs.declared.Refused.{Refused}
@@ -22,3 +23,7 @@ numbers r = record { number = number_of r.refusal; which = which_of r.which; lin
 abbrev pub numbered : {A : Type 0} → Result A Refused → Result A Numbers
 numbered (Ok x) = Ok x
 numbered (Err r) = Err (numbers r)
+
+-- what is printed of a refusal: its number and word, which text it is about, and its line there
+abbrev pub shown : Refused → List ℕ
+shown r = table.shown r.refusal ++ (codes " of text " ++ (decimal (which_of r.which) ++ (codes " at line " ++ decimal r.line)))

@@ -10,4 +10,4 @@ pub returns : goal.returns
 returns c =
     let a = c.args in
     c.fitted.ensures
-    ∙ judge_both a.left.now a.right.now _ _ _ refl _ _ (read_text whole a.left.now) (read_text whole a.right.now) refl refl c.in_ok-one.ensures.answer c.in_ok-other.ensures.answer c.outline.ensures.tables c.outline-2.ensures.tables
+    ∙ judge_both a.left.now a.right.now _ _ (read_text whole a.left.now) (read_text whole a.right.now) refl refl c.in_ok-one.ensures c.in_ok-other.ensures
