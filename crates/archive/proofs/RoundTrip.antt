@@ -16,7 +16,7 @@ use Rattle.answers.proofs.Fill.{fill_done, fill_refused}
 use Rattle.answers.proofs.Lists.{listed_at, listed_is, listed_length}
 use Rattle.zigzag.specs.Zigzag.{to_raster, to_zigzag}
 use Rattle.zigzag.proofs.Places.{raster_in, zigzag_in, raster_rest, zigzag_rest, raster_zigzag, zigzag_raster}
-use Rattle.archive.specs.Archive.{val, before, stored_at, rearranged, chain, restored_at, restored, fitting, refusal, rearranging, restoring}
+use Rattle.archive.specs.Archive.{val, before, stored_at, rearranged, chain, restored_at, restored, fitting, refusal, rearranging, restoring, GivesBack}
 use Rattle.archive.proofs.Levels.{fits}
 
 -- y and a difference from y
@@ -122,6 +122,23 @@ restore_rearrange stored out back e h =
     let ok = accepted (length stored) (length out) (restored stored) c.0 in
     let size = listed_length (restored_at stored) (length stored) in
     rw (c.1, rearranged_restored stored ok.1, size, no_refusal (length stored) (length back) (restored stored) h ok.1 ok.2)
+
+-- the same of the lists that the two calls write
+pub rearranged_undone : (levels x : List ℤ) (n : ℕ) → fitting (length levels) n ≡ true → all level_ok levels ≡ true → x ≡ rearranged levels
+    → GivesBack restoring x levels
+unfolding restoring
+rearranged_undone levels x n f ok e back h =
+    let whole = (fits (length levels) n f).1 in
+    let size = listed_length (stored_at levels) (length levels) in
+    rw (e, restored_rearranged levels whole, size, no_refusal (length levels) (length back) levels h whole ok)
+
+pub restored_undone : (stored x : List ℤ) (n : ℕ) → fitting (length stored) n ≡ true → all level_ok (restored stored) ≡ true → x ≡ restored stored
+    → GivesBack rearranging x stored
+unfolding rearranging
+restored_undone stored x n f ok e back h =
+    let whole = (fits (length stored) n f).1 in
+    let size = listed_length (restored_at stored) (length stored) in
+    rw (e, rearranged_restored stored whole, size, no_refusal (length stored) (length back) (restored stored) h whole ok)
 
 -- "a refusal leaves both slices unchanged"
 pub rearrange_refused : (levels out : List ℤ) → (rearranging levels out).number ≢ 0 → (rearranging levels out).written ≡ out

@@ -1,8 +1,8 @@
 -- M-109: a channel's levels as the archive has them, and back. Levels stand in blocks of 64, each row by row; the archive has the
 -- blocks in the same order.
-use Rattle.std.specs.Prelude.{Bool, cond, not, ◌&&◌, List, [], ◌∷◌, ℕ, zero, suc, ◌-◌, ◌*◌, ◌/◌, ◌%◌, ltb, eqb, ℤ, pos, ◌+ℤ◌, ◌-ℤ◌, length, get_or}
+use Rattle.std.specs.Prelude.{◌≡◌, Bool, cond, not, ◌&&◌, List, [], ◌∷◌, ℕ, zero, suc, ◌-◌, ◌*◌, ◌/◌, ◌%◌, ltb, eqb, ℤ, pos, ◌+ℤ◌, ◌-ℤ◌, length, get_or}
 use Rattle.answers.specs.Tests.{first, test, all, level_ok}
-use Rattle.answers.specs.Answers.{Filled, fill}
+use Rattle.answers.specs.Answers.{Filled, filled, fill}
 use Rattle.answers.specs.Lists.{listed}
 use Rattle.zigzag.specs.Zigzag.{to_raster, to_zigzag}
 
@@ -56,6 +56,10 @@ rearranging levels out = fill (refusal (length levels) (length out) levels) (rea
 unfoldable pub restoring : List ℤ → List ℤ → Filled ℤ
 unfolding restored_at listed
 restoring stored out = fill (refusal (length stored) (length out) (restored stored)) (restored stored) out
+
+-- the call accepts `given`, whatever lies in room as long as `values`, and writes `values` there
+abbrev pub GivesBack : (List ℤ → List ℤ → Filled ℤ) → List ℤ → List ℤ → Type 0
+GivesBack call given values = (out : List ℤ) → length out ≡ length values → call given out ≡ filled 0 values
 
 -- ---- one place more, as the loop over the places goes
 

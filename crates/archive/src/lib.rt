@@ -2,11 +2,11 @@
 // that of the block before; and back. The functions but `rearrange` and `restore` are internal.
 #![tactic(auto)]
 
-ghost use Rattle.std.specs.Prelude.{◌≡◌, true, ◌+◌, ◌*◌, ◌/◌, ◌%◌, ◌<◌, ◌≤◌, length};
+ghost use Rattle.std.specs.Prelude.{◌≡◌, true, ◌+◌, ◌*◌, ◌/◌, ◌%◌, ◌<◌, ◌≤◌, OnOk, OnErr, length};
 ghost use Rattle.answers.specs.Tests.{all, level_ok};
 ghost use Rattle.answers.specs.Answers.{filled};
 ghost use Rattle.refusal.specs.Refusal.{answer_number};
-ghost use Rattle.archive.specs.Archive.{before, stored_at, rearranged, restored, turned, first_after, fitting, rearranging, restoring};
+ghost use Rattle.archive.specs.Archive.{before, stored_at, rearranged, restored, turned, first_after, fitting, rearranging, restoring, GivesBack};
 
 use answers::{level_ok, levels_ok};
 use refusal::Refusal;
@@ -101,10 +101,12 @@ fn restore_all(stored: &[i16], out: &mut [i16])
 // The levels of one channel, rearranged for the archive.
 // Kept: one function of both would be `call<O: Fn(&[i16]) -> bool, W: Fn(&[i16], &mut [i16])>(from, out, ok, write)`. It requires that `ok` may be called where the lengths fit
 // and `write` where `ok` said true, and ensures by `O.post` and `W.post` what the one says and the other leaves: four clauses on functions for eight lines that stand once less.
-// Ruled out: level 3 at place 3, where T.81 has level 16; and 2048 accepted in the last block, or `out` changed by a refusal.
+// Rules out: level 3 at place 3, where T.81 has level 16; 2048 accepted in the last block; `out` changed by a refusal; an archive from which other levels come back.
 #[tactic(auto, unfolding(crate::specs::Archive::rearranging))]
 pub fn rearrange(levels: &[i16], out: &mut [i16]) -> Result<(), Refusal>
-    ensures { filled (answer_number result) out.new ≡ rearranging levels.now out.old }
+    ensures written { filled (answer_number result) out.new ≡ rearranging levels.now out.old }
+    ensures undone { OnOk result (GivesBack restoring out.new levels.now) }
+    ensures unchanged { OnErr result (out.new ≡ out.old) }
 {
     if !fitting(levels.len(), out.len()) {
         return Err(Refusal::Length);
@@ -118,10 +120,12 @@ pub fn rearrange(levels: &[i16], out: &mut [i16]) -> Result<(), Refusal>
 
 // The levels of one channel, from what the archive has.
 // Kept: as `rearrange`.
-// Ruled out: a difference of 4,094 refused behind a first level of -2,047; and the differences 2,047 and 1 accepted, whose sum is no level.
+// Rules out: a difference of 4,094 refused behind a first level of -2,047; the differences 2,047 and 1 accepted, whose sum is no level; levels whose archive is another.
 #[tactic(auto, unfolding(crate::specs::Archive::restoring))]
 pub fn restore(stored: &[i16], out: &mut [i16]) -> Result<(), Refusal>
-    ensures { filled (answer_number result) out.new ≡ restoring stored.now out.old }
+    ensures written { filled (answer_number result) out.new ≡ restoring stored.now out.old }
+    ensures undone { OnOk result (GivesBack rearranging out.new stored.now) }
+    ensures unchanged { OnErr result (out.new ≡ out.old) }
 {
     if !fitting(stored.len(), out.len()) {
         return Err(Refusal::Length);

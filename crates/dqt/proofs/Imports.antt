@@ -1,5 +1,5 @@
 -- What an accepted import leaves: each destination has the last table that names it, and another one keeps its table.
-use mathlib.Core.Path.{◌≡◌, ap, ◌∙◌}
+use mathlib.Core.Path.{◌≡◌, sym, ap, ◌∙◌}
 use mathlib.Core.Bool.{true, not}
 use mathlib.Core.List.{List, [], ◌∷◌}
 use mathlib.Core.Logic.{◌≢◌}
@@ -8,9 +8,10 @@ use lib.Dec.{eqb}
 use lib.ListN.{length}
 use borrow.Author.Tests.{eqb-true}
 use Rattle.answers.specs.Tests.{test}
+use Rattle.answers.specs.Answers.{Filled, filled}
 use Rattle.answers.proofs.Tests.{holds, passed_of}
 use Rattle.answers.proofs.Fill.{fill_done, fill_refused}
-use Rattle.dqt.specs.Dqt.{val, framed, start, started, elements, faults, unzigzagged, imported, import_refusal, importing, export_refusal, exported, exporting, table_of}
+use Rattle.dqt.specs.Dqt.{val, framed, start, started, elements, faults, unzigzagged, imported, import_refusal, importing, export_refusal, exported, exporting, table_of, LastStored, UnnamedKept}
 use Rattle.dqt.proofs.Frames.{head_small}
 use Rattle.dqt.proofs.Sound.{Sound, each_sound}
 use Rattle.dqt.proofs.Tables.{kept, last}
@@ -46,6 +47,20 @@ module _ (s tables : List ℕ) (e : (importing s tables).number ≡ 0) where
     pub last_stored : (t : ℕ) → t < started s → val s (start t) ≡ d → ((u : ℕ) → t < u → u < started s → val s (start u) ≡ d → ⊥)
         → table_of (importing s tables).written d ≡ unzigzagged (elements s (start t))
     last_stored t l n h = ap (λ (x : List ℕ). table_of x d) accepted.is ∙ last s tables accepted.four d k (started s) small t l n h
+
+-- the same of the tables that an accepted import writes
+module _ (s old new : List ℕ) (e : filled 0 new ≡ importing s old) where
+  number : (importing s old).number ≡ 0
+  number = sym (ap (λ (f : Filled ℕ). f.number) e)
+
+  tables : (d : ℕ) → table_of new d ≡ table_of (importing s old).written d
+  tables d = ap (λ (f : Filled ℕ). table_of f.written d) e
+
+  pub last_is : LastStored s new
+  last_is d t k h = tables d ∙ last_stored s old number d k t h.among h.names h.last
+
+  pub unnamed_is : UnnamedKept s old new
+  unnamed_is d k h = tables d ∙ unnamed_kept s old number d k h
 
 -- "A refusal leaves all tables and the output unchanged"
 pub import_refused : (s tables : List ℕ) → (importing s tables).number ≢ 0 → (importing s tables).written ≡ tables

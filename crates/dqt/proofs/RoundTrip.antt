@@ -15,7 +15,7 @@ use Rattle.answers.proofs.Tests.{and_left, all-at, all_of, holds, passed_of}
 use Rattle.answers.proofs.Fill.{fill_done}
 use Rattle.zigzag.specs.Zigzag.{to_raster, to_zigzag}
 use Rattle.zigzag.proofs.Places.{raster_zigzag, raster_in, zigzag_in}
-use Rattle.dqt.specs.Dqt.{val, framed, non_zero, start, started, elements, faults, unzigzagged, imported, importing, exported_at, exported, export_refusal, exporting, table_of}
+use Rattle.dqt.specs.Dqt.{val, framed, non_zero, start, started, elements, faults, unzigzagged, imported, importing, exported_at, exported, export_refusal, exporting, table_of, ImportedAs}
 use Rattle.dqt.proofs.Frames.{quantiser_range}
 use Rattle.dqt.proofs.Sound.{Sound, all_sound}
 use Rattle.dqt.proofs.Tables.{same-tables, after_length, last}
@@ -116,3 +116,7 @@ export_exactly tables out four room = rw (eq-eqb (length tables) 256 four, eq-eq
     either : (b : Bool) → fill (first (test 4 (not b) ∷ [])) (exported tables) out ≡ cond b (filled 0 (exported tables)) (filled 4 out)
     either true = refl
     either false = refl
+
+-- the same of the segment that an accepted export writes
+pub exported_undone : (tables x : List ℕ) → length tables ≡ 256 → all table_ok tables ≡ true → x ≡ exported tables → ImportedAs x tables
+exported_undone tables x four ok e old room = rw e (accepts tables four ok old room)

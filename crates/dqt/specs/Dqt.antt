@@ -1,11 +1,11 @@
 -- M-113: tables from a DQT marker segment of T.81 B.2.4.1, and as one. The segment is FF DB, the length Lq in two bytes, and for each
 -- table a byte with Pq and Tq in its halves and then Q0 to Q63, in zigzag order. Here the four tables stand one after the other by
 -- destination, 64 quantisers each, row by row.
-use Rattle.std.specs.Prelude.{Bool, cond, not, ◌&&◌, List, [], ◌∷◌, ℕ, ◌+◌, ◌-◌, ◌*◌, ◌/◌, ◌%◌, leb, ltb, eqb, length, get_or}
+use Rattle.std.specs.Prelude.{◌≡◌, ◌≢◌, ◌<◌, Bool, cond, not, ◌&&◌, List, [], ◌∷◌, ℕ, ◌+◌, ◌-◌, ◌*◌, ◌/◌, ◌%◌, leb, ltb, eqb, length, get_or}
 use Rattle.fold.specs.Fold.{upto}
 use Rattle.fold.specs.Part.{part, splice}
 use Rattle.answers.specs.Tests.{first, test, all, table_ok}
-use Rattle.answers.specs.Answers.{Filled, fill}
+use Rattle.answers.specs.Answers.{Filled, filled, fill}
 use Rattle.answers.specs.Lists.{listed}
 use Rattle.zigzag.specs.Zigzag.{to_raster, to_zigzag}
 
@@ -71,6 +71,22 @@ unfoldable pub importing : List ℕ → List ℕ → Filled ℕ
 unfolding framed fault upto listed to_zigzag
 importing s tables = fill (import_refusal s tables) (imported s tables) tables
 
+-- ---- what an import leaves
+
+-- table t is the last of the segment that names destination d
+pub record IsLastFor (s : List ℕ) (d t : ℕ) : Type 0 where
+  pub among : t < started s
+  pub names : val s (start t) ≡ d
+  pub last : (u : ℕ) → t < u → u < started s → val s (start u) ≢ d
+
+-- each destination that is named has the last table for it, row by row
+abbrev pub LastStored : List ℕ → List ℕ → Type 0
+LastStored s new = (d t : ℕ) → d < 4 → IsLastFor s d t → table_of new d ≡ unzigzagged (elements s (start t))
+
+-- a destination that no table names has what it had
+abbrev pub UnnamedKept : List ℕ → List ℕ → List ℕ → Type 0
+UnnamedKept s old new = (d : ℕ) → d < 4 → ((t : ℕ) → t < started s → val s (start t) ≢ d) → table_of new d ≡ table_of old d
+
 -- ---- export
 
 -- byte j of destination d's 65: its head, precision 0 and d, then its quantisers in zigzag order
@@ -92,3 +108,7 @@ export_refusal tables out = first (test 8 (not (eqb (length tables) 256 && eqb (
 unfoldable pub exporting : List ℕ → List ℕ → Filled ℕ
 unfolding exported_at listed
 exporting tables out = fill (export_refusal tables out) (exported tables) out
+
+-- the segment is accepted by an import, which leaves these tables whatever stood there
+abbrev pub ImportedAs : List ℕ → List ℕ → Type 0
+ImportedAs segment tables = (old : List ℕ) → length old ≡ 256 → importing segment old ≡ filled 0 tables

@@ -2,11 +2,11 @@
 // destination, 64 quantisers each, row by row. The functions but `import` and `export` are internal.
 #![tactic(auto)]
 
-ghost use Rattle.std.specs.Prelude.{◌≡◌, true, ◌+◌, ◌<◌, ◌≤◌, length, drop};
+ghost use Rattle.std.specs.Prelude.{◌≡◌, true, ◌+◌, ◌<◌, ◌≤◌, OnOk, OnErr, length, drop};
 ghost use Rattle.answers.specs.Tests.{all, table_ok};
 ghost use Rattle.answers.specs.Answers.{filled};
 ghost use Rattle.refusal.specs.Refusal.{answer_number};
-ghost use Rattle.dqt.specs.Dqt.{val, framed, start, started, head_ok, non_zero, fault, faults, unzigzagged, stored, imported, table_byte, exported_at, exported, importing, exporting};
+ghost use Rattle.dqt.specs.Dqt.{val, framed, start, started, head_ok, non_zero, fault, faults, unzigzagged, stored, imported, table_byte, exported_at, exported, importing, exporting, LastStored, UnnamedKept, ImportedAs};
 
 use answers::tables_ok;
 use refusal::Refusal;
@@ -93,10 +93,13 @@ fn store_all(segment: &[u8], tables: &mut [u16; 256])
 }
 
 // The tables of a segment, each stored at its destination; the others keep theirs.
-// Ruled out: quantisers left in zigzag order; and the first table of a segment stored whose second one is refused.
+// Rules out: quantisers left in zigzag order; the first table of a segment stored whose second one is refused; the first of two tables for one destination; another destination cleared.
 #[tactic(auto, using(crate::proofs::Frames::framed_long), unfolding(crate::specs::Dqt::importing))]
 pub fn import(segment: &[u8], tables: &mut [u16]) -> Result<(), Refusal>
-    ensures { filled (answer_number result) tables.new ≡ importing segment.now tables.old }
+    ensures written { filled (answer_number result) tables.new ≡ importing segment.now tables.old }
+    ensures last_stored { OnOk result (LastStored segment.now tables.new) }
+    ensures unnamed_kept { OnOk result (UnnamedKept segment.now tables.old tables.new) }
+    ensures unchanged { OnErr result (tables.new ≡ tables.old) }
 {
     let Some(tables) = tables.as_mut_array::<256>() else {
         return Err(Refusal::Length);
@@ -152,10 +155,12 @@ fn export_all(tables: FourTables, out: &mut [u8; 264])
 }
 
 // The four tables as one segment of 264 bytes, destinations rising.
-// Ruled out: a quantiser of 256 written as 0; and a stated length of 264, which would count the marker.
+// Rules out: a quantiser of 256 written as 0; a stated length of 264, which would count the marker; a segment that import refuses, or from which other tables come back.
 #[tactic(auto, unfolding(crate::specs::Dqt::exporting))]
 pub fn export(tables: &[u16], out: &mut [u8]) -> Result<(), Refusal>
-    ensures { filled (answer_number result) out.new ≡ exporting tables.now out.old }
+    ensures written { filled (answer_number result) out.new ≡ exporting tables.now out.old }
+    ensures undone { OnOk result (ImportedAs out.new tables.now) }
+    ensures unchanged { OnErr result (out.new ≡ out.old) }
 {
     let Some(tables) = tables.as_array::<256>() else {
         return Err(Refusal::Length);

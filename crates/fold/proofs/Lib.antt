@@ -1,4 +1,5 @@
 -- The laws of loops, parts, grids and flags, each stated once over any element.
+pub mod Examples
 pub mod Loops
 pub mod Local
 pub mod Stores

@@ -2,7 +2,7 @@
 -- `view s k` is what stands at k in the state s, of as many buffers as there are; `Ok s` says how long those are.
 use mathlib.Core.Path.{◌≡◌, refl, ap, ◌∙◌, sym, subst}
 use mathlib.Core.Logic.{⊎_elim, ◌≢◌}
-use Prim.Native.Nat.{ℕ, zero, suc, ◌+◌, ◌<◌, ◌≤◌}
+use Prim.Native.Nat.{ℕ, zero, suc, ◌<◌, ◌≤◌}
 use native.Mathlib.Nat.{not-suc-le-zero, eq-or-lt_of_le, le_of_suc-le-suc, le_refl, ne_of_lt, ne_of_gt}
 use native.Mathlib.Omega.{arith}
 use Rattle.fold.specs.Fold.{upto}

@@ -1,10 +1,10 @@
 -- Parts of a list and lists with a part replaced: lengths, and what stands where.
-use mathlib.Core.Path.{◌≡◌, refl, ap, ◌∙◌, sym}
+use mathlib.Core.Path.{◌≡◌, ap, ◌∙◌, sym}
 use mathlib.Core.List.{List, ◌++◌}
-use Prim.Native.Nat.{ℕ, zero, suc, ◌+◌, ◌-◌, ◌<◌, ◌≤◌, min}
+use Prim.Native.Nat.{ℕ, ◌+◌, ◌-◌, ◌<◌, ◌≤◌}
 use native.Mathlib.Omega.{arith}
 use lib.ListN.{length, take, drop, get_or, length-take, length-drop, length-append, get_or-append}
-use lib.Seq.{length-take-le, get_or-take, get_or-drop, drop-append-add, take-append_seam, take_at, drop_at, drop-drop, take-append-le, take-take, get_or-append-add, ext_get_or}
+use lib.Seq.{length-take-le, get_or-take, get_or-drop, take_at, drop_at, get_or-append-add, ext_get_or}
 use Rattle.fold.specs.Part.{part, splice}
 
 module _ {ℓ} {A : Type ℓ} where

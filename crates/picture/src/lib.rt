@@ -1,10 +1,11 @@
 // The picture of the solved planes: `finish` of lib.rs. Planes and RGB bytes are lent; the functions but `finish` are internal.
 #![tactic(auto)]
 
-ghost use Rattle.std.specs.Prelude.{◌≡◌, ◌+◌, ◌*◌, ◌<◌, ◌≤◌, true, false, length};
+ghost use Rattle.std.specs.Prelude.{◌≡◌, ◌+◌, ◌*◌, ◌<◌, ◌≤◌, true, false, OnErr, length};
 ghost use Rattle.std.specs.Float.Ieee.{lt, to_unsigned};
 ghost use Rattle.float.specs.Names.{f255};
 ghost use Rattle.picture.specs.Finish.{nearest, to_byte, shade, colour, grey, pixel, row, picture, side, within, legal, fitting, verdict, finishing};
+ghost use Rattle.picture.specs.NearestUp.{ShadesAreNearest};
 
 use refusal::Refusal;
 
@@ -202,8 +203,8 @@ impl Shape {
 }
 
 // The picture's bytes, pixel by pixel from the top left, made of the lent planes, which are only read.
-// Ruled out: 57 for green at planes 0, 0, 100, which is 56.586 before it is truncated, and 56 where the nearest is asked for; the second row
-// of a narrower picture taken from place `width` of the planes instead of place `w`; bytes changed, or 8 given, where the channel count is 2.
+// Rules out: 57 for green at planes 0, 0, 100, which is 56.586 before it is truncated, and 56 where the nearest is asked for; the second row
+// of a narrower picture taken from place `width` of the planes instead of place `w`; bytes changed, or 8 given, where the channel count is 2; 128.5 rounded to 128, or 0.49999997 to 1, where the nearest is asked for.
 // Kept: C lends the five numbers one by one, and `program` has them as fields of a header; a `Shape` handed in would only move its making to both callers.
 pub fn finish(
     rounding: Rounding,
@@ -215,7 +216,10 @@ pub fn finish(
     planes: &[f32],
     rgb: &mut [u8],
 ) -> Result<(), Refusal>
-    ensures { record { answer = verdict result; bytes = rgb.new } ≡ finishing rounding w h width height channels planes.now rgb.old }
+    ensures made { record { answer = verdict result; bytes = rgb.new }
+        ≡ finishing rounding w h width height channels planes.now rgb.old }
+    ensures nearest_up { ShadesAreNearest }
+    ensures unchanged { OnErr result (rgb.new ≡ rgb.old) }
 {
     let shape = Shape {
         w,

@@ -2,16 +2,17 @@
 -- `picture::finish` meets its contract.
 use Rattle.std.proofs.Common.{sym, ◌∙◌}
 use Rattle.picture.specs.Finish.{finishing}
+use Rattle.picture.proofs.Shades.{shades_are_nearest}
 use Rattle.picture.proofs.Sizes.{sizes, lengths}
 use Rattle.picture.proofs.finish.Goals as goal
 
-pub returns-then-not-is_legal : goal.returns-then-not-is_legal
+pub returns-then-not-is_legal-clause-made : goal.returns-then-not-is_legal-clause-made
 unfolding finishing
-returns-then-not-is_legal c = rw (← c.is_legal.ensures, c.if-not-is_legal.true)
+returns-then-not-is_legal-clause-made c = rw (← c.is_legal.ensures, c.if-not-is_legal.true)
 
-pub returns-then-not-is_fitting : goal.returns-then-not-is_fitting
+pub returns-then-not-is_fitting-clause-made : goal.returns-then-not-is_fitting-clause-made
 unfolding finishing
-returns-then-not-is_fitting c = rw (sym c.is_legal.ensures ∙ c.if-not-is_legal.false, ← c.is_fitting.ensures, c.if-not-is_fitting.true)
+returns-then-not-is_fitting-clause-made c = rw (sym c.is_legal.ensures ∙ c.if-not-is_legal.false, ← c.is_fitting.ensures, c.if-not-is_fitting.true)
 
 pub invariant_of-solved : goal.invariant_of-solved
 invariant_of-solved c =
@@ -19,7 +20,16 @@ invariant_of-solved c =
     let l = lengths _ _ _ _ _ _ _ (sym c.is_fitting.ensures ∙ c.if-not-is_fitting.false) in
     record { some = s.some; sides = (s.wide, s.high); long = l.planes }
 
-pub returns : goal.returns
+pub returns-clause-made : goal.returns-clause-made
 unfolding finishing
-returns c =
+returns-clause-made c =
     rw (sym c.is_legal.ensures ∙ c.if-not-is_legal.false, ← c.is_fitting.ensures, c.if-not-is_fitting.false, c.rows.ensures)
+
+pub returns-then-not-is_legal-clause-nearest_up : goal.returns-then-not-is_legal-clause-nearest_up
+returns-then-not-is_legal-clause-nearest_up c = shades_are_nearest
+
+pub returns-then-not-is_fitting-clause-nearest_up : goal.returns-then-not-is_fitting-clause-nearest_up
+returns-then-not-is_fitting-clause-nearest_up c = shades_are_nearest
+
+pub returns-clause-nearest_up : goal.returns-clause-nearest_up
+returns-clause-nearest_up c = shades_are_nearest
