@@ -24,17 +24,16 @@ use Rattle.calls.specs.Run.{Given, levels_before, levels_part, every, among}
 use Rattle.calls.specs.Buffers.{joined}
 use Rattle.calls.specs.Jobs.{kept}
 use Rattle.demand.specs.Solver.{jobs}
-use Rattle.calls.specs.Calls.{Answer, start_refusal, lengths, all_six}
-use Rattle.serve.specs.Serve.{byte_of}
+use Rattle.calls.specs.Calls.{start_refusal, lengths, all_six}
 use Rattle.record.specs.declared.Run.{Run}
 use Rattle.record.specs.Model.{sheet_of, places_of, given_of}
-use Rattle.rounds.specs.Whole.{job_count, run_blows, run_totals, Whole, last, run_of, Loan, Ends}
+use Rattle.rounds.specs.Whole.{job_count, run_blows, run_totals, Whole, last, run_of, Ending, Loan, Ends}
 use Rattle.solve.specs.Solve.{reorder_of, joint, alone, iterations_at, steps_before, blend_count, tables_for, separately, whole_of, is_legal, all_legal, solve_refusal, number_in}
 use Rattle.contents.specs.Hold.{hold_at}
 use Rattle.contents.specs.Sheets.{smoothing_at, data_at}
 use Rattle.solve.proofs.Held.{three_held}
 use Rattle.by_numbers.specs.Sheets.{choice_number, numbers_of, weight_bits}
-use Rattle.by_numbers.specs.Whole.{choice_from, sheet_of_numbers, sheet_refusal, numbers_refusal, SolveNumbers}
+use Rattle.by_numbers.specs.Whole.{choice_from, sheet_of_numbers, sheet_refusal, numbers_refusal, ending_number, SolveNumbers}
 
 value_fits : (w : Weight) → T (fits binary32 (value_of w))
 unfolding value_of
@@ -148,8 +147,8 @@ module _ (S : Sheet) where
     -- the exported call, lent the numbers of a sheet, does what `solve` does of the sheet
     pub as_of_sheet : (L : Loan) (ks : List ℕ) (k : ℕ) (L' : Loan) (ks' : List ℕ)
         → SolveNumbers (numbers_of S) levels tables L ks k L' ks'
-        ≡ ((a : Answer) × (k ≡ byte_of a)
+        ≡ ((a : Ending) × (k ≡ ending_number a)
         × Ends (sheet_refusal S levels tables (lengths all_six L.buffers) (length L.totals) (length ks)) (whole_of S levels tables) L a (number_in ks') L' × (k ≢ 0 → ks' ≡ ks))
     as_of_sheet L ks k L' ks' =
-        λ i. (a : Answer) × (k ≡ byte_of a)
+        λ i. (a : Ending) × (k ≡ ending_number a)
         × Ends (same_numbers (lengths all_six L.buffers) (length L.totals) (length ks) i) (same_whole i) L a (number_in ks') L' × (k ≢ 0 → ks' ≡ ks)

@@ -11,33 +11,31 @@ use lib.Dec.{eqb}
 use lib.Ieee.{Float}
 use borrow.Author.Tests.{eq-eqb, ne_eqb, le-leb, lt-leb}
 use Rattle.start.specs.Coef.{Levels}
-use Rattle.calls.specs.Calls as Calls
 use Rattle.calls.specs.Calls.{lengths, all_six}
 use Rattle.std.specs.Prelude.{Result, Ok, Err}
 use Rattle.refusal.specs.declared.Refusal.{Refusal}
 use Rattle.refusal.specs.Refusal.{answer_number}
-use Rattle.record.specs.declared.Accepted.{Accepted}
-use Rattle.record.specs.Model.{answer_of}
-use Rattle.serve.specs.Serve.{byte_of}
+use Rattle.rounds.specs.declared.Ran.{Ran}
 use Rattle.contents.specs.declared.Sheet.{Sheet}
 use Rattle.start.specs.Buffers.{Buffers}
-use Rattle.rounds.specs.Whole.{Whole, Loan, loan, six, Ended, Ends}
+use Rattle.rounds.specs.Whole as ending
+use Rattle.rounds.specs.Whole.{Ending, ending_of, Whole, Loan, loan, six, Ended, Ends}
 use Rattle.rounds.proofs.Ends.{renumber}
 use Rattle.solve.specs.Solve.{all_legal, solve_refusal, whole_of, number_in, SolveIs}
 use Rattle.solve.proofs.Laws.{whole_channels}
 use Rattle.picture.specs.declared.Rounding.{Rounding}
 use Rattle.picture.specs.Finish.{Finished, verdict, finishing, rounding_from}
 use Rattle.by_numbers.specs.Sheets.{record_count}
-use Rattle.by_numbers.specs.Whole.{sheet_of_numbers, letters_ok, sheet_refusal, numbers_refusal, SolveNumbers, verdict_number, finishing_by, FinishNumbers}
+use Rattle.by_numbers.specs.Whole.{sheet_of_numbers, letters_ok, sheet_refusal, numbers_refusal, ending_number, SolveNumbers, verdict_number, finishing_by, FinishNumbers}
 
 -- an answer that is not done has left the numbers free
-not_done_ends : (n : ℕ) (w : Whole) (L : Loan) (a : Calls.Answer) (k k' : ℕ → ℕ) (L' : Loan) → byte_of a ≢ 0 → Ends n w L a k L' → Ends n w L a k' L'
+not_done_ends : (n : ℕ) (w : Whole) (L : Loan) (a : Ending) (k k' : ℕ → ℕ) (L' : Loan) → ending_number a ≢ 0 → Ends n w L a k L' → Ends n w L a k' L'
 not_done_ends (suc n) w L a k k' L' f e = e
 not_done_ends zero w L a k k' L' f e = go w.blown e
   where
     go : (b : Bool) → Ended b w L a k L' → Ended b w L a k' L'
     go true e = e
-    go false e = absurd (f (ap byte_of e.0))
+    go false e = absurd (f (ap ending_number e.0))
 
 module _ (ns : List ℕ) (levels : Levels) (tables : List ℕ) (L : Loan) (ks : List ℕ) where
   abbrev S : Sheet
@@ -52,10 +50,10 @@ module _ (ns : List ℕ) (levels : Levels) (tables : List ℕ) (L : Loan) (ks : 
 
   -- how the call ends, by its refusal
   abbrev End : ℕ → ℕ → Loan → List ℕ → Type 0
-  End n k L' ks' = (a : Calls.Answer) × (k ≡ byte_of a) × Ends n (whole_of S levels tables) L a (number_in ks') L' × (k ≢ 0 → ks' ≡ ks)
+  End n k L' ks' = (a : Ending) × (k ≡ ending_number a) × Ends n (whole_of S levels tables) L a (number_in ks') L' × (k ≢ 0 → ks' ≡ ks)
 
   refuses : (n : ℕ) → End (suc n) (suc n) L ks
-  refuses n = (Calls.refused (suc n), refl, (refl, refl), λ z. refl)
+  refuses n = (ending.refused (suc n), refl, (refl, refl), λ z. refl)
 
   pub no_record : (length ns ≡ record_count → ⊥) → SolveNumbers ns levels tables L ks 8 L ks
   unfolding numbers_refusal
@@ -85,21 +83,21 @@ module _ (ns : List ℕ) (levels : Levels) (tables : List ℕ) (L : Loan) (ks : 
         pub no_room : (length ks ≡ S.header.channels → ⊥) → SolveNumbers ns levels tables L ks 8 L ks
         no_room f = with_legal 8 L ks (subst (λ (b : Bool). End (cond b R 8) 8 L ks) (sym (ne_eqb (length ks) S.header.channels f)) (refuses 7))
 
-        module _ (room : length ks ≡ S.header.channels) (a : Result Accepted Refusal) (xs : List ℕ) (L' : Loan) (said : SolveIs S levels tables L a xs L') where
+        module _ (room : length ks ≡ S.header.channels) (a : Result Ran Refusal) (xs : List ℕ) (L' : Loan) (said : SolveIs S levels tables L a xs L') where
           with_room : (k : ℕ) (ks' : List ℕ) → End R k L' ks' → SolveNumbers ns levels tables L ks k L' ks'
           with_room k ks' e = with_legal k L' ks' (subst (λ (b : Bool). End (cond b R 8) k L' ks') (sym (eq-eqb (length ks) S.header.channels room)) e)
 
-          pub other : (k : ℕ) → k ≡ byte_of (answer_of a) → k ≢ 0 → SolveNumbers ns levels tables L ks k L' ks
+          pub other : (k : ℕ) → k ≡ ending_number (ending_of a) → k ≢ 0 → SolveNumbers ns levels tables L ks k L' ks
           other k e f =
               with_room k ks
-              (answer_of a, e, not_done_ends R (whole_of S levels tables) L (answer_of a) (number_in xs) (number_in ks) L' (λ z. f (e ∙ z)) said, λ z. refl)
+              (ending_of a, e, not_done_ends R (whole_of S levels tables) L (ending_of a) (number_in xs) (number_in ks) L' (λ z. f (e ∙ z)) said, λ z. refl)
 
-          pub solved : 0 ≡ byte_of (answer_of a) → (ks' : List ℕ) → ks' ≡ take (length ks) xs → SolveNumbers ns levels tables L ks 0 L' ks'
+          pub solved : 0 ≡ ending_number (ending_of a) → (ks' : List ℕ) → ks' ≡ take (length ks) xs → SolveNumbers ns levels tables L ks 0 L' ks'
           solved e ks' is =
               with_room 0 ks' (
-                answer_of a,
+                ending_of a,
                 e,
-                renumber R (whole_of S levels tables) L (answer_of a) (number_in xs) (number_in ks') L'
+                renumber R (whole_of S levels tables) L (ending_of a) (number_in xs) (number_in ks') L'
                     (λ c l. ap (λ (l : List ℕ). number_in l c) is ∙ get_or-take (length ks) xs c 0 (omega (arith, room, whole_channels S levels tables))) said,
                 λ f. absurd (f refl),
               )

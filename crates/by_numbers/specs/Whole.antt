@@ -9,11 +9,11 @@ use Rattle.contents.specs.Letters.{letter_from}
 use Rattle.contents.specs.declared.Settings.{Settings}
 use Rattle.contents.specs.declared.Header.{Header}
 use Rattle.contents.specs.declared.Channel.{Channel}
-use Rattle.calls.specs.Calls.{Answer, lengths, all_six}
-use Rattle.serve.specs.Serve.{byte_of}
-use Rattle.rounds.specs.Whole.{Loan, Ends}
+use Rattle.calls.specs.Calls.{lengths, all_six}
+use Rattle.rounds.specs.Whole as ending
+use Rattle.rounds.specs.Whole.{Ending, Loan, Ends}
 use Rattle.solve.specs.Solve.{all_legal, solve_refusal, whole_of, number_in}
-use Rattle.by_numbers.specs.Sheets.{record_count}
+use Rattle.by_numbers.specs.Sheets.{record_count, numbers_of}
 use Rattle.picture.specs.Finish.{Verdict, done, refused, Finished, finishing, rounding_from}
 
 -- ---- the record
@@ -65,12 +65,31 @@ unfoldable pub numbers_refusal : List ℕ → Levels → List ℕ → List ℕ �
 numbers_refusal ns levels tables ls t m =
     cond (eqb (length ns) record_count) (cond (letters_ok ns) (sheet_refusal (sheet_of_numbers ns) levels tables ls t m) 13) 8
 
+-- how a whole run ends, as a number: the refusal's of the table, 0 for done, 255 where a channel is blown
+abbrev pub ending_number : Ending → ℕ
+ending_number (ending.refused n) = n
+ending_number ending.done = 0
+ending_number ending.blown = 255
+
 -- `SolveIs` of the record's sheet, by the answer's number k. The buffer ks has each channel's number afterwards, and is as it was where the answer is not done.
 abbrev pub SolveNumbers : List ℕ → Levels → List ℕ → Loan → List ℕ → ℕ → Loan → List ℕ → Type 0
 SolveNumbers ns levels tables L ks k L' ks' =
-    (a : Answer) × (k ≡ byte_of a)
+    (a : Ending) × (k ≡ ending_number a)
     × Ends (numbers_refusal ns levels tables (lengths all_six L.buffers) (length L.totals) (length ks)) (whole_of (sheet_of_numbers ns) levels tables) L a (number_in ks') L'
     × (k ≢ 0 → ks' ≡ ks)
+
+-- the same of a sheet: it refuses what the sheet's run refuses, and leaves what that leaves
+abbrev pub SolvesSheet : Sheet → Levels → List ℕ → Loan → List ℕ → ℕ → Loan → List ℕ → Type 0
+SolvesSheet S levels tables L ks k L' ks' =
+    (a : Ending) × (k ≡ ending_number a)
+    × Ends (sheet_refusal S levels tables (lengths all_six L.buffers) (length L.totals) (length ks)) (whole_of S levels tables) L a (number_in ks') L'
+    × (k ≢ 0 → ks' ≡ ks)
+
+-- lent the numbers of a sheet, in either form of its weights, the call does what it does of the sheet
+abbrev pub NumbersSolveSheet : Type 0
+NumbersSolveSheet =
+    (S : Sheet) (levels : Levels) (tables : List ℕ) (L : Loan) (ks : List ℕ) (k : ℕ) (L' : Loan) (ks' : List ℕ)
+    → SolveNumbers (numbers_of S) levels tables L ks k L' ks' → SolvesSheet S levels tables L ks k L' ks'
 
 -- ---- finish
 

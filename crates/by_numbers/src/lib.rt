@@ -7,6 +7,7 @@ pub mod stitches;
 
 ghost use Rattle.std.specs.Prelude.{◌≡◌};
 ghost use Rattle.by_numbers.specs.Sheets.{numbers_of, weight_bits};
+ghost use Rattle.by_numbers.specs.Whole.{NumbersSolveSheet};
 
 use contents::{Sheet, Weight, chosen, held_after};
 
@@ -63,3 +64,10 @@ pub fn numbers(s: Sheet) -> [u32; NUMBERS]
         held_after(s, 2),
     ]
 }
+
+/// A sheet's record lent out as numbers and given back: the whole run of the numbers refuses what the
+/// sheet's run refuses, and leaves what that leaves.
+// Rules out: a weight whose bits are another's; a held count lost; separate mode read back as joint.
+pub fn numbers_law()
+    ensures { NumbersSolveSheet }
+{}

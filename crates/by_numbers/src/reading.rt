@@ -8,7 +8,7 @@ ghost use Rattle.by_numbers.specs.Sheets.{ReadsNumbers, with_record, line_in, nu
 use crate::{NUMBERS, numbers};
 use contents::{Limits, Reader};
 use refusal::Refusal;
-use sheet::walk::Refused;
+use sheet::Refused;
 
 // Reads for this reader. Where there is no room for the record's numbers, 8 is the last fault.
 // Ruled out: 8 for a text that is itself refused; the numbers of a text that is refused.

@@ -12,7 +12,7 @@ use Rattle.projection.specs.Blown.{is_blown}
 use Rattle.calls.specs.Run.{Sheet, Place, Given, held, weight, own_ok, header_ok, sheet_ok, place_ok, places_ok}
 use Rattle.calls.specs.Buffers.{get, make, channel, joined}
 use Rattle.calls.specs.Jobs.{push, fidelity, move, project, Call, on, blend, Jobs, fixed, kept}
-use Rattle.calls.specs.Calls.{refused, done, blown, blended, first, turn_tests, start_refusal, none_yet, plain, plain_answers, plain_places}
+use Rattle.calls.specs.Calls.{refused, done, projected, blended, first, turn_tests, start_refusal, none_yet, plain, plain_answers, plain_places}
 
 -- n channels of 8 by 8, held after k steps, and N steps
 abbrev sheet_held : ℕ → ℕ → ℕ → Sheet
@@ -152,7 +152,7 @@ abbrev step : List Call
 step = on push 0 ∷ on fidelity 0 ∷ blend ∷ on move 0 ∷ on project 0 ∷ on push 0 ∷ []
 
 -- a blown channel is marked by project, not before, which says so; the next call is refused
-pub blown_by_project : plain_answers (still nan) two_steps step (none_yet two_steps) ≡ done ∷ done ∷ blended nan nan ∷ done ∷ blown ∷ refused 10 ∷ []
+pub blown_by_project : plain_answers (still nan) two_steps step (none_yet two_steps) ≡ done ∷ done ∷ blended nan nan ∷ done ∷ projected 7 true ∷ refused 10 ∷ []
 unfolding plain_answers plain fixed channel joined is_blown
 blown_by_project = refl
 
@@ -164,7 +164,7 @@ marked_by_project = refl
 abbrev one : Float
 one = fin false 1 (pos 0)
 
-pub not_blown : plain_answers (still one) two_steps step (none_yet two_steps) ≡ done ∷ done ∷ blended one one ∷ done ∷ done ∷ done ∷ []
+pub not_blown : plain_answers (still one) two_steps step (none_yet two_steps) ≡ done ∷ done ∷ blended one one ∷ done ∷ projected 7 false ∷ done ∷ []
 unfolding plain_answers plain fixed channel joined is_blown
 not_blown = refl
 

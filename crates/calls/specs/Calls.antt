@@ -8,11 +8,12 @@ use Rattle.calls.specs.Buffers.{Name, Plane, Prior, Gradient, Across, Down, Save
 use Rattle.calls.specs.Jobs.{Job, push, fidelity, move, project, Call, on, blend, turn, blend_turn, Jobs, Seen, working, seen, seen_at, totals_at}
 pub use Rattle.answers.specs.Tests.{Tests, first, test, all, table_ok, level_ok}
 
--- a call's answer: the refusal's number in the table; accepted; accepted, and the channel is now marked blown; blend accepted, with both its totals
+-- a call's answer: the refusal's number in the table; accepted; project accepted, with the number of coefficients that it clipped and whether the channel is
+-- now marked blown; blend accepted, with both its totals
 pub data Answer : Type 0 where
   refused : ℕ → Answer
   done : Answer
-  blown : Answer
+  projected : ℕ → Bool → Answer
   blended : Float → Float → Answer
 
 -- what the calls hand on: the record's places and the lent buffers
@@ -119,12 +120,12 @@ advance fidelity x p = onward p
 advance move x p = onward p
 advance project x p = marked x p
 
--- "The call is accepted and says so"
+-- "The call is accepted and says so"; project says how many coefficients it clipped, of a held channel the number kept before
 abbrev pub reply : Job → Seen → Answer
 reply push x = done
 reply fidelity x = done
 reply move x = done
-reply project x = cond x.blown blown done
+reply project x = projected x.clipped x.blown
 
 -- channel c's buffers after its job; the step is the position's fifth
 abbrev pub worked : Jobs → Given → Job → ℕ → State → Buffers

@@ -16,7 +16,7 @@ use Rattle.start.specs.Buffers.{Buffers}
 use Rattle.projection.specs.Blown.{any_bad, is_blown}
 use Rattle.calls.specs.Run.{Given, place, count, coefs, every, among}
 use Rattle.calls.specs.Jobs.{Job, push, fidelity, move, project, Call, on, blend, turn, blend_turn, fixed, channel_blown, Seen, seen_at}
-use Rattle.calls.specs.Calls.{Answer, done, blown, State, first, test, turn_tests, all, reply, call, start, answers, final, plain, plain_accept, plain_settle}
+use Rattle.calls.specs.Calls.{Answer, State, first, test, turn_tests, all, reply, call, start, answers, final, plain, plain_accept, plain_settle}
 use Rattle.calls.specs.Between.{GivenOk, Inv}
 use Rattle.calls.proofs.Legal.{ready_of}
 use Rattle.calls.proofs.Tests.{among_false, never}
@@ -103,7 +103,7 @@ module _ (G : Given) (ok : GivenOk G) (m : mild G.sheet ≡ true) where
         says push x e = tt
         says fidelity x e = tt
         says move x e = tt
-        says project x e = subst (λ (t : Bool). T (calm (cond t blown done))) (sym e) tt
+        says project x e = subst (λ (t : Bool). T (not t)) (sym e) tt
 
         further : (p n : ℕ) → p ≤ n → (p ≡ n → ⊥) → suc p ≤ n
         further p n h d = omega arith

@@ -1,10 +1,10 @@
 -- M-112 of document 02, "Ordinary weights never blow", said of a run's own numbers.
-use Rattle.std.specs.Prelude.{◌≡◌, Bool, true, false, ◌&&◌, ◌||◌, List, ℕ, ◌<◌, T, eqb, leb, Float}
+use Rattle.std.specs.Prelude.{◌≡◌, Bool, true, false, not, ◌&&◌, ◌||◌, List, ℕ, ◌<◌, T, eqb, leb, Float}
 use Rattle.std.specs.Float.{binary32}
 use Rattle.std.specs.Float.Ieee.{of_bits, le}
 use Rattle.calls.specs.Run.{Sheet, Given, own, count, place, every}
 use Rattle.calls.specs.Jobs.{Call, Jobs}
-use Rattle.calls.specs.Calls.{Answer, refused, done, blown, blended, State, start, all, answers, final}
+use Rattle.calls.specs.Calls.{Answer, refused, done, projected, blended, State, start, all, answers, final}
 
 -- "all weights at most 1 and all iteration counts at most 20"
 abbrev pub most_weight : Float
@@ -20,11 +20,11 @@ light w = le w most_weight
 unfoldable pub mild : Sheet → Bool
 mild S = leb S.N most_steps && light S.smoothing && every S.count (λ c. light (own S c).data_weight)
 
--- a call is accepted and marks nothing, or refused by 9, 11 or 12; it does not say "accepted, and the channel is now marked blown", and is not refused by 10
+-- a call is accepted and marks nothing, or refused by 9, 11 or 12; no project says that its channel is now marked blown, and no call is refused by 10
 abbrev pub calm : Answer → Bool
 calm (refused n) = eqb n 9 || eqb n 11 || eqb n 12
 calm done = true
-calm blown = false
+calm (projected clipped blown) = not blown
 calm (blended tv tgv) = true
 
 -- The claim, of a list xs of calls made one after the other on the state s that start left: no channel is marked at its end, and since each

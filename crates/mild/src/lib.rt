@@ -5,7 +5,8 @@
 ghost use Rattle.std.specs.Prelude.{◌≡◌, ◌≤◌};
 ghost use Rattle.calls.specs.Run.{every, own};
 ghost use Rattle.record.specs.Model.{sheet_of};
-ghost use Rattle.mild.specs.Mild.{light};
+ghost use Rattle.demand.specs.Solver.{jobs};
+ghost use Rattle.mild.specs.Mild.{light, MildNeverBlows};
 ghost use Rattle.mild.specs.Checked.{Tells};
 
 use record::Run;
@@ -33,3 +34,10 @@ pub fn never_blows(run: Run) -> bool
 {
     legal(run) && ((run.n <= 20) & light_ok(run.smoothing) & weights_ok(run))
 }
+
+/// No list of calls on a fresh run with weights of at most 1 and at most 20 iterations marks a channel, answers
+/// that one is blown, or refuses a call for one that is.
+// Rules out: a blown channel after the twentieth step, from either start, or in a run that holds a channel.
+pub fn mild_runs_law()
+    ensures { MildNeverBlows jobs }
+{}

@@ -8,7 +8,7 @@ ghost use Rattle.numbered.specs.Numbered.{NumberedIs};
 use record::lent::{Buffers, Given};
 use record::{Accepted, Job, Run};
 use refusal::Refusal;
-use run::values::{blend, data, move_plane, project, push};
+use run::jobs::{blend, data, move_plane, project, push};
 
 // Kept: a switch on the job: each arm lends other buffers, so that a closure for each job would be handed all that any job is lent, and there would be five of them in the place of five arms.
 // The call of a job, lent all that any of them is lent. Rules out: another job's call made, and the call of another channel.

@@ -13,7 +13,7 @@ use Rattle.record.specs.declared.Seen.{Seen}
 use Rattle.record.specs.declared.Job.{Job}
 use Rattle.record.specs.declared.Job.TheVariants as job
 use Rattle.record.specs.declared.Accepted.{Accepted}
-use Rattle.record.specs.declared.Accepted.TheVariants.{Done, Blown, Blended}
+use Rattle.record.specs.declared.Accepted.TheVariants.{Done, Projected, Blended}
 
 abbrev pub own_of : Channel → Numbers
 own_of c = record { width = c.width; height = c.height; across = c.across; down = c.down; data_weight = c.weight; held = c.held }
@@ -99,9 +99,9 @@ turn_of job.Project = 4
 abbrev pub seen_of : Seen → Jobs.Seen
 seen_of x = record { blown = x.blown; clipped = x.clipped }
 
--- document 01's values for each case: a refusal's number in the table, accepted, accepted and blown; blend's totals
+-- the values for each case: a refusal's number in the table, accepted, what project tells, blend's totals
 abbrev pub answer_of : Result Accepted Refusal → Calls.Answer
 answer_of (Err r) = Calls.refused (number_of r)
 answer_of (Ok Done) = Calls.done
-answer_of (Ok Blown) = Calls.blown
+answer_of (Ok (Projected clipped blown)) = Calls.projected clipped blown
 answer_of (Ok (Blended tv tgv)) = Calls.blended tv tgv

@@ -93,12 +93,13 @@ impl TryFrom<u8> for Job {
     }
 }
 
-// What an accepted call answers: done; done, and the channel is now marked blown; a blend done, with both its totals.
+// What an accepted call answers: done; a project done, with how many coefficients it clipped and whether the channel is now marked blown; a blend done,
+// with both its totals.
 // Kept: these are three answers of a call that is not refused, as the model's `Answer` has them; a refusal is the `Err` of a `Result` around it.
 #[derive(Clone, Copy)]
 pub enum Accepted {
     Done,
-    Blown,
+    Projected { clipped: u32, blown: bool },
     Blended { tv: f64, tgv: f64 },
 }
 

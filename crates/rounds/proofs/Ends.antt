@@ -19,7 +19,7 @@ use Rattle.calls.specs.Run.{Given, Sheet, Place, fresh, place, count, area, coef
 use Rattle.calls.specs.Buffers.{Plane, Prior, Gradient, Across, Down, Saved, Sized}
 use Rattle.calls.specs.Jobs.{project, turn, fixed, clips, kept, totals_at}
 use Rattle.calls.specs.Calls as Calls
-use Rattle.calls.specs.Calls.{State, done, all, all_six, lengths, start_refusal, settle, begin, start, final}
+use Rattle.calls.specs.Calls.{State, all, all_six, lengths, start_refusal, settle, begin, start, final}
 use Rattle.calls.specs.Between.{GivenOk, Inv}
 use Rattle.calls.proofs.Legal.{places_are}
 use Rattle.calls.proofs.Facts.{sheet_is}
@@ -32,14 +32,21 @@ use Rattle.demand.proofs.Laws.{laws}
 use Rattle.record.specs.declared.Run.{Run}
 use Rattle.std.specs.Prelude.{Result, Ok, Err}
 use Rattle.refusal.specs.declared.Refusal.{Refusal}
+use Rattle.refusal.specs.Refusal.{number_of}
 use Rattle.record.specs.declared.Job.TheVariants as job
 use Rattle.record.specs.declared.Accepted.{Accepted}
-use Rattle.record.specs.declared.Accepted.TheVariants.{Done, Blown, Blended}
-use Rattle.record.specs.Model.{sheet_of, places_of, clipped_of, given_of, answer_of, turn_of}
-use Rattle.record.proofs.Placed.{sheet_stays, places_placed}
+use Rattle.record.specs.declared.Accepted.TheVariants as answer
+use Rattle.record.specs.Model.{sheet_of, places_of, clipped_of, given_of, answer_of, turn_of, placed}
+use Rattle.record.proofs.Placed.{sheet_stays, places_placed, placed_same}
 use Rattle.run.specs.Public.{Outcome, state_of, StartIs}
-use Rattle.rounds.specs.Whole.{job_count, run_blows, pair_at, run_totals, Whole, last, run_of, Loan, loan, SameLengths, ClippedAre, Ended, Ends, RunIs}
+use Rattle.rounds.specs.declared.RoundEnd.{RoundEnd}
+use Rattle.rounds.specs.declared.RoundEnd.TheVariants.{Done, Blended, Blown}
+use Rattle.rounds.specs.declared.Ran.{Ran}
+use Rattle.rounds.specs.declared.Ran.TheVariants as ran
+use Rattle.rounds.specs.Whole as ending
+use Rattle.rounds.specs.Whole.{Ending, ending_of, job_count, run_blows, pair_at, run_totals, Whole, last, run_of, Loan, loan, SameLengths, ClippedAre, Ended, Ends, RunIs, RestStays, AtItsEnd}
 use Rattle.rounds.specs.Rounds.{next_of, AllAt, round_blows, RoundAsks, RoundIs, with_pair, RunAsks}
+use Rattle.rounds.proofs.Rest.{rest_of}
 use Rattle.rounds.proofs.Steps.{Kept, kept_of}
 
 -- ---- lengths
@@ -76,6 +83,15 @@ clipped_are : (G : Given) (r : Run) (B : Buffers) → AllAt G (job_count G) r B 
 unfolding run_of
 clipped_are G r B h = λ c l. h.inv.as_kept c l ∙ ap (λ (k : ℕ). kept jobs G k c) (h.at_place c l)
 
+-- and stands at its end
+pub at_end_of : (G : Given) (r : Run) (B : Buffers) → AllAt G (job_count G) r B → AtItsEnd G r
+at_end_of G r B h =
+    λ c l i. record {
+      position = h.at_place c l i;
+      mark = h.unmarked c l i;
+      clipped = (h.inv.as_kept c l ∙ ap (λ (k : ℕ). kept jobs G k c) (h.at_place c l)) i;
+    }
+
 -- no more than the channel has coefficients
 pub kept_most : (G : Given) (p c : ℕ) → kept jobs G p c ≤ coefs G.sheet c
 unfolding kept
@@ -87,7 +103,7 @@ kept_most G (suc p) c =
     (either_most (held G.sheet c (p / 5)) (kept jobs G p c) (jobs.clip G c (fixed jobs G p c)) most before (laws.clip_most G c (fixed jobs G p c))) before
 
 -- the numbers may come from elsewhere
-pub renumber : (n : ℕ) (w : Whole) (L : Loan) (a : Calls.Answer) (k k' : ℕ → ℕ) (L' : Loan) → ((c : ℕ) → c < w.channels → k' c ≡ k c)
+pub renumber : (n : ℕ) (w : Whole) (L : Loan) (a : Ending) (k k' : ℕ → ℕ) (L' : Loan) → ((c : ℕ) → c < w.channels → k' c ≡ k c)
     → Ends n w L a k L' → Ends n w L a k' L'
 renumber (suc n) w L a k k' L' same e = e
 renumber zero w L a k k' L' same e = go w.blown e
@@ -139,14 +155,14 @@ summed_all : (G : Given) (T₀ T : List Float) → length T₀ ≡ G.sheet.N * 2
 unfolding run_totals
 summed_all G T₀ T long e = fill_all (pair_at G) 2 (pair_long G) (blends_in (job_count G)) G.sheet.N T₀ e (omega arith) long
 
--- an answer with which a run goes on
-abbrev pub goes : Result Accepted Refusal → Bool
+-- a round with which a run goes on
+abbrev pub goes : Result RoundEnd Refusal → Bool
 goes (Err n) = false
 goes (Ok Done) = true
 goes (Ok Blown) = false
 goes (Ok (Blended tv tgv)) = true
 
-pub going : (a : Accepted) → (a ≡ Blown → ⊥) → goes (Ok a) ≡ true
+pub going : (a : RoundEnd) → (a ≡ Blown → ⊥) → goes (Ok a) ≡ true
 going Done n = refl
 going Blown n = absurd (n refl)
 going (Blended tv tgv) n = refl
@@ -205,7 +221,7 @@ module _ (r₀ : Run) (levels : Levels) (tables : List ℕ) (B₀ : Buffers) (T�
       pub turn_is : next_of r % 5 ≡ i
       turn_is = ap (λ (q : ℕ). q % 5) next_is ∙ omega arith
 
-      module _ (a : Result Accepted Refusal) (r' : Run) (B' : Buffers) (T' : List Float) (said : RoundIs (given_of r levels tables) (next_of r) a r' B') (put : T' ≡ with_pair a k T) where
+      module _ (a : Result RoundEnd Refusal) (r' : Run) (B' : Buffers) (T' : List Float) (said : RoundIs (given_of r levels tables) (next_of r) a r' B') (put : T' ≡ with_pair a k T) where
         said_of : RoundIs G p a r' B'
         said_of = subst (λ (H : Given). RoundIs H p a r' B') given_is (subst (λ (q : ℕ). RoundIs (given_of r levels tables) q a r' B') next_is said)
 
@@ -229,17 +245,17 @@ module _ (r₀ : Run) (levels : Levels) (tables : List ℕ) (B₀ : Buffers) (T�
                   totals_long = summed_long G (suc p) r₀.n T₀ T' (omega arith) asks.long summed;
                 }
 
-            go : (a : Result Accepted Refusal) → goes a ≡ true → RoundIs G p a r' B' → T' ≡ with_pair a (p / 5) T → Rounding G (5 * r₀.n) (p + 1) r' B₀ T₀ B' T'
+            go : (a : Result RoundEnd Refusal) → goes a ≡ true → RoundIs G p a r' B' → T' ≡ with_pair a (p / 5) T → Rounding G (5 * r₀.n) (p + 1) r' B₀ T₀ B' T'
             go (Err m) on s put = absurd s
             go (Ok Blown) on s put = never false refl on
             go (Ok Done) on s put = one_more s.0 s.1 (summed_same G p T₀ T' s.2 (put ∙ h.summed))
             go (Ok (Blended tv tgv)) on s put = one_more s.0 s.1 (summed_more G p T₀ T T' tv tgv s.2 s.3 h.summed put)
 
-        pub stops : goes a ≡ false → Ends 0 (run_of G) (loan B₀ T₀) Calls.blown (clipped_of r') (loan B' T')
+        pub stops : goes a ≡ false → Ends 0 (run_of G) (loan B₀ T₀) ending.blown (clipped_of r') (loan B' T')
         unfolding run_of run_blows
         stops off = go a off said_of put_of
           where
-            go : (a : Result Accepted Refusal) → goes a ≡ false → RoundIs G p a r' B' → T' ≡ with_pair a (p / 5) T → Ends 0 (run_of G) (loan B₀ T₀) Calls.blown (clipped_of r') (loan B' T')
+            go : (a : Result RoundEnd Refusal) → goes a ≡ false → RoundIs G p a r' B' → T' ≡ with_pair a (p / 5) T → Ends 0 (run_of G) (loan B₀ T₀) ending.blown (clipped_of r') (loan B' T')
             go (Err m) off s put = absurd s
             go (Ok Done) off s put = never true off refl
             go (Ok (Blended tv tgv)) off s put = never true off refl
@@ -249,7 +265,7 @@ module _ (r₀ : Run) (levels : Levels) (tables : List ℕ) (B₀ : Buffers) (T�
 
   -- after the last step
   module _ (k : ℕ) (r : Run) (B : Buffers) (T : List Float) (h : Rounding G (5 * r₀.n) (5 * k) r B₀ T₀ B T) where
-    pub ends : r₀.n ≤ k → Ends 0 (run_of G) (loan B₀ T₀) Calls.done (clipped_of r) (loan B T)
+    pub ends : r₀.n ≤ k → Ends 0 (run_of G) (loan B₀ T₀) ending.done (clipped_of r) (loan B T)
     unfolding run_of run_blows
     ends l =
         let last : 5 * k ≡ job_count G = omega (arith, h.most) in
@@ -257,6 +273,11 @@ module _ (r₀ : Run) (levels : Levels) (tables : List ℕ) (B₀ : Buffers) (T�
         let six_are : B ≡ (run_of G).buffers = buffers_are G r B (rw last at h.all) in
         let totals-are : T ≡ (run_of G).totals = summed_all G T₀ T asks.long (subst (λ (k : ℕ). Summed G k T₀ T) last h.summed) in
         rw none (refl, λ i. loan (six_are i) (totals-are i), (same_lengths B₀ B h.kept, h.totals_long), clipped_are G r B (rw last at h.all))
+
+    pub ends_there : r₀.n ≤ k → AtItsEnd G r
+    ends_there l =
+        let last : 5 * k ≡ job_count G = omega (arith, h.most) in
+        at_end_of G r B (rw last at h.all)
 
 -- ---- start
 
@@ -266,17 +287,22 @@ fresh_at (p ∷ ps) zero = refl
 fresh_at (p ∷ ps) (suc c) = fresh_at ps c
 
 -- an answer by its case
-pub is_done : (a : Result Accepted Refusal) → a ≡ (Ok Done) → answer_of a ≡ done
+pub is_done : (a : Result Ran Refusal) → a ≡ (Ok ran.Done) → ending_of a ≡ ending.done
 is_done (Err m) one = let z : ◌≡◌ {A = ℕ} 0 1 = cc in absurd (omega arith)
-is_done (Ok Done) one = refl
-is_done (Ok Blown) one = let z : ◌≡◌ {A = ℕ} 0 1 = cc in absurd (omega arith)
-is_done (Ok (Blended tv tgv)) one = let z : ◌≡◌ {A = ℕ} 0 1 = cc in absurd (omega arith)
+is_done (Ok ran.Done) one = refl
+is_done (Ok ran.Blown) one = let z : ◌≡◌ {A = ℕ} 0 1 = cc in absurd (omega arith)
 
-pub not_done : (a : Result Accepted Refusal) → (a ≡ (Ok Done) → ⊥) → done ≡ answer_of a → ⊥
+pub not_done : (a : Result Ran Refusal) → (a ≡ (Ok ran.Done) → ⊥) → ending.done ≡ ending_of a → ⊥
 not_done (Err m) one e = let z : ◌≡◌ {A = ℕ} 0 1 = cc in omega arith
-not_done (Ok Done) one e = one refl
-not_done (Ok Blown) one e = let z : ◌≡◌ {A = ℕ} 0 1 = cc in omega arith
-not_done (Ok (Blended tv tgv)) one e = let z : ◌≡◌ {A = ℕ} 0 1 = cc in omega arith
+not_done (Ok ran.Done) one e = one refl
+not_done (Ok ran.Blown) one e = let z : ◌≡◌ {A = ℕ} 0 1 = cc in omega arith
+
+-- and a start's
+start_is_done : (a : Result Accepted Refusal) → a ≡ (Ok answer.Done) → answer_of a ≡ Calls.done
+start_is_done (Err m) one = let z : ◌≡◌ {A = ℕ} 0 1 = cc in absurd (omega arith)
+start_is_done (Ok answer.Done) one = refl
+start_is_done (Ok (answer.Projected n b)) one = let z : ◌≡◌ {A = ℕ} 0 1 = cc in absurd (omega arith)
+start_is_done (Ok (answer.Blended tv tgv)) one = let z : ◌≡◌ {A = ℕ} 0 1 = cc in absurd (omega arith)
 
 module _ (r : Run) (levels : Levels) (tables : List ℕ) (B : Buffers) (T : List Float) (a : Result Accepted Refusal) (r' : Run) (B' : Buffers) (h : StartIs r levels tables B a r' B') where
   abbrev H : Given
@@ -286,36 +312,47 @@ module _ (r : Run) (levels : Levels) (tables : List ℕ) (B : Buffers) (T : List
   s = state_of r B
 
   -- refused: as it was
-  pub refuses : (a ≡ (Ok Done) → ⊥) → RunIs r levels tables (loan B T) a r' (loan B' T)
+  pub refuses : (e : Refusal) → a ≡ Err e → RunIs r levels tables (loan B T) (Err e) r' (loan B' T)
   unfolding start
-  refuses one = go (start_refusal H (places_of r) (lengths all_six B)) (ap (λ (y : Outcome). y.answer) h) (ap (λ (y : Outcome). y.buffers) h)
+  refuses e is =
+      go (start_refusal H (places_of r) (lengths all_six B)) (ap (λ (y : Outcome). y.answer) h ∙ ap answer_of is) (ap (λ (y : Outcome). y.buffers) h)
     where
-      go : (n : ℕ) → (settle n s (begin jobs H s)).answer ≡ answer_of a → (settle n s (begin jobs H s)).after.buffers ≡ B'
-          → Ends n (run_of H) (loan B T) (answer_of a) (clipped_of r') (loan B' T)
-      go zero e f = absurd (not_done a one e)
-      go (suc n) e f = (sym e, λ i. loan (sym f i) T)
+      go : (n : ℕ) → (settle n s (begin jobs H s)).answer ≡ Calls.refused (number_of e) → (settle n s (begin jobs H s)).after.buffers ≡ B'
+          → Ends n (run_of H) (loan B T) (ending.refused (number_of e)) (clipped_of r') (loan B' T)
+      go zero q f = let z : ◌≡◌ {A = ℕ} 0 1 = cc in absurd (omega arith)
+      go (suc n) q f = (let z : number_of e ≡ suc n = cc in ap ending.refused z, λ i. loan (sym f i) T)
+
+  -- and the record too
+  pub leaves : (e : Refusal) → a ≡ Err e → r' ≡ r
+  unfolding start
+  leaves e is =
+      go (start_refusal H (places_of r) (lengths all_six B)) (ap (λ (y : Outcome). y.answer) h ∙ ap answer_of is) (ap (λ (y : Outcome). y.run) h)
+    where
+      go : (n : ℕ) → (settle n s (begin jobs H s)).answer ≡ Calls.refused (number_of e) → placed r (settle n s (begin jobs H s)).after.places ≡ r' → r' ≡ r
+      go zero q f = let z : ◌≡◌ {A = ℕ} 0 1 = cc in absurd (omega arith)
+      go (suc n) q f = sym f ∙ placed_same r
 
   -- start answers nothing but done
-  pub started : (f : Accepted) → a ≡ Ok f → a ≡ Ok Done
+  pub started : (f : Accepted) → a ≡ Ok f → a ≡ Ok answer.Done
   unfolding start
   started f e = e ∙ go f (start_refusal H (places_of r) (lengths all_six B)) (ap (λ (y : Outcome). y.answer) h ∙ ap answer_of e)
     where
-      go : (f : Accepted) (n : ℕ) → (settle n s (begin jobs H s)).answer ≡ answer_of (Ok f) → ◌≡◌ {A = Result Accepted Refusal} (Ok f) (Ok Done)
-      go Done n q = refl
-      go Blown zero q = let z : ◌≡◌ {A = ℕ} 0 1 = cc in absurd (omega arith)
-      go Blown (suc n) q = let z : ◌≡◌ {A = ℕ} 0 1 = cc in absurd (omega arith)
-      go (Blended tv tgv) zero q = let z : ◌≡◌ {A = ℕ} 0 1 = cc in absurd (omega arith)
-      go (Blended tv tgv) (suc n) q = let z : ◌≡◌ {A = ℕ} 0 1 = cc in absurd (omega arith)
+      go : (f : Accepted) (n : ℕ) → (settle n s (begin jobs H s)).answer ≡ answer_of (Ok f) → ◌≡◌ {A = Result Accepted Refusal} (Ok f) (Ok answer.Done)
+      go answer.Done n q = refl
+      go (answer.Projected m b) zero q = let z : ◌≡◌ {A = ℕ} 0 1 = cc in absurd (omega arith)
+      go (answer.Projected m b) (suc n) q = let z : ◌≡◌ {A = ℕ} 0 1 = cc in absurd (omega arith)
+      go (answer.Blended tv tgv) zero q = let z : ◌≡◌ {A = ℕ} 0 1 = cc in absurd (omega arith)
+      go (answer.Blended tv tgv) (suc n) q = let z : ◌≡◌ {A = ℕ} 0 1 = cc in absurd (omega arith)
 
-  module _ (one : a ≡ (Ok Done)) where
-    said_done : (start jobs H s).answer ≡ done
-    said_done = ap (λ (y : Outcome). y.answer) h ∙ is_done a one
+  module _ (one : a ≡ (Ok answer.Done)) where
+    said_done : (start jobs H s).answer ≡ Calls.done
+    said_done = ap (λ (y : Outcome). y.answer) h ∙ start_is_done a one
 
     pub accepted : start_refusal H (places_of r) (lengths all_six B) ≡ 0
     unfolding start
     accepted = go (start_refusal H (places_of r) (lengths all_six B)) said_done
       where
-        go : (n : ℕ) → (settle n s (begin jobs H s)).answer ≡ done → n ≡ 0
+        go : (n : ℕ) → (settle n s (begin jobs H s)).answer ≡ Calls.done → n ≡ 0
         go zero e = refl
         go (suc n) e = let z : ◌≡◌ {A = ℕ} 0 1 = cc in absurd (omega arith)
 
@@ -367,7 +404,7 @@ module _ (r : Run) (levels : Levels) (tables : List ℕ) (B : Buffers) (T : List
           long = long ∙ ap (λ (S : Sheet). S.N * 2) (sym sheet_now);
         }
 
-    from_start : (b : Bool) (w : Whole) (d : Calls.Answer) (k : ℕ → ℕ) (D : Loan) → Ended b w (loan B' T) d k D → Ended b w (loan B T) d k D
+    from_start : (b : Bool) (w : Whole) (d : Ending) (k : ℕ → ℕ) (D : Loan) → Ended b w (loan B' T) d k D → Ended b w (loan B T) d k D
     from_start b w d k D = go b
       where
         longs : SameLengths B B'
@@ -377,10 +414,17 @@ module _ (r : Run) (levels : Levels) (tables : List ℕ) (B : Buffers) (T : List
         go true e = (e.0, (λ n. e.1.0 n ∙ longs n, e.1.1))
         go false e = (e.0, e.1, (λ n. e.2.0 n ∙ longs n, e.2.1), e.3)
 
+    pub rest_started : RestStays r r'
+    rest_started =
+        rest_of r r' (start jobs H s).after.places (ap (λ (y : Outcome). y.run) (sym h)) (inv.legal_places.long ∙ sym places_long)
+
+    pub end_is : (u : Run) → AtItsEnd (given_of r' levels tables) u → AtItsEnd H u
+    end_is u e = subst (λ (K : Given). AtItsEnd K u) given_now e
+
     -- and ends as its rounds do
-    pub runs_on : (d : Result Accepted Refusal) (u : Run) (D : Loan) → Ends 0 (run_of (given_of r' levels tables)) (loan B' T) (answer_of d) (clipped_of u) D
+    pub runs_on : (d : Result Ran Refusal) (u : Run) (D : Loan) → Ends 0 (run_of (given_of r' levels tables)) (loan B' T) (ending_of d) (clipped_of u) D
         → RunIs r levels tables (loan B T) d u D
     runs_on d u D e =
         rw accepted
-        (from_start (run_of H).blown (run_of H) (answer_of d) (clipped_of u) D
-        (subst (λ (K : Given). Ends 0 (run_of K) (loan B' T) (answer_of d) (clipped_of u) D) given_now e))
+        (from_start (run_of H).blown (run_of H) (ending_of d) (clipped_of u) D
+        (subst (λ (K : Given). Ends 0 (run_of K) (loan B' T) (ending_of d) (clipped_of u) D) given_now e))

@@ -16,7 +16,7 @@ use Rattle.start.specs.Buffers.{Buffers}
 use Rattle.calls.specs.Run.{Given, Sheet, Place, fresh, place, count, area, among}
 use Rattle.calls.specs.Buffers.{Plane, Prior, Gradient, Across, Down, Saved, Sized}
 use Rattle.calls.specs.Jobs.{Job, push, fidelity, move, project, Call, on, blend, turn, fixed, channel_blown, Seen, seen_at, totals_at}
-use Rattle.calls.specs.Calls.{Called, refused, done, blown, blended, advance, onward, reply, blend_reply, call}
+use Rattle.calls.specs.Calls.{Called, refused, done, projected, blended, advance, onward, reply, blend_reply, call}
 use Rattle.calls.specs.Between.{GivenOk, Inv}
 use Rattle.calls.proofs.Legal.{advance_position, place_here, place_elsewhere}
 use Rattle.calls.proofs.Tests.{among_false, among_true, get_d_map_lt}
@@ -29,13 +29,15 @@ use Rattle.std.specs.Prelude.{Result, Ok, Err}
 use Rattle.refusal.specs.declared.Refusal.{Refusal}
 use Rattle.refusal.specs.Refusal.{number_of}
 use Rattle.record.specs.declared.Accepted.{Accepted}
-use Rattle.record.specs.declared.Accepted.TheVariants.{Done, Blown, Blended}
-use Rattle.record.specs.Model.{sheet_of, places_of, given_of, answer_of}
+use Rattle.record.specs.declared.Accepted.TheVariants as accepted
+use Rattle.record.specs.Model.{sheet_of, places_of, given_of, answer_of, placed}
 use Rattle.record.proofs.Placed.{sheet_stays, places_placed}
 use Rattle.run.specs.Public.{Outcome, result, gave, state_of, call_of}
 use Rattle.numbered.specs.Numbered.{numbered}
-use Rattle.rounds.specs.Whole.{blows_at}
-use Rattle.rounds.specs.Rounds.{AllAt, passed, Within, turns, round_blows, RoundAsks, RoundIs}
+use Rattle.rounds.specs.Whole.{blows_at, RestStays}
+use Rattle.rounds.specs.declared.RoundEnd.{RoundEnd}
+use Rattle.rounds.specs.declared.RoundEnd.TheVariants.{Done, Blended, Blown}
+use Rattle.rounds.specs.Rounds.{AllAt, passed, Within, turns, round_blows, round_of, RoundAsks, RoundIs}
 
 -- ---- what a call by its number leaves, where it is the model's call x
 
@@ -55,6 +57,9 @@ module _ (G : Given) (ok : GivenOk G) (r : Run) (B : Buffers) (same : sheet_of r
       ap (λ (y : Outcome). places_of y.run) (sym gives)
       ∙ places_placed r (call jobs G x (state_of r B)).after.places (good.legal_places.long ∙ sym inv.legal_places.long)
 
+  pub rest_stays : RestStays r r'
+  rest_stays = ap (λ (y : Outcome). y.run) (sym gives) ∙ ap (placed r) (sym same_places)
+
   pub same-sheet : sheet_of r' ≡ G.sheet
   same-sheet = ap (λ (y : Outcome). sheet_of y.run) (sym gives) ∙ sheet_stays r (call jobs G x (state_of r B)).after.places ∙ same
 
@@ -70,28 +75,20 @@ module _ (j : Job) (p : ℕ) (t : p % 5 ≡ turn j) where
   not_refused : (x : Seen) (n : ℕ) → reply j x ≡ refused n → ⊥
   not_refused x n = go j
     where
-      either : (b : Bool) → cond b blown done ≡ refused n → ⊥
-      either true e = let z : ◌≡◌ {A = ℕ} 0 1 = cc in omega arith
-      either false e = let z : ◌≡◌ {A = ℕ} 0 1 = cc in omega arith
-
       go : (j : Job) → reply j x ≡ refused n → ⊥
-      go push e = either false e
-      go fidelity e = either false e
-      go move e = either false e
-      go project e = either x.blown e
+      go push e = let z : ◌≡◌ {A = ℕ} 0 1 = cc in omega arith
+      go fidelity e = let z : ◌≡◌ {A = ℕ} 0 1 = cc in omega arith
+      go move e = let z : ◌≡◌ {A = ℕ} 0 1 = cc in omega arith
+      go project e = let z : ◌≡◌ {A = ℕ} 0 1 = cc in omega arith
 
   not_blended : (x : Seen) (tv tgv : Float) → reply j x ≡ blended tv tgv → ⊥
   not_blended x tv tgv = go j
     where
-      either : (b : Bool) → cond b blown done ≡ blended tv tgv → ⊥
-      either true e = let z : ◌≡◌ {A = ℕ} 0 1 = cc in omega arith
-      either false e = let z : ◌≡◌ {A = ℕ} 0 1 = cc in omega arith
-
       go : (j : Job) → reply j x ≡ blended tv tgv → ⊥
-      go push e = either false e
-      go fidelity e = either false e
-      go move e = either false e
-      go project e = either x.blown e
+      go push e = let z : ◌≡◌ {A = ℕ} 0 1 = cc in omega arith
+      go fidelity e = let z : ◌≡◌ {A = ℕ} 0 1 = cc in omega arith
+      go move e = let z : ◌≡◌ {A = ℕ} 0 1 = cc in omega arith
+      go project e = let z : ◌≡◌ {A = ℕ} 0 1 = cc in omega arith
 
   not_blend : p % 5 ≢ 2
   not_blend e = go j (sym t ∙ e)
@@ -105,31 +102,38 @@ module _ (j : Job) (p : ℕ) (t : p % 5 ≡ turn j) where
   done_on : (x : Seen) (q : Place) → q.mark ≡ false → reply j x ≡ done → ((advance j x q).mark ≡ false) × ((eqb (p % 5) 4 && x.blown) ≡ false)
   done_on x q m = rw t (go j)
     where
-      fine : (b : Bool) → cond b blown done ≡ done → b ≡ false
-      fine true e = let z : ◌≡◌ {A = ℕ} 0 1 = cc in absurd (omega arith)
-      fine false e = refl
-
       go : (j : Job) → reply j x ≡ done → ((advance j x q).mark ≡ false) × ((eqb (turn j) 4 && x.blown) ≡ false)
       go push e = (m, refl)
       go fidelity e = (m, refl)
       go move e = (m, refl)
-      go project e = (fine x.blown e, fine x.blown e)
+      go project e = let z : ◌≡◌ {A = ℕ} 0 1 = cc in absurd (omega arith)
 
-  blown_on : (x : Seen) → reply j x ≡ blown → (eqb (p % 5) 4 && x.blown) ≡ true
-  blown_on x = rw t (go j)
+  -- what project tells is in its answer
+  told_blown : (x : Seen) (n : ℕ) (b : Bool) → reply j x ≡ projected n b → (turn j ≡ 4) × (x.blown ≡ b)
+  told_blown x n b = go j
     where
-      bad : (b : Bool) → cond b blown done ≡ blown → b ≡ true
-      bad true e = refl
-      bad false e = let z : ◌≡◌ {A = ℕ} 0 1 = cc in absurd (omega arith)
+      go : (j : Job) → reply j x ≡ projected n b → (turn j ≡ 4) × (x.blown ≡ b)
+      go push e = let z : ◌≡◌ {A = ℕ} 0 1 = cc in absurd (omega arith)
+      go fidelity e = let z : ◌≡◌ {A = ℕ} 0 1 = cc in absurd (omega arith)
+      go move e = let z : ◌≡◌ {A = ℕ} 0 1 = cc in absurd (omega arith)
+      go project e = (refl, cc)
 
-      never : {X : Type 0} → done ≡ blown → X
-      never e = let z : ◌≡◌ {A = ℕ} 0 1 = cc in absurd (omega arith)
+  fine_on : (x : Seen) (q : Place) (n : ℕ) → q.mark ≡ false → reply j x ≡ projected n false
+      → ((advance j x q).mark ≡ false) × ((eqb (p % 5) 4 && x.blown) ≡ false)
+  fine_on x q n m e = (go j, rw ((told_blown x n false e).1) (off (eqb (p % 5) 4)))
+    where
+      off : (b : Bool) → (b && false) ≡ false
+      off true = refl
+      off false = refl
 
-      go : (j : Job) → reply j x ≡ blown → (eqb (turn j) 4 && x.blown) ≡ true
-      go push e = never e
-      go fidelity e = never e
-      go move e = never e
-      go project e = bad x.blown e
+      go : (j : Job) → (advance j x q).mark ≡ false
+      go push = m
+      go fidelity = m
+      go move = m
+      go project = (told_blown x n false e).1
+
+  blown_on : (x : Seen) (n : ℕ) → reply j x ≡ projected n true → (eqb (p % 5) 4 && x.blown) ≡ true
+  blown_on x n e = let b = told_blown x n true e in rw (t, b.0, b.1) refl
 
   -- no blend: the channels below i are passed
   passed_is : (i c : ℕ) → passed (p % 5) i c ≡ ltb c i
@@ -167,8 +171,13 @@ job_of (suc (suc zero)) h = inr refl
 job_of (suc (suc (suc zero))) h = inl (move, refl)
 job_of (suc (suc (suc (suc k)))) h = inl (project, omega arith)
 
+-- what an answer means for its round
+abbrev pub rounded : Result Accepted Refusal → Result RoundEnd Refusal
+rounded (Err n) = Err n
+rounded (Ok a) = Ok (round_of a)
+
 -- what a call of a round tells
-abbrev pub StepIs : Given → ℕ → ℕ → Result Accepted Refusal → Run → Buffers → Type 0
+abbrev pub StepIs : Given → ℕ → ℕ → Result RoundEnd Refusal → Run → Buffers → Type 0
 StepIs G p i (Err n) r B = ⊥
 StepIs G p i (Ok Done) r B = Within G p (suc i) r B × (blows_at G i p ≡ false) × (p % 5 ≢ 2)
 StepIs G p i (Ok (Blended tv tgv)) r B = Within G p (suc i) r B × (blows_at G i p ≡ false) × (p % 5 ≡ 2) × (totals_at jobs G p ≡ (tv, tgv))
@@ -238,29 +247,39 @@ module _ (G : Given) (ok : GivenOk G) (p : ℕ) (left : p < 5 * G.sheet.N) (i : 
             | no f ↦ ap (λ (k : Place). k.mark) (place_elsewhere (places_of r) i q c f) ∙ w.unmarked c h
           ]
 
-    on_step : (a : Result Accepted Refusal) → result r (call jobs G (on j i) (state_of r B)) ≡ gave a r' B' → StepIs G p i a r' B'
+    one_on : (a : Result Accepted Refusal) → result r (call jobs G (on j i) (state_of r B)) ≡ gave a r' B' → q.mark ≡ false → blows_at G i p ≡ false
+        → StepIs G p i (Ok Done) r' B'
+    one_on a g m b = (
+      record {
+        sheet = same-sheet G ok r B w.sheet w.inv (on j i) a r' B' g;
+        inv = inv_now a g;
+        at_place = now_at a g;
+        unmarked = now_unmarked a g m;
+      },
+      b,
+      not_blend j p t,
+    )
+
+    on_step : (a : Result Accepted Refusal) → result r (call jobs G (on j i) (state_of r B)) ≡ gave a r' B' → StepIs G p i (rounded a) r' B'
     unfolding x q blows_at
     on_step (Err n) g = not_refused j p t x (number_of n) (replied (Err n) g)
-    on_step (Ok Done) g =
-        let d = done_on j p t x (place (places_of r) i) (w.unmarked i below) (replied (Ok Done) g) in (
-          record {
-            sheet = same-sheet G ok r B w.sheet w.inv (on j i) (Ok Done) r' B' g;
-            inv = inv_now (Ok Done) g;
-            at_place = now_at (Ok Done) g;
-            unmarked = now_unmarked (Ok Done) g d.0;
-          },
-          d.1,
-          not_blend j p t,
-        )
-    on_step (Ok (Blended tv tgv)) g = absurd (not_blended j p t x tv tgv (replied (Ok (Blended tv tgv)) g))
-    on_step (Ok Blown) g = (below, blown_on j p t x (replied (Ok Blown) g), (inv_now (Ok Blown) g).sized)
+    on_step (Ok accepted.Done) g =
+        let d = done_on j p t x (place (places_of r) i) (w.unmarked i below) (replied (Ok accepted.Done) g) in
+        one_on (Ok accepted.Done) g d.0 d.1
+    on_step (Ok (accepted.Projected n false)) g =
+        let d = fine_on j p t x (place (places_of r) i) n (w.unmarked i below) (replied (Ok (accepted.Projected n false)) g) in
+        one_on (Ok (accepted.Projected n false)) g d.0 d.1
+    on_step (Ok (accepted.Projected n true)) g =
+        let b = blown_on j p t x n (replied (Ok (accepted.Projected n true)) g) in
+        (below, b, (inv_now (Ok (accepted.Projected n true)) g).sized)
+    on_step (Ok (accepted.Blended tv tgv)) g = absurd (not_blended j p t x tv tgv (replied (Ok (accepted.Blended tv tgv)) g))
 
   -- blend: one call for all channels
   module _ (t : p % 5 ≡ 2) (first : i ≡ 0) where
     all_here : (c : ℕ) → c < count G → (place (places_of r) c).position ≡ p
     all_here c h = w.at_place c h ∙ ap (λ (b : Bool). cond b (suc p) p) (ap (λ (k : ℕ). passed k i c) t ∙ ap (λ (k : ℕ). ltb 0 k) first)
 
-    blend_step : (a : Result Accepted Refusal) → result r (call jobs G blend (state_of r B)) ≡ gave a r' B' → StepIs G p i a r' B'
+    blend_step : (a : Result Accepted Refusal) → result r (call jobs G blend (state_of r B)) ≡ gave a r' B' → StepIs G p i (rounded a) r' B'
     unfolding blows_at
     blend_step a g =
         let says : blend_reply (totals_at jobs G p) ≡ answer_of a =
@@ -277,11 +296,11 @@ module _ (G : Given) (ok : GivenOk G) (p : ℕ) (left : p < 5 * G.sheet.N) (i : 
             λ i. (first i, second i)
 
         go : (a : Result Accepted Refusal) → blend_reply (totals_at jobs G p) ≡ answer_of a → places_of r' ≡ map onward (places_of r) → Inv jobs G (state_of r' B') → sheet_of r' ≡ G.sheet
-            → StepIs G p i a r' B'
+            → StepIs G p i (rounded a) r' B'
         go (Err n) e o v s = let z : ◌≡◌ {A = ℕ} 0 1 = cc in omega arith
-        go (Ok Blown) e o v s = let z : ◌≡◌ {A = ℕ} 0 1 = cc in absurd (omega arith)
-        go (Ok Done) e o v s = let z : ◌≡◌ {A = ℕ} 0 1 = cc in absurd (omega arith)
-        go (Ok (Blended tv tgv)) e o v s =
+        go (Ok (accepted.Projected n b)) e o v s = let z : ◌≡◌ {A = ℕ} 0 1 = cc in absurd (omega arith)
+        go (Ok accepted.Done) e o v s = let z : ◌≡◌ {A = ℕ} 0 1 = cc in absurd (omega arith)
+        go (Ok (accepted.Blended tv tgv)) e o v s =
             let each : (c : ℕ) → c < count G → place (places_of r') c ≡ onward (place (places_of r) c) =
             λ c h. ap (λ (ps : List Place). place ps c) o ∙ get_d_map_lt onward (places_of r) fresh fresh c (omega (arith, w.inv.legal_places.long)) in (
               record {
@@ -300,7 +319,7 @@ module _ (G : Given) (ok : GivenOk G) (p : ℕ) (left : p < 5 * G.sheet.N) (i : 
             )
 
   -- the round's next call, by the job's number
-  pub next_call : i < turns (p % 5) (count G) → (a : Result Accepted Refusal) → call_of r (numbered (p % 5) i) G.levels G.tables B ≡ gave a r' B' → StepIs G p i a r' B'
+  pub next_call : i < turns (p % 5) (count G) → (a : Result Accepted Refusal) → call_of r (numbered (p % 5) i) G.levels G.tables B ≡ gave a r' B' → StepIs G p i (rounded a) r' B'
   next_call more a g = go (job_of (p % 5) (omega arith))
     where
       given_is : given_of r G.levels G.tables ≡ G
@@ -310,7 +329,7 @@ module _ (G : Given) (ok : GivenOk G) (p : ℕ) (left : p < 5 * G.sheet.N) (i : 
       plainly =
           ap (λ (H : Given). result r (call jobs H (numbered (p % 5) i) (state_of r B))) (sym given_is) ∙ g
 
-      go : ((j : Job) × (p % 5 ≡ turn j)) ⊎ (p % 5 ≡ 2) → StepIs G p i a r' B'
+      go : ((j : Job) × (p % 5 ≡ turn j)) ⊎ (p % 5 ≡ 2) → StepIs G p i (rounded a) r' B'
       go (inl q) =
           on_step q.0 q.1 (omega (arith, turns_are q.0 p q.1 (count G))) a
           (ap (λ (x : Call). result r (call jobs G x (state_of r B))) (sym (number_is q.0 p q.1 i)) ∙ plainly)
@@ -318,6 +337,12 @@ module _ (G : Given) (ok : GivenOk G) (p : ℕ) (left : p < 5 * G.sheet.N) (i : 
           let only : turns (p % 5) (count G) ≡ 1 = ap (λ (k : ℕ). turns k (count G)) t in
           blend_step t (omega arith) a
           (ap (λ (k : ℕ). result r (call jobs G (numbered k i) (state_of r B))) (sym t) ∙ plainly)
+
+  pub next_rest : (a : Result Accepted Refusal) → call_of r (numbered (p % 5) i) G.levels G.tables B ≡ gave a r' B' → RestStays r r'
+  next_rest a g =
+      let given_is : given_of r G.levels G.tables ≡ G = ap (λ (S : Sheet). record { sheet = S; levels = G.levels; tables = G.tables }) w.sheet in
+      rest_stays G ok r B w.sheet w.inv (numbered (p % 5) i) a r' B'
+      (ap (λ (H : Given). result r (call jobs H (numbered (p % 5) i) (state_of r B))) (sym given_is) ∙ g)
 
 -- ---- a round's ends
 
@@ -354,11 +379,11 @@ none_blown G p e = go (job_of (p % 5) (omega arith))
 
 -- ---- results that differ
 
-pub ok_same : {a b : Accepted} → ◌≡◌ {A = Result Accepted Refusal} (Ok a) (Ok b) → a ≡ b
-ok_same {a} {b} z = cc
+pub ok_same : {X : Type 0} {a b : X} → ◌≡◌ {A = Result X Refusal} (Ok a) (Ok b) → a ≡ b
+ok_same {X} {a} {b} z = cc
 
-pub err_ok : {e : Refusal} {a : Accepted} → ◌≡◌ {A = Result Accepted Refusal} (Err e) (Ok a) → ⊥
-err_ok {e} {a} z = let q : ◌≡◌ {A = ℕ} 0 1 = cc in omega arith
+pub err_ok : {X : Type 0} {e : Refusal} {a : X} → ◌≡◌ {A = Result X Refusal} (Err e) (Ok a) → ⊥
+err_ok {X} {e} {a} z = let q : ◌≡◌ {A = ℕ} 0 1 = cc in omega arith
 
 -- ---- a round's loop: after i of n calls
 
@@ -405,11 +430,11 @@ module _ (r₀ : Run) (p : ℕ) (levels : Levels) (tables : List ℕ) (B₀ : Bu
 
   module _ (n i : ℕ) (is : n ≡ turns (p % 5) (count G)) (r : Run) (B : Buffers) (h : Passing G p n i r B₀ B) where
     -- a call that was answered `done`, and one that was not
-    pub goes-on : i < n → (a : Result Accepted Refusal) (r' : Run) (B' : Buffers) → call_of r (numbered (p % 5) i) levels tables B ≡ gave a r' B' → a ≡ (Ok Done)
+    pub goes-on : i < n → (a : Result Accepted Refusal) (r' : Run) (B' : Buffers) → call_of r (numbered (p % 5) i) levels tables B ≡ gave a r' B' → rounded a ≡ (Ok Done)
         → Passing G p n (i + 1) r' B₀ B'
-    goes-on more a r' B' g one = go a one (next_call G asks.ok p asks.left i r B h.within r' B' (omega arith) a g)
+    goes-on more a r' B' g one = go (rounded a) one (next_call G asks.ok p asks.left i r B h.within r' B' (omega arith) a g)
       where
-        go : (a : Result Accepted Refusal) → a ≡ (Ok Done) → StepIs G p i a r' B' → Passing G p n (i + 1) r' B₀ B'
+        go : (a : Result RoundEnd Refusal) → a ≡ (Ok Done) → StepIs G p i a r' B' → Passing G p n (i + 1) r' B₀ B'
         go (Err m) one s = absurd s
         go (Ok Blown) one s = let z : ◌≡◌ {A = ℕ} 0 1 = cc in absurd (omega arith)
         go (Ok (Blended tv tgv)) one s = let z : ◌≡◌ {A = ℕ} 0 1 = cc in absurd (omega arith)
@@ -423,11 +448,14 @@ module _ (r₀ : Run) (p : ℕ) (levels : Levels) (tables : List ℕ) (B₀ : Bu
               kept = kept_of (count G * area G) B₀ B' asks.all.inv.sized s.0.inv.sized;
             }
 
-    pub stops : i < n → (a : Result Accepted Refusal) (r' : Run) (B' : Buffers) → call_of r (numbered (p % 5) i) levels tables B ≡ gave a r' B' → (a ≡ (Ok Done) → ⊥)
-        → RoundIs G p a r' B'
-    stops more a r' B' g one = go a one (next_call G asks.ok p asks.left i r B h.within r' B' (omega arith) a g)
+    pub rest_next : (a : Result Accepted Refusal) (r' : Run) (B' : Buffers) → call_of r (numbered (p % 5) i) levels tables B ≡ gave a r' B' → RestStays r r'
+    rest_next a r' B' g = next_rest G asks.ok p asks.left i r B h.within r' B' a g
+
+    pub stops : i < n → (a : Result Accepted Refusal) (r' : Run) (B' : Buffers) → call_of r (numbered (p % 5) i) levels tables B ≡ gave a r' B' → (rounded a ≡ (Ok Done) → ⊥)
+        → RoundIs G p (rounded a) r' B'
+    stops more a r' B' g one = go (rounded a) one (next_call G asks.ok p asks.left i r B h.within r' B' (omega arith) a g)
       where
-        go : (a : Result Accepted Refusal) → (a ≡ (Ok Done) → ⊥) → StepIs G p i a r' B' → RoundIs G p a r' B'
+        go : (a : Result RoundEnd Refusal) → (a ≡ (Ok Done) → ⊥) → StepIs G p i a r' B' → RoundIs G p a r' B'
         go (Err m) one s = s
         go (Ok Done) one s = absurd (one refl)
         go (Ok Blown) one s = (among_true (count G) (λ c. blows_at G c p) i s.0 s.1, s.2)

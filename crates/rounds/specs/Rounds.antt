@@ -12,7 +12,9 @@ use Rattle.record.specs.declared.Run.{Run}
 use Rattle.std.specs.Prelude.{Result, Ok, Err}
 use Rattle.refusal.specs.declared.Refusal.{Refusal}
 use Rattle.record.specs.declared.Accepted.{Accepted}
-use Rattle.record.specs.declared.Accepted.TheVariants.{Done, Blown, Blended}
+use Rattle.record.specs.declared.Accepted.TheVariants as accepted
+use Rattle.rounds.specs.declared.RoundEnd.{RoundEnd}
+use Rattle.rounds.specs.declared.RoundEnd.TheVariants.{Done, Blended, Blown}
 use Rattle.record.specs.Model.{sheet_of, places_of, given_of}
 use Rattle.run.specs.Public.{state_of}
 use Rattle.rounds.specs.Whole.{blows_at, job_count}
@@ -53,15 +55,22 @@ pub record RoundAsks (r : Run) (p : ℕ) (levels : Levels) (tables : List ℕ) (
   pub left : p < job_count (given_of r levels tables)
   pub all : AllAt (given_of r levels tables) p r B
 
+-- what an accepted call means for its round: done, or the round's end
+abbrev pub round_of : Accepted → RoundEnd
+round_of accepted.Done = Done
+round_of (accepted.Projected clipped false) = Done
+round_of (accepted.Projected clipped true) = Blown
+round_of (accepted.Blended tv tgv) = Blended tv tgv
+
 -- and answers: done, with all channels one job on, and where the job is blend with its totals; or blown, with one that is
-abbrev pub RoundIs : Given → ℕ → Result Accepted Refusal → Run → Buffers → Type 0
+abbrev pub RoundIs : Given → ℕ → Result RoundEnd Refusal → Run → Buffers → Type 0
 RoundIs G p (Err n) r B = ⊥
 RoundIs G p (Ok Done) r B = AllAt G (suc p) r B × (round_blows G p ≡ false) × (p % 5 ≢ 2)
 RoundIs G p (Ok (Blended tv tgv)) r B = AllAt G (suc p) r B × (round_blows G p ≡ false) × (p % 5 ≡ 2) × (totals_at jobs G p ≡ (tv, tgv))
 RoundIs G p (Ok Blown) r B = (round_blows G p ≡ true) × Sized (count G * area G) B
 
 -- the totals with those of a blend's answer at the places of step k; with other answers as they were
-abbrev pub with_pair : Result Accepted Refusal → ℕ → List Float → List Float
+abbrev pub with_pair : Result RoundEnd Refusal → ℕ → List Float → List Float
 with_pair (Err n) k T = T
 with_pair (Ok Done) k T = T
 with_pair (Ok Blown) k T = T

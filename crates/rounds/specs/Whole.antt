@@ -3,17 +3,18 @@ use Rattle.std.specs.Prelude.{ℕ, zero, suc, ◌+◌, ◌*◌, ◌%◌, ◌<◌
 use Rattle.start.specs.Coef.{Levels}
 use Rattle.fold.specs.Join.{join_upto}
 use Rattle.start.specs.Buffers.{Buffers}
-use Rattle.calls.specs.Run.{Given, count, among}
+use Rattle.calls.specs.Run.{Given, count, among, place}
 use Rattle.calls.specs.Buffers.{Name, get, joined}
 use Rattle.calls.specs.Jobs.{fixed, kept, channel_blown, totals_at}
-use Rattle.calls.specs.Calls as Calls
 use Rattle.calls.specs.Calls.{lengths, all_six, start_refusal}
 use Rattle.demand.specs.Solver.{jobs}
 use Rattle.record.specs.declared.Run.{Run}
-use Rattle.std.specs.Prelude.{Result}
+use Rattle.std.specs.Prelude.{Result, Ok, Err}
 use Rattle.refusal.specs.declared.Refusal.{Refusal}
-use Rattle.record.specs.declared.Accepted.{Accepted}
-use Rattle.record.specs.Model.{places_of, clipped_of, given_of, answer_of}
+use Rattle.refusal.specs.Refusal.{number_of}
+use Rattle.record.specs.Model.{places_of, clipped_of, given_of, placed}
+use Rattle.rounds.specs.declared.Ran.{Ran}
+use Rattle.rounds.specs.declared.Ran.TheVariants as ran
 
 -- ---- what a run leaves, by what it is given
 
@@ -67,6 +68,17 @@ run_of G =
 
 -- ---- how a run ends
 
+-- refused, by a number of the table; done; or a channel is blown
+pub data Ending : Type 0 where
+  refused : ℕ → Ending
+  done : Ending
+  blown : Ending
+
+abbrev pub ending_of : Result Ran Refusal → Ending
+ending_of (Err r) = refused (number_of r)
+ending_of (Ok ran.Done) = done
+ending_of (Ok ran.Blown) = blown
+
 -- the six lent buffers
 abbrev pub six : List Float → List Float → List Float → List Float → List Float → List Float → Buffers
 six plane prior gradient across down saved =
@@ -93,17 +105,31 @@ ClippedAre w k = (c : ℕ) → c < w.channels → k c ≡ w.clipped c
 
 -- How a whole run that is not refused ends, by whether it blows: blown, what it was lent being free but for the lengths, and the numbers k free; or done,
 -- with the six, the totals and the numbers.
-abbrev pub Ended : Bool → Whole → Loan → Calls.Answer → (ℕ → ℕ) → Loan → Type 0
-Ended true w L a k L' = (a ≡ Calls.blown) × AsLong L L'
-Ended false w L a k L' = (a ≡ Calls.done) × (L' ≡ loan w.buffers w.totals) × AsLong L L' × ClippedAre w k
+abbrev pub Ended : Bool → Whole → Loan → Ending → (ℕ → ℕ) → Loan → Type 0
+Ended true w L a k L' = (a ≡ blown) × AsLong L L'
+Ended false w L a k L' = (a ≡ done) × (L' ≡ loan w.buffers w.totals) × AsLong L L' × ClippedAre w k
 
 -- By its refusal, 0 for none: a refusal leaves what was lent as it was.
-abbrev pub Ends : ℕ → Whole → Loan → Calls.Answer → (ℕ → ℕ) → Loan → Type 0
-Ends (suc n) w L a k L' = (a ≡ Calls.refused (suc n)) × (L' ≡ L)
+abbrev pub Ends : ℕ → Whole → Loan → Ending → (ℕ → ℕ) → Loan → Type 0
+Ends (suc n) w L a k L' = (a ≡ refused (suc n)) × (L' ≡ L)
 Ends zero w L a k L' = Ended w.blown w L a k L'
 
 -- the run of one record, from its start to its last job, which leaves the record r'
-abbrev pub RunIs : Run → Levels → List ℕ → Loan → Result Accepted Refusal → Run → Loan → Type 0
+abbrev pub RunIs : Run → Levels → List ℕ → Loan → Result Ran Refusal → Run → Loan → Type 0
 RunIs r levels tables L a r' L' =
     let G = given_of r levels tables in
-    Ends (start_refusal G (places_of r) (lengths all_six L.buffers)) (run_of G) L (answer_of a) (clipped_of r') L'
+    Ends (start_refusal G (places_of r) (lengths all_six L.buffers)) (run_of G) L (ending_of a) (clipped_of r') L'
+
+-- ---- the record that a run leaves
+
+-- all of it but the places of its channels is as it was
+abbrev pub RestStays : Run → Run → Type 0
+RestStays r r' = r' ≡ placed r (places_of r')
+
+-- each channel stands after its last job, is not marked, and keeps its number
+abbrev pub AtItsEnd : Given → Run → Type 0
+AtItsEnd G r' = (c : ℕ) → c < count G → place (places_of r') c ≡ record { position = job_count G; mark = false; clipped = kept jobs G (job_count G) c }
+
+-- and so it does where the run is done
+abbrev pub EndsDone : Result Ran Refusal → Given → Run → Type 0
+EndsDone a G r' = a ≡ Ok ran.Done → AtItsEnd G r'

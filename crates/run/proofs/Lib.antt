@@ -1,4 +1,4 @@
 -- Laws for the proofs of the public calls.
 pub mod Ready
-pub mod Jobs
+pub mod JobLaws
 pub mod Startable

@@ -1,4 +1,4 @@
-// The public calls on a run, in `values`: start, push, data, blend, move and project.
+// The public calls on a run, in `jobs`: start, push, data, blend, move and project.
 #![tactic(auto)]
 
-pub mod values;
+pub mod jobs;

@@ -3,3 +3,4 @@ pub mod Listed
 pub mod Served
 pub mod Example
 pub mod OneByOne
+pub mod Kept

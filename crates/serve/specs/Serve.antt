@@ -1,5 +1,5 @@
 -- A list of calls on a fresh run, with demand 3 of document 01 as its contract.
-use Rattle.std.specs.Prelude.{ℕ, ◌<◌, ◌≡◌, ◌≢◌, Bool, false, not, ◌&&◌, List, [], ◌∷◌, map, ltb, eqb, length, Result}
+use Rattle.std.specs.Prelude.{ℕ, ◌<◌, ◌≡◌, ◌≢◌, Bool, true, false, not, ◌&&◌, List, [], ◌∷◌, map, ltb, eqb, length, Result}
 use Rattle.start.specs.Coef.{Levels}
 use Rattle.start.specs.Buffers.{Buffers}
 use Rattle.calls.specs.Run.{Given, Place, place, count, area, coefs}
@@ -27,11 +27,12 @@ call_list (j ∷ js) (c ∷ cs) = numbered j c ∷ call_list js cs
 abbrev pub all_jobs : List ℕ → Bool
 all_jobs js = all (λ j. ltb j 5) js
 
--- An answer as a byte: 0 accepted, 255 accepted and the channel is now marked blown, else the refusal's number in the table.
+-- An answer as a byte: 0 accepted, 255 a project accepted whose channel is now marked blown, else the refusal's number in the table.
 abbrev pub byte_of : Calls.Answer → ℕ
 byte_of (Calls.refused n) = n
 byte_of Calls.done = 0
-byte_of Calls.blown = 255
+byte_of (Calls.projected clipped true) = 255
+byte_of (Calls.projected clipped false) = 0
 byte_of (Calls.blended tv tgv) = 0
 
 -- what a call gives, its answer as a number: the number, the record and the buffers afterwards

@@ -5,8 +5,9 @@ mod lists;
 
 ghost use Rattle.record.specs.Lent.{levels_in, six_of, SameSix};
 ghost use Rattle.serve.specs.Serve.{ServeIs};
+ghost use Rattle.serve.specs.Made.{MadeServed, ProjectKeeps};
 
-pub use crate::lists::answer_byte;
+pub use crate::lists::{BLOWN, answer_byte};
 use record::lent::{Buffers, Given};
 use record::{Accepted, Run};
 use refusal::Refusal;
@@ -34,7 +35,16 @@ pub fn serve(
         &lent.lengths(),
         given,
     )?;
-    run::values::start(run, given, lent)?;
+    run::jobs::start(run, given, lent)?;
     lists::make_calls(run, jobs, channels, answers, given, lent);
     Ok(Accepted::Done)
 }
+
+/// Calls made one by one after a start that is accepted, each with what the one before left, leave
+/// what a list of them leaves, and their whole answers are the plain run's: a blend's with both its
+/// totals, and a project's with the number that it clipped, which the record then keeps.
+// Rules out: a project's number that is not the record's; a blend without its totals.
+pub fn one_by_one_law()
+    ensures served { MadeServed }
+    ensures kept { ProjectKeeps }
+{}

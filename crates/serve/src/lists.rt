@@ -12,13 +12,16 @@ use record::refusals::start_refusal;
 use record::{Accepted, Job, Run};
 use refusal::Refusal;
 
-// An answer as a byte: 0 done, 255 done and blown, else the refusal's number. Ruled out: 0 for a project that marks its channel; 255 for a refusal.
+/// The byte of an answer that leaves its channel marked blown.
+pub const BLOWN: u8 = 255;
+
+// An answer as a byte: 0 done, 255 a project done whose channel is now marked blown, else the refusal's number. Ruled out: 0 for a project that marks its channel; 255 for a refusal.
 // Kept: neither `Result` nor u8 is this crate's, so that no impl of `From` between them can stand here.
 pub fn answer_byte(answer: Result<Accepted, Refusal>) -> u8
     ensures { result ≡ byte_of (answer_of answer) }
 {
     match answer {
-        Ok(Accepted::Blown) => 255,
+        Ok(Accepted::Projected { blown: true, .. }) => BLOWN,
         Ok(_) => 0,
         Err(refusal) => refusal.number(),
     }

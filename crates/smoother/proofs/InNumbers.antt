@@ -3,7 +3,7 @@ use lib.Dec.{leb}
 use mathlib.Core.Path.{◌≡◌, refl, sym, ap, ◌∙◌, subst}
 use mathlib.Core.Bool.{Bool, true, false, cond, true≢false}
 use mathlib.Core.Logic.{◌≢◌}
-use mathlib.Core.List.{List}
+use mathlib.Core.List.{List, [], ◌∷◌}
 use Prim.Native.Nat.{ℕ, zero, suc, ◌≤◌}
 use native.Mathlib.Omega.{arith}
 use lib.Ieee.{Float}
@@ -17,7 +17,7 @@ use Rattle.record.specs.declared.Run.{Run}
 use Rattle.std.specs.Prelude.{Result, Ok, Err}
 use Rattle.refusal.specs.declared.Refusal.{Refusal}
 use Rattle.refusal.specs.declared.Refusal.TheVariants.{Record}
-use Rattle.calls.specs.Calls.{Answer}
+use Rattle.calls.specs.Calls.{Answer, blended}
 use Rattle.record.specs.declared.Accepted.{Accepted}
 use Rattle.record.specs.Model.{answer_of}
 use Rattle.calls.specs.Jobs.{blend}
@@ -118,6 +118,17 @@ module _ {x : LentRun} {plane gradient across down totals : List Float} where
               ∙ rw l;
           not_two = λ g. absurd (g long);
         }
+
+-- both totals of a blend that was lent the numbers of a record stand in its two places
+pub pair_of : (r : Run) (levels : Levels) (tables : List ℕ) (B : Buffers) {k : ℕ} {x' : LentRun} {gradient across down lent totals : List Float} → length lent ≡ 2
+    → BlendNumbers (lent_from r) B.plane B.gradient B.across B.down lent k x' gradient across down totals
+    → (tv tgv : Float) → (call_of r blend levels tables B).answer ≡ blended tv tgv → totals ≡ tv ∷ tgv ∷ []
+pair_of r levels tables B {k} {x'} {gradient} {across} {down} {lent} e h tv tgv q =
+    h.pair e levels tables B
+    ∙ ap (λ (b : Bool). cond b (pair_in (call_of (run_from (lent_from r)) blend levels tables B).answer lent) lent)
+    (le-leb (reorder_number r.reorder) 1 (some_letter r.reorder))
+    ∙ ap (λ (z : Run). pair_in (call_of z blend levels tables B).answer lent) (run_back r)
+    ∙ ap (λ (a : Answer). pair_in a lent) q
 
 -- a call that was lent the numbers of a record: what it gave
 pub made_of : (r : Run) {B : Buffers} {f : Run → Outcome} {k : ℕ} {r' : Run} {B' : Buffers} → GaveLent (lent_from r) B f k (lent_from r') B' → GaveNumber (f r) k r' B'

@@ -2,3 +2,4 @@
 pub mod InNumbers
 pub mod NeverBlows
 pub mod OneByOne
+pub mod MildSolve

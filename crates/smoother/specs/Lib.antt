@@ -2,3 +2,4 @@
 pub mod Numbers
 pub mod OneByOne
 pub mod Sizes
+pub mod Mild

@@ -9,7 +9,7 @@ use Rattle.start.specs.declared.coef.Reorder.TheVariants.{Each, Once}
 use Rattle.start.specs.Buffers.{Buffers}
 use Rattle.calls.specs.Jobs.{push, fidelity, move, project, on, blend}
 use Rattle.calls.specs.Run.{legal}
-use Rattle.calls.specs.Calls.{Answer, refused, done, blown, blended, none_yet, plain_places}
+use Rattle.calls.specs.Calls.{Answer, refused, done, projected, blended, none_yet, plain_places}
 use Rattle.demand.specs.Solver.{jobs}
 use Rattle.record.specs.declared.Run.{Run}
 use Rattle.record.specs.Model.{sheet_of, places_of, given_of}
@@ -81,7 +81,7 @@ DataNumbers x c levels tables gradient saved k x' gradient' =
 abbrev pub pair_in : Answer → List Float → List Float
 pair_in (refused n) totals = totals
 pair_in done totals = totals
-pair_in blown totals = totals
+pair_in (projected clipped blown) totals = totals
 pair_in (blended tv tgv) totals = tv ∷ tgv ∷ []
 
 -- where not two places are lent: 13 for C's record, then 8

@@ -1,10 +1,11 @@
 // The public calls on a run as C functions. Each is lent the record, and answers a number: 0 for done, the table's number for a refusal, and 255
 // for done with the channel now marked blown. A record whose letter's number is neither 0 nor 1 is 13, before anything else.
-ghost use Rattle.std.specs.Prelude.{◌≡◌, length};
-ghost use Rattle.start.specs.Coef.{pairs};
+ghost use Rattle.std.specs.Prelude.{◌≡◌, ℕ, List, length};
+ghost use Rattle.start.specs.Coef.{Levels, pairs};
 ghost use Rattle.record.specs.Model.{answer_of};
 ghost use Rattle.serve.specs.Serve.{byte_of};
-ghost use Rattle.smoother.specs.Numbers.{lent_from, pair_in, room_refusal, NeverBlowsNumbers, StartNumbers, PushNumbers, DataNumbers, BlendNumbers, MoveNumbers, ProjectNumbers, ServeNumbers};
+ghost use Rattle.smoother.specs.OneByOne.{CallsNeverBlow, MildCallsNeverBlow, OneByOneServed};
+ghost use Rattle.smoother.specs.Numbers.{run_from, lent_from, pair_in, room_refusal, NeverBlowsNumbers, StartNumbers, PushNumbers, DataNumbers, BlendNumbers, MoveNumbers, ProjectNumbers, ServeNumbers};
 ghost use Rattle.refusal.specs.Refusal.{number_of};
 
 use crate::LentRun;
@@ -58,7 +59,7 @@ pub extern "C" fn smoother_start(
         down,
         saved,
     };
-    let answer = run::values::start(&mut r, given, &mut lent);
+    let answer = run::jobs::start(&mut r, given, &mut lent);
     told(run, r, answer)
 }
 
@@ -66,7 +67,8 @@ pub extern "C" fn smoother_start(
 // exactly 1; a record that is not as it was.
 #[unsafe(no_mangle)]
 pub extern "C" fn smoother_never_blows(run: &mut LentRun) -> u32
-    ensures { NeverBlowsNumbers run.old result run.new }
+    ensures tells { NeverBlowsNumbers run.old result run.new }
+    ensures calls { result ≡ 1 → CallsNeverBlow (run_from run.old) }
 {
     match Run::try_from(*run) {
         Ok(r) => u32::from(mild::never_blows(r)),
@@ -89,7 +91,7 @@ pub extern "C" fn smoother_push(
     let Ok(mut r) = Run::try_from(*run) else {
         return u32::from(Refusal::Record);
     };
-    let answer = run::values::push(&mut r, c, plane, prior);
+    let answer = run::jobs::push(&mut r, c, plane, prior);
     told(run, r, answer)
 }
 
@@ -114,7 +116,7 @@ pub extern "C" fn smoother_data(
         highs,
         tables,
     };
-    let answer = run::values::data(&mut r, c, given, gradient, saved);
+    let answer = run::jobs::data(&mut r, c, given, gradient, saved);
     told(run, r, answer)
 }
 
@@ -158,7 +160,7 @@ pub extern "C" fn smoother_blend(
     let Ok(mut r) = Run::try_from(*run) else {
         return u32::from(Refusal::Record);
     };
-    let answer = run::values::blend(&mut r, plane, gradient, across, down);
+    let answer = run::jobs::blend(&mut r, plane, gradient, across, down);
     put_pair(answer, totals);
     told(run, r, answer)
 }
@@ -177,7 +179,7 @@ pub extern "C" fn smoother_move(
     let Ok(mut r) = Run::try_from(*run) else {
         return u32::from(Refusal::Record);
     };
-    let answer = run::values::move_plane(&mut r, c, plane, gradient);
+    let answer = run::jobs::move_plane(&mut r, c, plane, gradient);
     told(run, r, answer)
 }
 
@@ -205,7 +207,7 @@ pub extern "C" fn smoother_project(
         highs,
         tables,
     };
-    let answer = run::values::project(&mut r, c, given, plane, across, down, saved);
+    let answer = run::jobs::project(&mut r, c, given, plane, across, down, saved);
     told(run, r, answer)
 }
 
@@ -251,3 +253,13 @@ pub extern "C" fn smoother_serve(
     let answer = serve::serve(&mut r, jobs, channels, answers, given, &mut lent);
     told(run, r, answer)
 }
+
+/// The exported calls made one by one after a start that answers 0, each with what the one before
+/// left: their answers are the plain run's, with both totals of a blend in its two places and the
+/// number that a project clipped in the record. With at most 20 iterations and weights of at most 1
+/// none answers 255 or 10.
+// Rules out: a project's number that is not the record's; a blend without its totals.
+pub fn one_by_one_law()
+    ensures served { (levels : Levels) (tables : List ℕ) → OneByOneServed levels tables }
+    ensures mild { MildCallsNeverBlow }
+{}

@@ -1,16 +1,16 @@
 // The whole run of a sheet and its picture as C functions. Both answer 0 for done, or the table's number.
-ghost use Rattle.std.specs.Prelude.{◌≡◌};
+ghost use Rattle.std.specs.Prelude.{◌≡◌, ◌≢◌};
 ghost use Rattle.start.specs.Coef.{pairs};
 ghost use Rattle.rounds.specs.Whole.{six, loan};
 ghost use Rattle.by_numbers.specs.Whole.{letters_ok, SolveNumbers, FinishNumbers};
+ghost use Rattle.smoother.specs.Mild.{MildNumbers};
 
 use by_numbers::NUMBERS;
 use by_numbers::sheets::{put_clipped, sheet_of};
 use picture::Rounding;
-use record::Accepted;
 use record::lent::{Buffers, Given};
 use refusal::{Refusal, answer_number};
-use serve::answer_byte;
+use serve::BLOWN;
 use solve::Solved;
 use solve::modes::all_legal;
 
@@ -40,9 +40,10 @@ pub extern "C" fn smoother_solve(
     clipped: &mut [u32],
     totals: &mut [f64],
 ) -> u32
-    ensures { SolveNumbers numbers.now (pairs lows.now highs.now) tables.now
+    ensures solved { SolveNumbers numbers.now (pairs lows.now highs.now) tables.now
         (loan (six plane.old prior.old gradient.old across.old down.old saved.old) totals.old) clipped.old result
         (loan (six plane.new prior.new gradient.new across.new down.new saved.new) totals.new) clipped.new }
+    ensures mild { MildNumbers numbers.now → result ≢ 255 }
 {
     let Some(numbers) = numbers.as_array::<NUMBERS>() else {
         return u32::from(Refusal::Length);
@@ -75,7 +76,7 @@ pub extern "C" fn smoother_solve(
             put_clipped(counts, clipped);
             0
         }
-        Ok(Solved::Blown) => u32::from(answer_byte(Ok(Accepted::Blown))),
+        Ok(Solved::Blown) => u32::from(BLOWN),
         Err(e) => u32::from(e),
     }
 }

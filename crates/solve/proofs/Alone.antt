@@ -23,19 +23,18 @@ use Rattle.start.specs.Buffers.{Buffers}
 use Rattle.contents.specs.declared.Sheet.{Sheet}
 use Rattle.calls.specs.Run.{Numbers, Given, coefs, levels_before, levels_part, every, among}
 use Rattle.calls.specs.Buffers.{Plane, Prior, Gradient, Across, Down, Saved, get, joined, channel, put_channel, Sized}
-use Rattle.calls.specs.Calls as Calls
-use Rattle.calls.specs.Calls.{done, blown, all, all_six, lengths, table_ok, levels_fault, lend_tests, start_refusal}
+use Rattle.calls.specs.Calls.{all, all_six, lengths, table_ok, levels_fault, lend_tests, start_refusal}
 use Rattle.calls.proofs.Parts.{channel_sized, put_sized, put_same, put_other, joined_channels}
 use Rattle.calls.proofs.Tests.{every_at, among_true, all_part, faultless_of, of_faultless, part_faultless, skip, sized_names, sized_of, Lent, lent_of, of_lent}
 use Rattle.record.specs.declared.Run.{Run}
 use Rattle.std.specs.Prelude.{Result, Ok}
 use Rattle.refusal.specs.declared.Refusal.{Refusal}
-use Rattle.record.specs.declared.Accepted.{Accepted}
-use Rattle.record.specs.declared.Accepted.TheVariants.{Done, Blown, Blended}
-use Rattle.record.specs.Model.{Legal, own_of, no_channel, sheet_of, places_of, clipped_of, answer_of}
+use Rattle.rounds.specs.declared.Ran.{Ran}
+use Rattle.rounds.specs.declared.Ran.TheVariants.{Done, Blown}
+use Rattle.record.specs.Model.{Legal, own_of, no_channel, sheet_of, places_of, clipped_of}
 use Rattle.record.proofs.Channels.{at_own}
 use Rattle.record.proofs.Sizes.{count_3, levels_rise, levels_small}
-use Rattle.rounds.specs.Whole.{six, run_blows, run_totals, Whole, last, run_of, Loan, loan, ClippedAre, Ended, Ends, RunIs}
+use Rattle.rounds.specs.Whole.{done, blown, ending_of, six, run_blows, run_totals, Whole, last, run_of, Loan, loan, ClippedAre, Ended, Ends, RunIs}
 use Rattle.rounds.proofs.Steps.{Kept, kept_of}
 use Rattle.rounds.proofs.Ends.{same_lengths, totals_length, renumber, is_done, not_done}
 use Rattle.solve.specs.Solve.{joint, alone, iterations_at, steps_before, blend_count, joint_given, alone_given, levels_for, tables_for, alone_clipped, separately, whole_of, number_in, is_legal, all_legal, solve_refusal, SolveIs}
@@ -43,19 +42,13 @@ use Rattle.solve.specs.Separate.{totals_from, loan_of, PartsAre, AloneAsks, Alon
 
 -- ---- a run that is accepted and not done is blown, with its numbers free
 
-pub blown_ends : (n : ℕ) (w : Whole) (L : Loan) (x : Accepted) (k k' : ℕ → ℕ) (L' : Loan) → (x ≡ Done → ⊥) → Ends n w L (answer_of (Ok x)) k L' → Ends n w L blown k' L'
+pub blown_ends : (n : ℕ) (w : Whole) (L : Loan) (x : Ran) (k k' : ℕ → ℕ) (L' : Loan) → (x ≡ Done → ⊥) → Ends n w L (ending_of (Ok x)) k L' → Ends n w L blown k' L'
 blown_ends n w L Done k k' L' f e = absurd (f refl)
 blown_ends (suc n) w L Blown k k' L' f e = e
 blown_ends zero w L Blown k k' L' f e = go w.blown e
   where
     go : (b : Bool) → Ended b w L blown k L' → Ended b w L blown k' L'
     go true e = e
-    go false e = let z : ◌≡◌ {A = ℕ} 0 1 = cc e.0 in absurd (omega arith)
-blown_ends (suc n) w L (Blended tv tgv) k k' L' f e = let z : ◌≡◌ {A = ℕ} 0 1 = cc e.0 in absurd (omega arith)
-blown_ends zero w L (Blended tv tgv) k k' L' f e = go w.blown e
-  where
-    go : (b : Bool) → Ended b w L (Calls.blended tv tgv) k L' → Ended b w L blown k' L'
-    go true e = let z : ◌≡◌ {A = ℕ} 0 1 = cc e.0 in absurd (omega arith)
     go false e = let z : ◌≡◌ {A = ℕ} 0 1 = cc e.0 in absurd (omega arith)
 
 -- ---- what a sheet that is not refused has passed
@@ -244,12 +237,12 @@ module _ (S : Sheet) (c : ℕ) (levels : Levels) (tables : List ℕ) (L : Loan) 
       (splice B.across from to o.buffers.across) (splice B.down from to o.buffers.down) (splice B.saved from to o.buffers.saved))
       (splice L.totals x y o.totals)
 
-  alone_run : (r : Run) → r ≡ alone S c → (a : Result Accepted Refusal) (r' : Run) (o : Loan) → RunIs r (levels_part levels l m) (part tables t u) lent_to a r' o
+  alone_run : (r : Run) → r ≡ alone S c → (a : Result Ran Refusal) (r' : Run) (o : Loan) → RunIs r (levels_part levels l m) (part tables t u) lent_to a r' o
       → RunIs (alone S c) (levels_for S levels c) (tables_for tables c) (loan_of S c L) a r' o
   unfolding channel
   alone_run r e a r' o h = rw (e, p.from_is, p.to_is, p.l_is, p.m_is, p.t_is, p.u_is, p.x-is, p.y_is) at h
 
-  pub alone_is : (r : Run) → r ≡ alone S c → (a : Result Accepted Refusal) (r' : Run) (o : Loan) → RunIs r (levels_part levels l m) (part tables t u) lent_to a r' o
+  pub alone_is : (r : Run) → r ≡ alone S c → (a : Result Ran Refusal) (r' : Run) (o : Loan) → RunIs r (levels_part levels l m) (part tables t u) lent_to a r' o
       → AloneIs S c levels tables L a r' (back o)
   unfolding put_channel
   alone_is r e a r' o h = record { own = o; run = alone_run r e a r' o h; put = rw (p.from_is, p.to_is, p.x-is, p.y_is) }
@@ -349,17 +342,17 @@ module _ (S : Sheet) (levels : Levels) (tables : List ℕ) (L₀ : Loan) (z : Ta
           }
 
       -- how the channel's run ended
-      module _ (a : Result Accepted Refusal) (r : Run) (L' : Loan) (said : AloneIs S c levels tables (loan B T) a r L') where
+      module _ (a : Result Ran Refusal) (r : Run) (L' : Loan) (said : AloneIs S c levels tables (loan B T) a r L') where
         abbrev run : Whole
         run = run_of (alone_given S levels tables c)
 
-        ended : Ends 0 (run_of (alone_given S levels tables c)) (loan_of S c (loan B T)) (answer_of a) (clipped_of r) said.own
+        ended : Ends 0 (run_of (alone_given S levels tables c)) (loan_of S c (loan B T)) (ending_of a) (clipped_of r) said.own
         ended = rw accepted at said.run
 
         own_sized : Sized (area_of S) said.own.buffers
         own_sized b = go run.blown ended ∙ part_sized b
           where
-            go : (b' : Bool) → Ended b' run (loan_of S c (loan B T)) (answer_of a) (clipped_of r) said.own
+            go : (b' : Bool) → Ended b' run (loan_of S c (loan B T)) (ending_of a) (clipped_of r) said.own
                 → length (get b said.own.buffers) ≡ length (get b (channel (area_of S) c B))
             go true e = e.1.0 b
             go false e = e.2.0 b
@@ -367,7 +360,7 @@ module _ (S : Sheet) (levels : Levels) (tables : List ℕ) (L₀ : Loan) (z : Ta
         own_totals : length said.own.totals ≡ length (part T (totals_from S c) (totals_from S (suc c)))
         own_totals = go run.blown ended
           where
-            go : (b' : Bool) → Ended b' run (loan_of S c (loan B T)) (answer_of a) (clipped_of r) said.own
+            go : (b' : Bool) → Ended b' run (loan_of S c (loan B T)) (ending_of a) (clipped_of r) said.own
                 → length said.own.totals ≡ length (part T (totals_from S c) (totals_from S (suc c)))
             go true e = e.1.1
             go false e = e.2.1
@@ -386,23 +379,23 @@ module _ (S : Sheet) (levels : Levels) (tables : List ℕ) (L₀ : Loan) (z : Ta
             (own_totals ∙ part_length T (totals_from S c) (totals_from S (suc c)) rise most)
 
         -- done: not blown, and its buffers, its totals and its number are there; the other channels' are as they were
-        pub done_run : answer_of a ≡ done
+        pub done_run : ending_of a ≡ done
             → (run_blows (alone_given S levels tables c) ≡ false) × (said.own.buffers ≡ last (alone_given S levels tables c) 0)
             × (said.own.totals ≡ run_totals (alone_given S levels tables c)) × (clipped_of r 0 ≡ alone_clipped S levels tables c)
         done_run d = go run.blown refl ended
           where
-            go : (b : Bool) → run.blown ≡ b → Ended b run (loan_of S c (loan B T)) (answer_of a) (clipped_of r) said.own
+            go : (b : Bool) → run.blown ≡ b → Ended b run (loan_of S c (loan B T)) (ending_of a) (clipped_of r) said.own
                 → (run_blows (alone_given S levels tables c) ≡ false) × (said.own.buffers ≡ last (alone_given S levels tables c) 0)
                 × (said.own.totals ≡ run_totals (alone_given S levels tables c)) × (clipped_of r 0 ≡ alone_clipped S levels tables c)
             go true q e = let w : ◌≡◌ {A = ℕ} 0 1 = cc (d, e.0) in absurd (omega arith)
             go false q e =
                 (sym same_blows ∙ q, ap (λ (K : Loan). K.buffers) e.1 ∙ one_run, ap (λ (K : Loan). K.totals) e.1 ∙ same_totals, one_clipped (clipped_of r) e.3)
 
-        pub blown_run : (done ≡ answer_of a → ⊥) → (run_blows (alone_given S levels tables c) ≡ true) × (answer_of a ≡ blown)
+        pub blown_run : (done ≡ ending_of a → ⊥) → (run_blows (alone_given S levels tables c) ≡ true) × (ending_of a ≡ blown)
         blown_run d = go run.blown refl ended
           where
-            go : (b : Bool) → run.blown ≡ b → Ended b run (loan_of S c (loan B T)) (answer_of a) (clipped_of r) said.own
-                → (run_blows (alone_given S levels tables c) ≡ true) × (answer_of a ≡ blown)
+            go : (b : Bool) → run.blown ≡ b → Ended b run (loan_of S c (loan B T)) (ending_of a) (clipped_of r) said.own
+                → (run_blows (alone_given S levels tables c) ≡ true) × (ending_of a ≡ blown)
             go true q e = (sym same_blows ∙ q, e.0)
             go false q e = absurd (d (sym e.0))
 
@@ -471,7 +464,7 @@ module _ (S : Sheet) (levels : Levels) (tables : List ℕ) (L₀ : Loan) (asks :
       pub alone_asks : AloneAsks S i levels tables L
       alone_asks = asks_of S levels tables L₀ z i left L.buffers long L.totals room_now
 
-      module _ (a : Result Accepted Refusal) (r : Run) (L' : Loan) (said : AloneIs S i levels tables L a r L') where
+      module _ (a : Result Ran Refusal) (r : Run) (L' : Loan) (said : AloneIs S i levels tables L a r L') where
         kept_now : Kept L₀.buffers L'.buffers
         kept_now =
             kept_of (S.header.channels * area_of S) L₀.buffers L'.buffers first_sized
@@ -541,14 +534,14 @@ module _ (S : Sheet) (levels : Levels) (tables : List ℕ) (L₀ : Loan) (asks :
 -- ---- solve
 
 module _ (S : Sheet) (levels : Levels) (tables : List ℕ) (L : Loan) where
-  module _ (z : Taken S levels tables L) (a : Result Accepted Refusal) (ks : List ℕ) (L' : Loan) where
+  module _ (z : Taken S levels tables L) (a : Result Ran Refusal) (ks : List ℕ) (L' : Loan) where
     -- by the mode
-    ends_in : (b : Bool) → S.header.joint ≡ b → Ends 0 (cond b (run_of (joint_given S levels tables)) (separately S levels tables)) L (answer_of a) (number_in ks) L'
+    ends_in : (b : Bool) → S.header.joint ≡ b → Ends 0 (cond b (run_of (joint_given S levels tables)) (separately S levels tables)) L (ending_of a) (number_in ks) L'
         → SolveIs S levels tables L a ks L'
     unfolding whole_of
     ends_in b j h =
-        subst (λ (n : ℕ). Ends n (whole_of S levels tables) L (answer_of a) (number_in ks) L') (sym z)
-        (subst (λ (d : Bool). Ends 0 (cond d (run_of (joint_given S levels tables)) (separately S levels tables)) L (answer_of a) (number_in ks) L') (sym j) h)
+        subst (λ (n : ℕ). Ends n (whole_of S levels tables) L (ending_of a) (number_in ks) L') (sym z)
+        (subst (λ (d : Bool). Ends 0 (cond d (run_of (joint_given S levels tables)) (separately S levels tables)) L (ending_of a) (number_in ks) L') (sym j) h)
 
     -- the three numbers of the record that the run leaves
     three_numbers : (r : Run) → ks ≡ clipped_of r 0 ∷ clipped_of r 1 ∷ clipped_of r 2 ∷ [] → (c : ℕ) → c < 3 → number_in ks c ≡ clipped_of r c
@@ -566,22 +559,22 @@ module _ (S : Sheet) (levels : Levels) (tables : List ℕ) (L : Loan) where
     solve_joint j r e h =
         let w = run_of (joint_given S levels tables) in
         ends_in true j
-        (renumber 0 w L (answer_of a) (clipped_of r) (number_in ks) L'
+        (renumber 0 w L (ending_of a) (clipped_of r) (number_in ks) L'
         (λ c l. three_numbers r e c (omega (arith, run_channels, count_3 (joint S) (joint_legal S levels tables L z))))
-        (subst (λ (n : ℕ). Ends n w L (answer_of a) (clipped_of r) L') (starts S levels tables L z) h))
+        (subst (λ (n : ℕ). Ends n w L (ending_of a) (clipped_of r) L') (starts S levels tables L z) h))
 
     pub solve_separate : S.header.joint ≡ false → SeparateIs S levels tables L a ks L' → SolveIs S levels tables L a ks L'
     solve_separate j h = ends_in false j h
 
   -- where the run is not done, the numbers are free
-  pub any_numbers : (a : Result Accepted Refusal) (ks ks' : List ℕ) (L' : Loan) → (a ≡ (Ok Done) → ⊥) → SolveIs S levels tables L a ks L' → SolveIs S levels tables L a ks' L'
+  pub any_numbers : (a : Result Ran Refusal) (ks ks' : List ℕ) (L' : Loan) → (a ≡ (Ok Done) → ⊥) → SolveIs S levels tables L a ks L' → SolveIs S levels tables L a ks' L'
   any_numbers a ks ks' L' f = go (solve_refusal S levels tables (lengths all_six L.buffers) (length L.totals))
     where
-      ended : (b : Bool) → Ended b (whole_of S levels tables) L (answer_of a) (number_in ks) L' → Ended b (whole_of S levels tables) L (answer_of a) (number_in ks') L'
+      ended : (b : Bool) → Ended b (whole_of S levels tables) L (ending_of a) (number_in ks) L' → Ended b (whole_of S levels tables) L (ending_of a) (number_in ks') L'
       ended true e = e
       ended false e = absurd (not_done a f (sym e.0))
 
-      go : (n : ℕ) → Ends n (whole_of S levels tables) L (answer_of a) (number_in ks) L' → Ends n (whole_of S levels tables) L (answer_of a) (number_in ks') L'
+      go : (n : ℕ) → Ends n (whole_of S levels tables) L (ending_of a) (number_in ks) L' → Ends n (whole_of S levels tables) L (ending_of a) (number_in ks') L'
       go (suc n) e = e
       go zero e = ended (whole_of S levels tables).blown e
 

@@ -22,6 +22,7 @@ use Rattle.demand.specs.Solver.{jobs}
 use Rattle.record.specs.Model.{own_of, sheet_of, given_of}
 use Rattle.rounds.specs.Whole.{job_count, run_blows, pair_at, run_totals, last, run_of, Loan}
 use Rattle.solve.specs.Solve.{run_channel, reorder_of, joint, alone, iterations_at, smoothing_at, joint_given, alone_given, levels_for, tables_for, separately, whole_of}
+use Rattle.solve.specs.Laws.{NoSteps, OneChannel, lettered, spelled}
 use Rattle.solve.proofs.Held.{three_measured}
 use Rattle.solve.proofs.Alone.{Taken, levels-long, tables_long}
 
@@ -44,6 +45,9 @@ pub no_steps_totals : (G : Given) → G.sheet.N ≡ 0 → run_totals G ≡ []
 unfolding run_totals upto
 no_steps_totals G e = ap (λ (n : ℕ). join_upto (pair_at G) n) e
 
+pub no_steps_law : NoSteps
+no_steps_law G e = record { buffers = no_steps G e; fine = no_steps_fine G e; clipped = no_steps_clipped G e; totals = no_steps_totals G e }
+
 -- both modes have the sheet's channels
 pub whole_channels : (S : Sheet) (levels : Levels) (tables : List ℕ) → (whole_of S levels tables).channels ≡ S.header.channels
 unfolding whole_of run_of separately joint
@@ -54,11 +58,6 @@ whole_channels S levels tables = go S.header.joint
     go false = refl
 
 -- ---- the letters with one channel
-
--- the sheet with the letter j (true) or s
-abbrev pub lettered : Bool → Sheet → Sheet
-lettered b S =
-    record S { header = record S.header { joint = b } }
 
 either_is : (b d : Bool) (k : ℕ) → cond b k k ≡ cond d k k
 either_is true true k = refl
@@ -147,16 +146,16 @@ module _ (S : Sheet) (levels : Levels) (tables : List ℕ) (L : Loan) (accepted 
   unfolding whole_of run_of separately
   same_clipped = ap (λ (G : Given). (run_of G).clipped 0) same_given
 
--- ---- M-108: "absent, each equals the iteration count it is measured against"
+pub one_channel_law : OneChannel
+one_channel_law S levels tables L one accepted =
+    record {
+      buffers = same_buffers S levels tables L accepted one;
+      totals = same_totals S levels tables L accepted one;
+      blown = same_blown S levels tables L accepted one;
+      clipped = same_clipped S levels tables L accepted one;
+    }
 
--- the sheet with a line `H` of these counts
-abbrev pub saying : Sheet → ℕ → ℕ → ℕ → Sheet
-saying S k l m =
-    record S { settings = record S.settings { hold = Some (k ∷ l ∷ m ∷ []) } }
-
--- the sheet with what it is measured against
-abbrev pub spelled : Sheet → Sheet
-spelled S = saying S (measured S.header 0) (measured S.header 1) (measured S.header 2)
+-- ---- a sheet without a line `H`: each held count is the iteration count that it is measured against
 
 module _ (S : Sheet) (unsaid : S.settings.hold ≡ None) where
   held_same : (c : ℕ) → hold_at S c ≡ hold_at (spelled S) c

@@ -1,3 +1,4 @@
 -- The whole run of a sheet, in both modes.
 pub mod Solve
 pub mod Separate
+pub mod Laws

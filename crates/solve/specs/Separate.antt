@@ -8,9 +8,9 @@ use Rattle.calls.specs.Buffers.{channel, put_channel}
 use Rattle.calls.specs.Calls.{lengths, all_six}
 use Rattle.record.specs.declared.Run.{Run}
 use Rattle.refusal.specs.declared.Refusal.{Refusal}
-use Rattle.record.specs.declared.Accepted.{Accepted}
-use Rattle.record.specs.Model.{Legal, sheet_of, answer_of}
-use Rattle.rounds.specs.Whole.{Loan, loan, Ends, RunIs}
+use Rattle.record.specs.Model.{Legal, sheet_of}
+use Rattle.rounds.specs.declared.Ran.{Ran}
+use Rattle.rounds.specs.Whole.{Loan, loan, ending_of, Ends, RunIs}
 use Rattle.solve.specs.Solve.{joint, alone, steps_before, levels_for, tables_for, separately, number_in, solve_refusal}
 
 -- where the totals of channel c's run begin
@@ -27,7 +27,7 @@ put_loan S c L own =
     loan (put_channel (S.header.width * S.header.height) c L.buffers own.buffers) (splice L.totals (totals_from S c) (totals_from S (suc c)) own.totals)
 
 -- channel c's run, on its part of the six and of the totals, which leaves the record r
-pub record AloneIs (S : Sheet) (c : ℕ) (levels : Levels) (tables : List ℕ) (L : Loan) (a : Result Accepted Refusal) (r : Run) (L' : Loan) : Type 0 where
+pub record AloneIs (S : Sheet) (c : ℕ) (levels : Levels) (tables : List ℕ) (L : Loan) (a : Result Ran Refusal) (r : Run) (L' : Loan) : Type 0 where
   pub own : Loan
   pub run : RunIs (alone S c) (levels_for S levels c) (tables_for tables c) (loan_of S c L) a r own
   pub put : L' ≡ put_loan S c L own
@@ -72,5 +72,5 @@ pub record SeparateAsks (S : Sheet) (levels : Levels) (tables : List ℕ) (L : L
   pub apart : S.header.joint ≡ false
   pub accepted : solve_refusal S levels tables (lengths all_six L.buffers) (length L.totals) ≡ 0
 
-abbrev pub SeparateIs : Sheet → Levels → List ℕ → Loan → Result Accepted Refusal → List ℕ → Loan → Type 0
-SeparateIs S levels tables L a ks L' = Ends 0 (separately S levels tables) L (answer_of a) (number_in ks) L'
+abbrev pub SeparateIs : Sheet → Levels → List ℕ → Loan → Result Ran Refusal → List ℕ → Loan → Type 0
+SeparateIs S levels tables L a ks L' = Ends 0 (separately S levels tables) L (ending_of a) (number_in ks) L'

@@ -21,14 +21,14 @@ use Rattle.calls.specs.Calls.{lengths, all_six, start_refusal}
 use Rattle.record.specs.declared.Run.{Run}
 use Rattle.record.specs.declared.Channel.{Channel}
 use Rattle.refusal.specs.declared.Refusal.{Refusal}
-use Rattle.record.specs.declared.Accepted.{Accepted}
-use Rattle.record.specs.declared.Accepted.TheVariants as accepted
-use Rattle.record.specs.Model.{sheet_of, places_of, given_of, answer_of}
+use Rattle.record.specs.Model.{sheet_of, places_of, given_of}
+use Rattle.rounds.specs.declared.Ran.{Ran}
+use Rattle.rounds.specs.declared.Ran.TheVariants as ran
 use Rattle.calls.specs.Jobs.{kept}
 use Rattle.demand.specs.Solver.{jobs}
 use Rattle.solve.specs.declared.Solved.{Solved}
 use Rattle.solve.specs.declared.Solved.TheVariants.{Done, Blown}
-use Rattle.rounds.specs.Whole.{job_count, run_blows, run_totals, Whole, last, run_of, Loan, Ends}
+use Rattle.rounds.specs.Whole.{job_count, run_blows, run_totals, Whole, last, run_of, Loan, ending_of, Ends}
 
 -- ---- the runs of a sheet
 
@@ -179,9 +179,9 @@ abbrev pub number_in : List ℕ → ℕ → ℕ
 number_in ks c = get_or ks c 0
 
 -- what the call `solve` answers, without the numbers
-abbrev pub answered : Result Solved Refusal → Result Accepted Refusal
-answered (Ok (Done ks)) = Ok accepted.Done
-answered (Ok Blown) = Ok accepted.Blown
+abbrev pub answered : Result Solved Refusal → Result Ran Refusal
+answered (Ok (Done ks)) = Ok ran.Done
+answered (Ok Blown) = Ok ran.Blown
 answered (Err r) = Err r
 
 -- and the numbers that it gives, one for each of three channels; none where it is blown or refuses
@@ -192,6 +192,6 @@ numbers_in (Err r) = []
 
 -- How `solve` ends: refused, with the six and the totals as they were; blown; or done, with the six that the sheet's mode gives after 5N jobs, both
 -- totals of each blend, and each channel's number ks.
-abbrev pub SolveIs : Sheet → Levels → List ℕ → Loan → Result Accepted Refusal → List ℕ → Loan → Type 0
+abbrev pub SolveIs : Sheet → Levels → List ℕ → Loan → Result Ran Refusal → List ℕ → Loan → Type 0
 SolveIs S levels tables L a ks L' =
-    Ends (solve_refusal S levels tables (lengths all_six L.buffers) (length L.totals)) (whole_of S levels tables) L (answer_of a) (number_in ks) L'
+    Ends (solve_refusal S levels tables (lengths all_six L.buffers) (length L.totals)) (whole_of S levels tables) L (ending_of a) (number_in ks) L'

@@ -2,6 +2,7 @@
 #![tactic(auto)]
 
 pub mod counts;
+pub mod law;
 pub mod modes;
 mod separate;
 
@@ -12,14 +13,14 @@ ghost use Rattle.rounds.specs.Whole.{loan};
 ghost use Rattle.solve.specs.Solve.{SolveIs, answered, numbers_in};
 
 use contents::Sheet;
+use record::Run;
 use record::lent::{Buffers, Given};
 use record::places::clipped_of;
-use record::{Accepted, Run};
 use refusal::Refusal;
-use rounds::run_value;
+use rounds::{Ran, run_value};
 
 // What a whole run answers that is not refused: done, with each channel's number of clipped coefficients, or blown.
-// Kept: done or blown, both of a call that isn't refused, as `Accepted` has them of a job; as an `Option<[u32; 3]>` in the `Ok` each caller would have to know that `None` is blown.
+// Kept: done or blown, both of a call that isn't refused, as `Ran` has them of a run; as an `Option<[u32; 3]>` in the `Ok` each caller would have to know that `None` is blown.
 #[derive(Clone, Copy)]
 pub enum Solved {
     Done([u32; 3]),
@@ -51,7 +52,7 @@ pub fn solve(
     if s.header.joint {
         let mut run = modes::joint_of(s);
         let accepted = run_value(&mut run, given, lent, totals)?;
-        let Accepted::Done = accepted else {
+        let Ran::Done = accepted else {
             return Ok(Solved::Blown);
         };
         return Ok(Solved::Done(numbers_of(run)));

@@ -10,12 +10,12 @@ use crate::Solved;
 use crate::counts::steps_before;
 use crate::modes::{alone_of, joint_of};
 use contents::Sheet;
+use record::Run;
 use record::legal::{LegalRun, Turn};
 use record::lent::{Buffers, Given};
 use record::places::clipped_of;
-use record::{Accepted, Run};
 use refusal::Refusal;
-use rounds::run_value;
+use rounds::{Ran, run_value};
 
 // Where channel c's part begins and ends in the lent buffers, in the levels, in the tables and in the totals.
 // Kept: std's `Range` is not Copy; with four of them six of the ten uses would be a clone.
@@ -68,7 +68,7 @@ fn run_six(
     down: &mut [f32],
     saved: &mut [f32],
     totals: &mut [f64],
-) -> Result<Accepted, Refusal>
+) -> Result<Ran, Refusal>
     requires { length totals.old ≡ run.old.n * 2 }
     ensures { RunIs run.old (levels_in given.entry) given.entry.tables.now
         (loan (six plane.old prior.old gradient.old across.old down.old saved.old) totals.old) result run.new
@@ -93,7 +93,7 @@ fn alone_value(
     given: Given,
     lent: &mut Buffers,
     totals: &mut [f64],
-) -> Result<Accepted, Refusal>
+) -> Result<Ran, Refusal>
     requires alone { run.old ≡ alone s c }
     requires asks { AloneAsks s c (levels_in given) given.tables.now (loan (six_of lent.old) totals.old) }
     ensures is { AloneIs s c (levels_in given.entry) given.entry.tables.now (loan (six_of lent.old) totals.old) result run.new
@@ -135,7 +135,7 @@ pub fn separate(
     for c in 0..h.channels {
         let mut run = alone_of(s, c);
         let accepted = alone_value(s, c, &mut run, given, lent, totals)?;
-        let Accepted::Done = accepted else {
+        let Ran::Done = accepted else {
             return Ok(Solved::Blown);
         };
         clipped[c as usize] = clipped_of(run, 0);

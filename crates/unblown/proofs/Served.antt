@@ -30,7 +30,8 @@ or_second false b t = t
 byte_calm : (a : Calls.Answer) → T (calm a) → T (calm_byte (byte_of a))
 byte_calm (Calls.refused n) t = or_second (eqb n 0) (eqb n 9 || eqb n 11 || eqb n 12) t
 byte_calm Calls.done t = tt
-byte_calm Calls.blown t = absurd t
+byte_calm (Calls.projected clipped true) t = absurd t
+byte_calm (Calls.projected clipped false) t = tt
 byte_calm (Calls.blended tv tgv) t = tt
 
 bytes_calm : (said : List Calls.Answer) → T (all calm said) → T (all calm_byte (map byte_of said))

@@ -20,10 +20,10 @@ use Rattle.calls.proofs.Tests.{and-false, among_false, every_of, never}
 use Rattle.calls.proofs.Runs.{given_ok}
 use Rattle.demand.specs.Solver.{jobs}
 use Rattle.record.specs.declared.Run.{Run}
-use Rattle.record.specs.Model.{own_of, no_channel, sheet_of, places_of, given_of, answer_of}
+use Rattle.record.specs.Model.{own_of, no_channel, sheet_of, places_of, given_of}
 use Rattle.record.proofs.Channels.{at_own}
 use Rattle.run.specs.Public.{state_of}
-use Rattle.rounds.specs.Whole.{job_count, blows_at, run_blows, run_of, Loan, Ended, Ends}
+use Rattle.rounds.specs.Whole.{job_count, blows_at, run_blows, run_of, Loan, ending_of, Ended, Ends}
 use Rattle.solve.specs.Solve.{joint, alone, joint_given, alone_given, separately, whole_of, blows, solve_refusal, number_in}
 use Rattle.solve.proofs.Alone.{area_of, Taken, starts, joint_legal, sized, few_channels, accepted}
 use Rattle.mild.specs.Mild.{mild, most_steps, light}
@@ -121,10 +121,10 @@ pub solve_never : SolveNeverBlown
 solve_never S m levels tables L a ks L' s e =
     go (solve_refusal S levels tables (lengths all_six L.buffers) (length L.totals)) refl s
   where
-    ended : (b : Bool) → b ≡ false → Ended b (whole_of S levels tables) L (answer_of a) (number_in ks) L' → ⊥
+    ended : (b : Bool) → b ≡ false → Ended b (whole_of S levels tables) L (ending_of a) (number_in ks) L' → ⊥
     ended true f r = never true f refl
     ended false f r = let y : ◌≡◌ {A = ℕ} 0 1 = cc (e, r.0) in omega arith
 
-    go : (n : ℕ) → solve_refusal S levels tables (lengths all_six L.buffers) (length L.totals) ≡ n → Ends n (whole_of S levels tables) L (answer_of a) (number_in ks) L' → ⊥
+    go : (n : ℕ) → solve_refusal S levels tables (lengths all_six L.buffers) (length L.totals) ≡ n → Ends n (whole_of S levels tables) L (ending_of a) (number_in ks) L' → ⊥
     go (suc n) z r = let y : ◌≡◌ {A = ℕ} 0 1 = cc (e, r.0) in omega arith
     go zero z r = ended (blows S levels tables) (taken_never S m levels tables L z) r

@@ -18,7 +18,9 @@ use Rattle.refusal.specs.declared.Refusal.{Refusal}
 use Rattle.record.specs.declared.Accepted.{Accepted}
 use Rattle.record.specs.Model.{sheet_of, places_of, answer_of}
 use Rattle.serve.specs.Serve.{ServeIs}
-use Rattle.rounds.specs.Whole.{Loan}
+use Rattle.rounds.specs.declared.Ran.{Ran}
+use Rattle.rounds.specs.Whole as ending
+use Rattle.rounds.specs.Whole.{Loan, ending_of}
 use Rattle.solve.specs.Solve.{blows, SolveIs}
 use Rattle.program.specs.Printed.{levels_of, limits, printed, solved_text}
 use Rattle.mild.specs.Mild.{mild}
@@ -40,8 +42,8 @@ ServeNeverBlown = (r : Run) → mild (sheet_of r) ≡ true → (js cs bytes : Li
 
 -- `solve` never answers `Blown`
 abbrev pub SolveNeverBlown : Type 0
-SolveNeverBlown = (S : Sheet) → MildSheet S → (levels : Levels) (tables : List ℕ) (L : Loan) (a : Result Accepted Refusal) (ks : List ℕ) (L' : Loan)
-    → SolveIs S levels tables L a ks L' → answer_of a ≢ Calls.blown
+SolveNeverBlown = (S : Sheet) → MildSheet S → (levels : Levels) (tables : List ℕ) (L : Loan) (a : Result Ran Refusal) (ks : List ℕ) (L' : Loan)
+    → SolveIs S levels tables L a ks L' → ending_of a ≢ ending.blown
 
 -- a sheet with legal levels and tables, whoever read them, does not blow
 abbrev pub ContentsNeverBlow : Type 0

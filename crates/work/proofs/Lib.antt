@@ -1,2 +1,3 @@
 -- Laws of the jobs, for demand 3.
 pub mod Laws
+pub mod Kept

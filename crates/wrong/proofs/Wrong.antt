@@ -1,7 +1,7 @@
 -- Document 01, "Solvers that would fool a glance": each breaks demand 3 on the small sheet.
 use mathlib.Core.Path.{◌≡◌, refl, sym, ap, ◌∙◌}
 use mathlib.Core.Logic.{◌≢◌}
-use mathlib.Core.Bool.{Bool, false, cond}
+use mathlib.Core.Bool.{false, cond}
 use mathlib.Core.List.{List, [], ◌∷◌}
 use Prim.Native.Nat.{ℕ}
 use native.Mathlib.Omega.{arith}
@@ -10,12 +10,13 @@ use lib.ListN.{get_or, replicate, take, length}
 use Rattle.start.specs.Buffers.{Buffers}
 use Rattle.calls.specs.Run.{Place, place, sheet_ok, header_ok, own_ok, places_ok, place_ok, weight}
 use Rattle.calls.specs.Jobs.{project, Call, on, fixed, kept, channel_blown, totals_at}
-use Rattle.calls.specs.Calls.{Answer, refused, done, blown, blended, blend_reply, State, start, start_refusal, none_yet, plain, plain_answers, plain_places}
+use Rattle.calls.specs.Calls.{Answer, refused, done, projected, blended, blend_reply, State, start, start_refusal, none_yet, plain, plain_answers, plain_places}
 use Rattle.calls.specs.Demand.{Claim}
 use Rattle.calls.specs.Buffers.{Name, Plane, Gradient, Saved, get, joined}
 use Rattle.demand.specs.Solver.{jobs}
 use Rattle.wrong.proofs.Low8.{b0_0, b1_0, b5_0, b6_0, b7_0, b8_0, b9_0, b10_0, l0, l2, l3, l7, l9, l10, l11, l14, l15, l16, mark_5_0, mark_10_0}
 use Rattle.wrong.specs.Sheet.{low8, step, in_turn, at, lent_to, After}
+use Rattle.wrong.specs.Wrong.{all_said}
 use Rattle.wrong.proofs.Fixed.{at_0, at_1, at_5, at_6, at_7, at_8, at_9, at_10}
 
 -- the projects of both steps leave the channel unmarked
@@ -24,10 +25,6 @@ fine_5 = ap (channel_blown low8 0) at_5 ∙ mark_5_0
 
 fine_10 : channel_blown low8 0 (fixed jobs low8 10 0) ≡ false
 fine_10 = ap (channel_blown low8 0) at_10 ∙ mark_10_0
-
--- the answers of two steps: done, and of each blend its totals
-abbrev pub all_said : List Answer
-all_said = done ∷ done ∷ blend_reply (totals_at jobs low8 2) ∷ done ∷ done ∷ done ∷ done ∷ blend_reply (totals_at jobs low8 7) ∷ done ∷ done ∷ []
 
 -- what a claim says of the lent buffers where the plain run's places are those: they are the ones fixed for p
 held : (xs : List Call) (p : ℕ) → plain_places jobs low8 xs (none_yet low8) ≡ at p → (said : List Answer) (t : State)
@@ -48,16 +45,16 @@ over_10 : (plain jobs low8 (on project 0) (at 9)).places ≡ at 10
 unfolding plain low8 kept
 over_10 = rw fine_10
 
-said_5 : (plain jobs low8 (on project 0) (at 4)).answer ≡ done
+said_5 : (plain jobs low8 (on project 0) (at 4)).answer ≡ projected (kept jobs low8 5 0) false
 unfolding plain low8 kept
-said_5 = ap (λ (b : Bool). cond b blown done) fine_5
+said_5 = ap (projected (kept jobs low8 5 0)) fine_5
 
-said_10 : (plain jobs low8 (on project 0) (at 9)).answer ≡ done
+said_10 : (plain jobs low8 (on project 0) (at 9)).answer ≡ projected (kept jobs low8 10 0) false
 unfolding plain low8 kept
-said_10 = ap (λ (b : Bool). cond b blown done) fine_10
+said_10 = ap (projected (kept jobs low8 10 0)) fine_10
 
 -- the answers of the second step, and of both
-second_done : plain_answers jobs low8 step (at 5) ≡ done ∷ done ∷ blend_reply (totals_at jobs low8 7) ∷ done ∷ done ∷ []
+second_done : plain_answers jobs low8 step (at 5) ≡ done ∷ done ∷ blend_reply (totals_at jobs low8 7) ∷ done ∷ projected (kept jobs low8 10 0) false ∷ []
 unfolding plain_answers plain low8 kept
 second_done = λ i. done ∷ done ∷ blend_reply (totals_at jobs low8 7) ∷ done ∷ said_10 i ∷ []
 
@@ -65,7 +62,7 @@ pub all_done : plain_answers jobs low8 in_turn (none_yet low8) ≡ all_said
 unfolding plain_answers plain low8 kept
 all_done =
     (λ i. done ∷ done ∷ blend_reply (totals_at jobs low8 2) ∷ done ∷ said_5 i ∷ plain_answers jobs low8 step (over_5 i))
-    ∙ ap (λ (xs : List Answer). done ∷ done ∷ blend_reply (totals_at jobs low8 2) ∷ done ∷ done ∷ xs) second_done
+    ∙ ap (λ (xs : List Answer). done ∷ done ∷ blend_reply (totals_at jobs low8 2) ∷ done ∷ projected (kept jobs low8 5 0) false ∷ xs) second_done
 
 place_1 : plain_places jobs low8 (take 1 in_turn) (none_yet low8) ≡ at 1
 unfolding plain_places plain low8 kept
@@ -91,7 +88,7 @@ place_10 : plain_places jobs low8 (take 10 in_turn) (none_yet low8) ≡ at 10
 unfolding plain_places plain low8 kept
 place_10 = ap (plain_places jobs low8 step) over_5 ∙ over_10
 
--- "blown" or "turn" given early, every job refused: each of the ten answers is done, or a blend's totals
+-- "blown" or "turn" given early, every job refused: each of the ten answers is done, a blend's totals, or a project's number with no mark
 pub none_refused : (said : List Answer) (t : State) → After 10 said t → said ≡ all_said
 none_refused said t c = c.same_answers ∙ all_done
 
@@ -99,7 +96,7 @@ none_refused said t c = c.same_answers ∙ all_done
 kind : Answer → ℕ
 kind (refused n) = n
 kind done = 0
-kind blown = 255
+kind (projected clipped blown) = 0
 kind (blended tv tgv) = 0
 
 first_said : List Answer → ℕ

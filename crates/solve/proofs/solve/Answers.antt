@@ -10,7 +10,7 @@ use Rattle.record.specs.Model.{clipped_of}
 use Rattle.rounds.specs.Whole.{loan}
 use Rattle.rounds.proofs.Steps.{err_ok}
 use Rattle.calls.specs.Calls.{lengths, all_six}
-use Rattle.record.specs.declared.Accepted.TheVariants.{Done}
+use Rattle.rounds.specs.declared.Ran.TheVariants.{Done}
 use Rattle.solve.specs.Solve.{whole_of, number_in, solve_refusal, answered, numbers_in}
 use Rattle.solve.proofs.Alone.{blown_ends, any_numbers, solve_joint, solve_separate, joint_room}
 use Rattle.solve.proofs.solve.Goals as goal

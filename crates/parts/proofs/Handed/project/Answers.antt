@@ -24,7 +24,7 @@ overflow_cast-result c =
     record {
       fits = omega (
         arith,
-        c.project_onto_box-clipped.ensures.1 ∙ part_clipped r h.turn.c (levels_in h.given) h.given.tables.now b c.span-s.ensures.0 c.span-s.ensures.1 c.coef.ensures,
+        c.project_onto_box-clipped.ensures.counted ∙ part_clipped r h.turn.c (levels_in h.given) h.given.tables.now b c.span-s.ensures.0 c.span-s.ensures.1 c.coef.ensures,
         clipped_small (given_in h) h.turn.c b,
         coefs_fit r h.turn.legal.holds h.turn.c h.turn.below,
         area_small r h.turn.legal.holds,
@@ -37,10 +37,10 @@ returns c =
     let h = a.self.now in
     let r = h.turn.legal.run in
     let b : Box = record { plane = a.plane.now; across = a.across.now; down = a.down.now; saved = a.saved.now } in
-    let e = part_projected r h.turn.c (levels_in h.given) h.given.tables.now b c.span-s.ensures.0 c.span-s.ensures.1 c.coef.ensures c.project_onto_box-clipped.ensures.0 in (
+    let e = part_projected r h.turn.c (levels_in h.given) h.given.tables.now b c.span-s.ensures.0 c.span-s.ensures.1 c.coef.ensures c.project_onto_box-clipped.ensures.boxed in (
       e,
       c.blown_part.ensures
           ∙ ap (λ (b : Box). is_blown (coefs (sheet_of r) h.turn.c) (part_of (r.w * r.h) h.turn.c b.plane) (part_of (r.w * r.h) h.turn.c b.saved)) e
           ∙ project_blown (given_in h) h.turn.c h.turn.below b (record { plane_long = c.requires.0; across_long = c.requires.1; down_long = c.requires.2; saved_long = c.requires.3 }),
-      c.project_onto_box-clipped.ensures.1 ∙ part_clipped r h.turn.c (levels_in h.given) h.given.tables.now b c.span-s.ensures.0 c.span-s.ensures.1 c.coef.ensures,
+      c.project_onto_box-clipped.ensures.counted ∙ part_clipped r h.turn.c (levels_in h.given) h.given.tables.now b c.span-s.ensures.0 c.span-s.ensures.1 c.coef.ensures,
     )

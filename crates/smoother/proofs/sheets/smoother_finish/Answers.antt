@@ -10,4 +10,4 @@ pub returns : goal.returns
 returns c =
     let g = c.from-2 in
     let f = c.finish in
-    finished _ _ _ _ _ _ _ _ c.if-rounding-gt1.false g.result g.ensures _ f.result _ f.ensures c.answer_number.ensures
+    finished _ _ _ _ _ _ _ _ c.if-rounding-gt1.false g.result g.ensures _ f.result _ f.ensures.made c.answer_number.ensures
