@@ -9,7 +9,8 @@ use std::io;
 use std::io::{ErrorKind, Read};
 
 /// Reads until the buffer is full or the input ends, and answers how many bytes stand at its front:
-/// the input's next bytes, in their order, and fewer than the buffer holds only at the input's end.
+/// the input's next bytes, in their order, and fewer than the buffer holds only at the input's end,
+/// where the input's bytes are known.
 /// A read that a signal interrupts is made again. Where a read fails its error is answered, and
 /// what the buffer then holds is not promised but for its length.
 // Rules out: a count past the buffer's end or of bytes that were not read; bytes left out or read

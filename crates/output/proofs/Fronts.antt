@@ -1,10 +1,12 @@
 -- Texts written to a lent buffer, one after the other.
-use mathlib.Core.Path.{◌≡◌, refl, sym, ap, ◌∙◌}
+use mathlib.Core.Path.{◌≡◌, refl, sym, ap, ◌∙◌, subst}
 use mathlib.Core.List.{List, [], ◌∷◌, ◌++◌, append_assoc}
 use Prim.Native.Nat.{ℕ, ◌+◌, ◌-◌, ◌≤◌}
 use native.Mathlib.Omega.{arith}
 use lib.ListN.{length, take, drop, length-append, length-drop, take-append-drop}
 use lib.Seq.{sets, sets-eq, length-take-le, take_at, drop_at, drop-drop}
+use Rattle.std.specs.Prelude.{Result, Ok, IsOk}
+use Rattle.refusal.specs.declared.Refusal.{Refusal}
 use Rattle.copying.specs.declared.Writer.{Writer}
 use Rattle.copying.specs.Parts.{Put}
 use Rattle.output.specs.Output.{Wrote, Adds, room}
@@ -69,3 +71,7 @@ adds_more h a b = record { wrote = wrote_more a.wrote h b.wrote; same = b.same �
 
 pub adds_as : {u v : Writer} {s t : List ℕ} → s ≡ t → Adds u s v → Adds u t v
 adds_as e a = rw e at a
+
+-- a call that answers as one that is `Ok` is not refused
+pub said_ok : {a b : Result Unit Refusal} → a ≡ b → b ≡ Ok tt → IsOk a
+said_ok p q = subst IsOk (sym (p ∙ q)) refl

@@ -2,7 +2,7 @@
 use mathlib.Core.Path.{◌≡◌, refl, sym, ap, ◌∙◌}
 use mathlib.Core.Bool.{Bool, true, false, cond, ◌&&◌}
 use mathlib.Core.List.{List, [], ◌∷◌}
-use Prim.Native.Nat.{ℕ, zero, suc, ◌+◌, ◌*◌, ◌≤◌, ◌<◌}
+use Prim.Native.Nat.{ℕ, zero, suc, ◌+◌, ◌*◌, ◌/◌, ◌≤◌, ◌<◌}
 use native.Mathlib.Nat.{suc-mul, mul-le-mul}
 use native.Mathlib.Numerals.{add-one}
 use native.Mathlib.Omega.{arith}
@@ -10,12 +10,16 @@ use borrow.Author.Tests.{leb-true, eqb-true, le-leb, eq-eqb}
 use lib.Dec.{eqb, leb}
 use lib.ListN.{length, get_or, length-append}
 use lib.Ieee.{Float, nan, binary64, to_bits}
+use Rattle.std.specs.Prelude.{if◌then◌else◌, Result, Ok, Err}
+use Rattle.refusal.specs.declared.Refusal.{Refusal}
+use Rattle.refusal.specs.declared.Refusal.TheVariants as refusal
 use Rattle.digits.specs.Written.{decimal, hex_of, ended}
 use Rattle.digits.proofs.Lengths.{decimal_length}
 use Rattle.digits.proofs.Both.{both_left, both_right}
-use Rattle.output.specs.Output.{each, numbers_line, pixel, row_line, picture_text, picture_room, picture_fits, picture_into, refusal_text, refusal_into, step_line, totals_text, totals_fits, totals_into, clipped_text, clipped_fits, clipped_into, refusal_fits, room, Adds}
+use Rattle.output.specs.Output.{each, numbers_line, pixel, row_line, picture_text, picture_room, picture_answer, refusal_text, refusal_answer, step_line, totals_text, totals_answer, clipped_text, clipped_answer, room, Adds}
 use Rattle.copying.specs.declared.Writer.{Writer}
 use Rattle.copying.specs.Parts.{Put}
+use Rattle.copying.proofs.PartLaws.{put_as}
 use Rattle.output.proofs.Fronts.{adds_none, adds_put}
 use Rattle.output.proofs.Lines.{tabbed, tabbed_more, ended_more, row_text, totals-text, lines_done}
 
@@ -117,142 +121,103 @@ pub clipped_room_32 : (channel number : ℕ) → channel ≤ 9 → number ≤ 99
 clipped_room_32 channel number p q =
     omega (arith, clipped_length channel number, decimal_length 0 channel (omega arith), decimal_length 3 number (omega arith))
 
--- what a picture that fits has
-pub fits : (width height bytes room : ℕ) → picture_fits width height bytes room ≡ true
+-- ---- what the calls answer where there is room
+
+pub picture-answer : (width height bytes room : ℕ) → width ≤ 512 → height ≤ 512 → bytes ≡ 3 * (width * height) → picture_room width height ≤ room
+    → picture_answer width height bytes room ≡ Ok tt
+picture-answer width height bytes room p q e r = rw (le-leb width 512 p, le-leb height 512 q, eq-eqb _ _ e, le-leb _ _ r)
+
+pub refusal-answer : (line room : ℕ) → line ≤ 999999 → 13 ≤ room → refusal_answer line room ≡ Ok tt
+refusal-answer line room p q = rw (le-leb line 999999 p, le-leb 13 room q)
+
+pub totals-answer : (channel steps values room : ℕ) → channel ≤ 9 → steps ≤ 9999 → values ≡ steps * 2 → steps * 43 ≤ room
+    → totals_answer channel steps values room ≡ Ok tt
+totals-answer channel steps values room p q e r = rw (le-leb channel 9 p, le-leb steps 9999 q, eq-eqb values (steps * 2) e, le-leb (steps * 43) room r)
+
+pub clipped-answer : (channel number room : ℕ) → channel ≤ 9 → number ≤ 999999 → 11 ≤ room → clipped_answer channel number room ≡ Ok tt
+clipped-answer channel number room p q r = rw (le-leb channel 9 p, le-leb number 999999 q, le-leb 11 room r)
+
+-- ---- what is so where they answer `Ok`
+
+ok_then : (b : Bool) (x : Result Unit Refusal) (r : Refusal) → if b then x else Err r ≡ Ok tt → (b ≡ true) × (x ≡ Ok tt)
+ok_then true x r e = (refl, e)
+ok_then false x r e = absurd (let z : ◌≡◌ {A = ℕ} 0 1 = cc in omega arith)
+
+pub fits : (width height bytes room : ℕ) → picture_answer width height bytes room ≡ Ok tt
     → (width ≤ 512) × (height ≤ 512) × (bytes ≡ 3 * (width * height)) × (picture_room width height ≤ room)
 fits width height bytes room e =
-    let r = leb (picture_room width height) room in
-    let q = eqb bytes (3 * (width * height)) in
-    let f = both_right (leb width 512) (leb height 512 && (q && r)) e in
-    let g = both_right (leb height 512) (q && r) f in (
-      leb-true _ _ (both_left (leb width 512) (leb height 512 && (q && r)) e),
-      leb-true _ _ (both_left (leb height 512) (q && r) f),
-      eqb-true _ _ (both_left q r g),
-      leb-true _ _ (both_right q r g),
-    )
+    let a = leb width 512 in
+    let b = leb height 512 in
+    let c = eqb bytes (3 * (width * height)) in
+    let d = leb (picture_room width height) room in
+    let f = ok_then (a && b) (if c && d then Ok tt else Err refusal.Length) refusal.Size e in
+    let g = ok_then (c && d) (Ok tt) refusal.Length f.1 in
+    (leb-true _ _ (both_left a b f.0), leb-true _ _ (both_right a b f.0), eqb-true _ _ (both_left c d g.0), leb-true _ _ (both_right c d g.0))
 
--- what the calls write, where there is room
-pub picture-into : (width height : ℕ) (rgb : List ℕ) (room : ℕ) → width ≤ 512 → height ≤ 512 → length rgb ≡ 3 * (width * height) → picture_room width height ≤ room
-    → picture_into width height rgb room ≡ picture_text width height rgb
-unfolding picture_into
-picture-into width height rgb room p q e r = rw (le-leb width 512 p, le-leb height 512 q, eq-eqb _ _ e, le-leb _ _ r)
-
-pub refusal-into : (number line room : ℕ) → line ≤ 999999 → 13 ≤ room → refusal_into number line room ≡ refusal_text number line
-unfolding refusal_into
-refusal-into number line room p q = rw (le-leb line 999999 p, le-leb 13 room q)
-
-pub totals-into : (channel steps : ℕ) (totals : List Float) (room : ℕ) → channel ≤ 9 → steps ≤ 9999 → length totals ≡ steps * 2 → steps * 43 ≤ room
-    → totals_into channel steps totals room ≡ totals_text channel steps totals
-unfolding totals_into
-totals-into channel steps totals room p q e r = rw (le-leb channel 9 p, le-leb steps 9999 q, eq-eqb (length totals) (steps * 2) e, le-leb (steps * 43) room r)
-
--- what lines that fit have
-pub totals_fit : (channel steps values room : ℕ) → totals_fits channel steps values room ≡ true
+pub totals_fit : (channel steps values room : ℕ) → totals_answer channel steps values room ≡ Ok tt
     → (channel ≤ 9) × (steps ≤ 9999) × (values ≡ steps * 2) × (steps * 43 ≤ room)
-totals_fit channel steps values room h =
+totals_fit channel steps values room e =
     let a = leb channel 9 in
     let b = leb steps 9999 in
     let c = eqb values (steps * 2) in
     let d = leb (steps * 43) room in
-    let f = both_right a (b && (c && d)) h in
-    let g = both_right b (c && d) f in
-    (leb-true channel 9 (both_left a (b && (c && d)) h), leb-true steps 9999 (both_left b (c && d) f), eqb-true values (steps * 2) (both_left c d g), leb-true (steps * 43) room (both_right c d g))
+    let f = ok_then a _ refusal.Channel e in
+    let g = ok_then b _ refusal.Size f.1 in
+    let h = ok_then (c && d) (Ok tt) refusal.Length g.1 in
+    (leb-true _ _ f.0, leb-true _ _ g.0, eqb-true _ _ (both_left c d h.0), leb-true _ _ (both_right c d h.0))
 
-pub clipped_fit : (channel number room : ℕ) → clipped_fits channel number room ≡ true → (channel ≤ 9) × (number ≤ 999999) × (11 ≤ room)
-clipped_fit channel number room h =
-    let a = leb channel 9 in
-    let b = leb number 999999 in
-    let c = leb 11 room in
-    let f = both_right a (b && c) h in
-    (leb-true channel 9 (both_left a (b && c) h), leb-true number 999999 (both_left b c f), leb-true 11 room (both_right b c f))
+pub clipped_fit : (channel number room : ℕ) → clipped_answer channel number room ≡ Ok tt → (channel ≤ 9) × (number ≤ 999999) × (11 ≤ room)
+clipped_fit channel number room e =
+    let f = ok_then (leb channel 9) _ refusal.Channel e in
+    let g = ok_then (leb number 999999) _ refusal.Record f.1 in
+    let h = ok_then (leb 11 room) (Ok tt) refusal.Length g.1 in
+    (leb-true _ _ f.0, leb-true _ _ g.0, leb-true _ _ h.0)
 
-pub refusal_fit : (line room : ℕ) → refusal_fits line room ≡ true → (line ≤ 999999) × (13 ≤ room)
-refusal_fit line room h = (leb-true line 999999 (both_left (leb line 999999) (leb 13 room) h), leb-true 13 room (both_right (leb line 999999) (leb 13 room) h))
-
-pub clipped-into : (channel number room : ℕ) → channel ≤ 9 → number ≤ 999999 → 11 ≤ room → clipped_into channel number room ≡ clipped_text channel number
-unfolding clipped_into
-clipped-into channel number room p q r = rw (le-leb channel 9 p, le-leb number 999999 q, le-leb 11 room r)
-
--- and that it lies within the room
-within : (b : Bool) (t : List ℕ) (room : ℕ) → (b ≡ true → length t ≤ room) → length (cond b t []) ≤ room
-within true t room h = h refl
-within false t room h = omega arith
-
-pub picture_within : (width height : ℕ) (rgb : List ℕ) (room : ℕ) → length (picture_into width height rgb room) ≤ room
-unfolding picture_into
-picture_within width height rgb room =
-    within (picture_fits width height (length rgb) room) (picture_text width height rgb) room
-    (λ e. let f = fits width height (length rgb) room e in omega (arith, f.3, picture-room width height rgb f.0 f.1))
-
-pub totals_within : (channel steps : ℕ) (totals : List Float) (room : ℕ) → length (totals_into channel steps totals room) ≤ room
-unfolding totals_into
-totals_within channel steps totals room =
-    within (totals_fits channel steps (length totals) room) (totals_text channel steps totals) room
-    (λ e. let f = totals_fit channel steps (length totals) room e in omega (arith, f.3, totals_room channel steps totals f.0 f.1))
-
-pub clipped_within : (channel number room : ℕ) → length (clipped_into channel number room) ≤ room
-unfolding clipped_into
-clipped_within channel number room =
-    within (clipped_fits channel number room) (clipped_text channel number) room
-    (λ e. let f = clipped_fit channel number room e in omega (arith, f.2, clipped_room channel number f.0 f.1))
+pub refusal_fit : (line room : ℕ) → refusal_answer line room ≡ Ok tt → (line ≤ 999999) × (13 ≤ room)
+refusal_fit line room e =
+    let f = ok_then (leb line 999999) _ refusal.Size e in
+    let g = ok_then (leb 13 room) (Ok tt) refusal.Length f.1 in
+    (leb-true _ _ f.0, leb-true _ _ g.0)
 
 -- no product of two sides is too large to compute
 pub sides_product : (a b : ℕ) → a ≤ 512 → b ≤ 3586 → a * b ≤ 512 * 3586
 sides_product a b p q = mul-le-mul p q
 
--- What each call writes, b being whether its text fits and k the room: the text, which was put, or nothing
-module _ (u v : Writer) (b : Bool) (k : ℕ) (r : k ≡ room u) where
-  module _ (width height : ℕ) (rgb : List ℕ) (e : b ≡ picture_fits width height (length rgb) k) where
-    pub picture_adds : b ≡ true → Put u (picture_text width height rgb) v → Adds u (picture_into width height rgb (room u)) v
-    unfolding picture_into
-    picture_adds h p =
-        let t = sym (rw r at e) ∙ h in
-        let f = fits width height (length rgb) (room u) t in
-        rw t (adds_put p (omega (arith, f.3, picture-room width height rgb f.0 f.1)))
+-- What each call leaves where it answers `Ok`, k being the room
+module _ (u v : Writer) (k : ℕ) (r : k ≡ room u) (a : Result Unit Refusal) (ok : a ≡ Ok tt) where
+  module _ (width height : ℕ) (rgb : List ℕ) (e : a ≡ picture_answer width height (length rgb) k) where
+    pub picture_facts : (width ≤ 512) × (height ≤ 512) × (length rgb ≡ 3 * (width * height)) × (picture_room width height ≤ room u)
+    picture_facts = let f = fits width height (length rgb) k (sym e ∙ ok) in (f.0, f.1, f.2, omega (arith, r, f.3))
 
-    pub picture_none : b ≡ false → Adds u (picture_into width height rgb (room u)) u
-    unfolding picture_into
-    picture_none h = rw (sym (rw r at e) ∙ h) (adds_none u)
+    pub picture_adds : Put u (picture_text width height rgb) v → Adds u (picture_text width height rgb) v
+    picture_adds p =
+        let f = picture_facts in adds_put p (omega (arith, f.3, picture-room width height rgb f.0 f.1))
 
-  module _ (channel steps : ℕ) (totals : List Float) (e : b ≡ totals_fits channel steps (length totals) k) where
-    pub totals_adds : b ≡ true → Put u (totals_text channel steps totals) v → Adds u (totals_into channel steps totals (room u)) v
-    unfolding totals_into
-    totals_adds h p =
-        let t = sym (rw r at e) ∙ h in
-        let f = totals_fit channel steps (length totals) (room u) t in
-        rw t (adds_put p (omega (arith, f.3, totals_room channel steps totals f.0 f.1)))
+  module _ (channel steps : ℕ) (totals : List Float) (e : a ≡ totals_answer channel steps (length totals) k) where
+    pub totals_facts : (channel ≤ 9) × (length totals / 2 ≡ steps) × (steps ≤ 9999) × (steps * 43 ≤ room u)
+    totals_facts = let f = totals_fit channel steps (length totals) k (sym e ∙ ok) in (f.0, omega (arith, f.2), f.1, omega (arith, r, f.3))
 
-    pub totals_none : b ≡ false → Adds u (totals_into channel steps totals (room u)) u
-    unfolding totals_into
-    totals_none h = rw (sym (rw r at e) ∙ h) (adds_none u)
+    pub totals_adds : Put u (totals_text channel (length totals / 2) totals) v → Adds u (totals_text channel steps totals) v
+    totals_adds p =
+        let f = totals_facts in
+        adds_put (put_as (ap (λ (n : ℕ). totals_text channel n totals) f.1) p) (omega (arith, f.3, totals_room channel steps totals f.0 f.2))
 
-  module _ (channel number : ℕ) (e : b ≡ clipped_fits channel number k) where
-    pub clipped_asks : b ≡ true → u.at + (4 + length (decimal channel) + length (decimal number)) ≤ length u.out.now
-    clipped_asks h =
-        let f = clipped_fit channel number (room u) (sym (rw r at e) ∙ h) in omega (arith, f.2, clipped_digits channel number f.0 f.1)
+  module _ (channel number : ℕ) (e : a ≡ clipped_answer channel number k) where
+    pub clipped_asks : u.at + (4 + length (decimal channel) + length (decimal number)) ≤ length u.out.now
+    clipped_asks =
+        let f = clipped_fit channel number k (sym e ∙ ok) in omega (arith, r, f.2, clipped_digits channel number f.0 f.1)
 
-    pub clipped_adds : b ≡ true → Put u (ended (numbers_line 75 channel number ∷ [])) v → Adds u (clipped_into channel number (room u)) v
-    unfolding clipped_into clipped_text
-    clipped_adds h p =
-        let t = sym (rw r at e) ∙ h in
-        let f = clipped_fit channel number (room u) t in rw t (adds_put p (omega (arith, f.2, clipped_room channel number f.0 f.1)))
+    pub clipped_adds : Put u (ended (numbers_line 75 channel number ∷ [])) v → Adds u (clipped_text channel number) v
+    unfolding clipped_text
+    clipped_adds p =
+        let f = clipped_fit channel number k (sym e ∙ ok) in adds_put p (omega (arith, r, f.2, clipped_room channel number f.0 f.1))
 
-    pub clipped_none : b ≡ false → Adds u (clipped_into channel number (room u)) u
-    unfolding clipped_into
-    clipped_none h = rw (sym (rw r at e) ∙ h) (adds_none u)
+  module _ (number line n : ℕ) (w : n ≡ number) (m : number ≤ 255) (e : a ≡ refusal_answer line k) where
+    pub refusal_asks : u.at + (4 + length (decimal n) + length (decimal line)) ≤ length u.out.now
+    refusal_asks =
+        let f = refusal_fit line k (sym e ∙ ok) in omega (arith, r, f.1, refusal_length n line (omega arith) f.0)
 
-  module _ (number line n : ℕ) (w : n ≡ number) (m : number ≤ 255) (e : b ≡ refusal_fits line k) where
-    pub refusal_asks : b ≡ true → u.at + (4 + length (decimal n) + length (decimal line)) ≤ length u.out.now
-    refusal_asks h =
-        let f = refusal_fit line (room u) (sym (rw r at e) ∙ h) in omega (arith, f.1, refusal_length n line (omega arith) f.0)
-
-    pub refusal_adds : b ≡ true → Put u (ended (numbers_line 88 n line ∷ [])) v → Adds u (refusal_into number line (room u)) v
-    unfolding refusal_into refusal_text
-    refusal_adds h p =
-        let t = sym (rw r at e) ∙ h in
-        let f = refusal_fit line (room u) t in rw t (adds_put (rw w at p) (omega (arith, f.1, refusal_room number line m f.0)))
-
-  module _ (number line : ℕ) (e : b ≡ refusal_fits line k) where
-    pub refusal_none : b ≡ false → Adds u (refusal_into number line (room u)) u
-    unfolding refusal_into
-    refusal_none h = rw (sym (rw r at e) ∙ h) (adds_none u)
+    pub refusal_adds : Put u (ended (numbers_line 88 n line ∷ [])) v → Adds u (refusal_text number line) v
+    unfolding refusal_text
+    refusal_adds p =
+        let f = refusal_fit line k (sym e ∙ ok) in adds_put (rw w at p) (omega (arith, r, f.1, refusal_room number line m f.0))

@@ -1,7 +1,9 @@
--- The text that the program `smooth` prints, as bytes. Document 01, "Whole run and picture", last paragraph; document 02, M-103 and M-104.
-use Rattle.std.specs.Prelude.{◌≡◌, Bool, cond, ◌&&◌, List, [], ◌∷◌, ◌++◌, ℕ, zero, suc, ◌+◌, ◌-◌, ◌*◌, eqb, leb, length, get_or, take, drop, Float}
+-- The text that the program `smooth` prints, as bytes.
+use Rattle.std.specs.Prelude.{◌≡◌, ◌&&◌, if◌then◌else◌, ◌==◌, nat_le, List, [], ◌∷◌, ◌++◌, ℕ, zero, suc, ◌+◌, ◌-◌, ◌*◌, length, get_or, take, drop, Float, Result, Ok, Err}
 use Rattle.std.specs.Float.{nan, binary64}
 use Rattle.std.specs.Float.Ieee.{to_bits}
+use Rattle.refusal.specs.declared.Refusal.{Refusal}
+use Rattle.refusal.specs.declared.Refusal.TheVariants as refusal
 use Rattle.digits.specs.Written.{decimal, hex_of, joined, ended}
 use Rattle.copying.specs.declared.Writer.{Writer}
 
@@ -54,43 +56,39 @@ unfoldable pub clipped_text : ℕ → ℕ → List ℕ
 unfolding decimal
 clipped_text channel number = ended (numbers_line 75 channel number ∷ [])
 
--- What the calls write into a lent buffer with `room` bytes from their place on: the text, or nothing where they cannot
+-- What the calls answer, of a lent output that has `room` bytes from its place on: a refusal where they cannot write the whole text
 
 -- no picture text of these sides is longer: `I` with two sides of three digits takes 10 bytes, a row 2 and 7 for each pixel
 abbrev pub picture_room : ℕ → ℕ → ℕ
 picture_room width height = 10 + height * (7 * width + 2)
 
--- no side above 512, three bytes for each pixel, and room
-abbrev pub picture_fits : ℕ → ℕ → ℕ → ℕ → Bool
-picture_fits width height bytes room = leb width 512 && (leb height 512 && (eqb bytes (3 * (width * height)) && leb (picture_room width height) room))
-
-unfoldable pub picture_into : ℕ → ℕ → List ℕ → ℕ → List ℕ
-unfolding picture_text
-picture_into width height rgb room = cond (picture_fits width height (length rgb) room) (picture_text width height rgb) []
+-- no side above 512; three bytes for each pixel, and room
+abbrev pub picture_answer : ℕ → ℕ → ℕ → ℕ → Result Unit Refusal
+picture_answer width height bytes room =
+    if nat_le width 512 && nat_le height 512
+    then (if bytes == 3 * (width * height) && nat_le (picture_room width height) room then Ok tt else Err refusal.Length)
+    else Err refusal.Size
 
 -- a line number of at most six digits, and room: `X`, a number of up to three digits and the line take 13 bytes
-abbrev pub refusal_fits : ℕ → ℕ → Bool
-refusal_fits line room = leb line 999999 && leb 13 room
+abbrev pub refusal_answer : ℕ → ℕ → Result Unit Refusal
+refusal_answer line room =
+    if nat_le line 999999 then (if nat_le 13 room then Ok tt else Err refusal.Length) else Err refusal.Size
 
-unfoldable pub refusal_into : ℕ → ℕ → ℕ → List ℕ
-unfolding refusal_text
-refusal_into number line room = cond (refusal_fits line room) (refusal_text number line) []
+-- a channel of one digit; steps of at most four; two totals for each step, and room: a line takes 43 bytes at most
+abbrev pub totals_answer : ℕ → ℕ → ℕ → ℕ → Result Unit Refusal
+totals_answer channel steps values room =
+    if nat_le channel 9
+    then (if nat_le steps 9999
+    then (if values == steps * 2 && nat_le (steps * 43) room then Ok tt else Err refusal.Length)
+    else Err refusal.Size)
+    else Err refusal.Channel
 
--- a channel of one digit, steps of at most four, two totals for each step, and room: a line takes 43 bytes at most
-abbrev pub totals_fits : ℕ → ℕ → ℕ → ℕ → Bool
-totals_fits channel steps values room = leb channel 9 && (leb steps 9999 && (eqb values (steps * 2) && leb (steps * 43) room))
-
-unfoldable pub totals_into : ℕ → ℕ → List Float → ℕ → List ℕ
-unfolding totals_text
-totals_into channel steps totals room = cond (totals_fits channel steps (length totals) room) (totals_text channel steps totals) []
-
--- a channel of one digit, a number of at most six, and room: with `K` they take 11 bytes
-abbrev pub clipped_fits : ℕ → ℕ → ℕ → Bool
-clipped_fits channel number room = leb channel 9 && (leb number 999999 && leb 11 room)
-
-unfoldable pub clipped_into : ℕ → ℕ → ℕ → List ℕ
-unfolding clipped_text
-clipped_into channel number room = cond (clipped_fits channel number room) (clipped_text channel number) []
+-- a channel of one digit; a number of at most six; and room: with `K` they take 11 bytes
+abbrev pub clipped_answer : ℕ → ℕ → ℕ → Result Unit Refusal
+clipped_answer channel number room =
+    if nat_le channel 9
+    then (if nat_le number 999999 then (if nat_le 11 room then Ok tt else Err refusal.Length) else Err refusal.Record)
+    else Err refusal.Channel
 
 -- A buffer after a text was written to it from place `at` on, r being where the text ends: the rest is as it was before
 pub record Wrote (at : ℕ) (text before : List ℕ) (r : ℕ) (after : List ℕ) : Type 0 where

@@ -1,14 +1,16 @@
 // The text that the program `smooth` prints, written to a lent output from its place on.
 #![tactic(auto)]
 
-ghost use Rattle.std.specs.Prelude.{[], ◌∷◌, ◌+◌, ◌*◌, ◌^◌, ◌≤◌, ◌<◌, ◌≡◌, ◌/◌, length, get_or};
+ghost use Rattle.std.specs.Prelude.{[], ◌∷◌, ◌+◌, ◌*◌, ◌^◌, ◌≤◌, ◌<◌, ◌≡◌, ◌/◌, length, get_or, OnOk, OnErr};
 ghost use Rattle.std.specs.Float.{nan, binary64};
 ghost use Rattle.std.specs.Float.Ieee.{to_bits};
+ghost use Rattle.refusal.specs.Refusal.{number_of};
 ghost use Rattle.digits.specs.Written.{decimal, hex_byte, hex_of, joined, ended};
 ghost use Rattle.copying.specs.Parts.{Put};
-ghost use Rattle.output.specs.Output.{each, numbers_line, pixel, picture_text, picture_room, picture_fits, picture_into, refusal_into, total_line, totals_text, totals_fits, totals_into, clipped_fits, clipped_into, refusal_fits, room, Adds};
+ghost use Rattle.output.specs.Output.{each, numbers_line, pixel, picture_text, picture_room, picture_answer, total_line, totals_text, totals_answer, clipped_text, clipped_answer, refusal_text, refusal_answer, room, Adds};
 
 use copying::Writer;
+use refusal::Refusal;
 
 // A tab and a number.
 // Kept: nothing is printed by hand here: it is `put_byte` and `put_decimal` of the `Writer`, whose digits are kept for the reason at `Writer::put_digits`.
@@ -133,16 +135,6 @@ fn put_picture(width: usize, height: usize, rgb: &[u8], to: &mut Writer)
     }
 }
 
-// Whether a picture fits: its sides, the number of its bytes, and the room that its text has.
-fn picture_fits(width: usize, height: usize, bytes: usize, room: usize) -> bool
-    ensures { result ≡ picture_fits width height bytes room }
-{
-    width <= 512
-        && height <= 512
-        && bytes == 3 * (width * height)
-        && 10 + height * (7 * width + 2) <= room
-}
-
 // How many bytes an output has from its place on.
 fn room(to: &Writer) -> usize
     ensures { result ≡ room to.now }
@@ -150,68 +142,127 @@ fn room(to: &Writer) -> usize
     to.out.len().saturating_sub(to.at)
 }
 
-// Writes the text of a picture; nothing where the picture does not fit.
-// Ruled out: `ABCDEF` for `abcdef`, or green before red; a row left out, or one that does not end with byte 10; a byte before the output's place changed.
-pub fn write_picture(width: u32, height: u32, rgb: &[u8], to: &mut Writer)
-    ensures { Adds to.old (picture_into width height rgb.now (room to.old)) to.new }
+// Whether a picture is written: its sides, the number of its bytes, and the room that its text has.
+fn picture_answer(width: usize, height: usize, bytes: usize, room: usize) -> Result<(), Refusal>
+    ensures { result ≡ picture_answer width height bytes room }
+{
+    if width <= 512 && height <= 512 {
+        if bytes == 3 * (width * height) && 10 + height * (7 * width + 2) <= room {
+            Ok(())
+        } else {
+            Err(Refusal::Length)
+        }
+    } else {
+        Err(Refusal::Size)
+    }
+}
+
+/// Writes the text of a picture. Refuses by 2 a side above 512, and by 8 a number of bytes other
+/// than three for each pixel, and an output with less room than any picture of these sides takes.
+// Rules out: `ABCDEF` for `abcdef`, or green before red; a row left out, or one that does not end
+// with byte 10; a byte before the output's place changed; a part of a text that is refused.
+pub fn write_picture(width: u32, height: u32, rgb: &[u8], to: &mut Writer) -> Result<(), Refusal>
+    ensures answer { result ≡ picture_answer width height (length rgb.now) (room to.old) }
+    ensures writes { OnOk result (Adds to.old (picture_text width height rgb.now) to.new) }
+    ensures unchanged { OnErr result (to.new ≡ to.old) }
 {
     let w = width as usize;
     let h = height as usize;
-    if picture_fits(w, h, rgb.len(), room(to)) {
-        put_picture(w, h, rgb, to);
+    picture_answer(w, h, rgb.len(), room(to))?;
+    put_picture(w, h, rgb, to);
+    Ok(())
+}
+
+// Whether the lines of a run's steps are written: the channel and the steps, the number of totals,
+// and the room that the lines have.
+fn totals_answer(channel: usize, steps: usize, values: usize, room: usize) -> Result<(), Refusal>
+    ensures { result ≡ totals_answer channel steps values room }
+{
+    if channel > 9 {
+        return Err(Refusal::Channel);
+    }
+    if steps > 9999 {
+        return Err(Refusal::Size);
+    }
+    if values == steps * 2 && steps * 43 <= room {
+        Ok(())
+    } else {
+        Err(Refusal::Length)
     }
 }
 
-// Whether the lines of a run's steps fit: the channel and the steps, the number of totals, and the room that the lines have.
-fn totals_fit(channel: usize, steps: usize, values: usize, room: usize) -> bool
-    ensures { result ≡ totals_fits channel steps values room }
+/// Writes the lines of both totals of each step of a run. `channel` is that of the run's start.
+/// Refuses by 12 a channel above 9, by 2 more than 9,999 steps, and by 8 a number of totals other
+/// than two for each step, and an output with less room than 43 bytes for each line.
+// Rules out: `T` with step 0; the step before the channel; the digits `7FF0000000000000`, or the
+// sign of a NaN; the first lines alone where there is no room for all.
+pub fn write_totals(
+    channel: usize,
+    steps: usize,
+    totals: &[f64],
+    to: &mut Writer,
+) -> Result<(), Refusal>
+    ensures answer { result ≡ totals_answer channel steps (length totals.now) (room to.old) }
+    ensures writes { OnOk result (Adds to.old (totals_text channel steps totals.now) to.new) }
+    ensures unchanged { OnErr result (to.new ≡ to.old) }
 {
-    channel <= 9 && steps <= 9999 && values == steps * 2 && steps * 43 <= room
+    totals_answer(channel, steps, totals.len(), room(to))?;
+    put_totals(channel, totals, to);
+    Ok(())
 }
 
-// Writes the lines of both totals of each step of a run; nothing where they do not fit. `channel` is that of the run's start.
-// Ruled out: `T` with step 0; the step before the channel; the digits `7FF0000000000000`, or the sign of a NaN.
-pub fn write_totals(channel: usize, steps: usize, totals: &[f64], to: &mut Writer)
-    ensures { Adds to.old (totals_into channel steps totals.now (room to.old)) to.new }
+// Whether the line of a clipped number is written: the channel, the number, and the line's room.
+fn clipped_answer(channel: usize, number: usize, room: usize) -> Result<(), Refusal>
+    ensures { result ≡ clipped_answer channel number room }
 {
-    if totals_fit(channel, steps, totals.len(), room(to)) {
-        put_totals(channel, totals, to);
+    if channel > 9 {
+        return Err(Refusal::Channel);
     }
-}
-
-// Whether the line of a clipped number fits.
-fn clipped_fits(channel: usize, number: usize, room: usize) -> bool
-    ensures { result ≡ clipped_fits channel number room }
-{
-    channel <= 9 && number <= 999999 && 11 <= room
-}
-
-// Writes the line of a channel's number of clipped coefficients; nothing where it does not fit.
-// Ruled out: the number before the channel; an empty field for 0.
-#[tactic(auto, using(crate::proofs::Sizes::clipped_asks))]
-pub fn write_clipped(channel: usize, number: usize, to: &mut Writer)
-    ensures { Adds to.old (clipped_into channel number (room to.old)) to.new }
-{
-    if clipped_fits(channel, number, room(to)) {
-        put_numbers(b'K', channel, number, to);
+    if number > 999999 {
+        return Err(Refusal::Record);
     }
-}
-
-// Whether the text of a refusal at this line fits.
-fn refusal_fits(line: usize, room: usize) -> bool
-    ensures { result ≡ refusal_fits line room }
-{
-    line <= 999999 && 13 <= room
-}
-
-// Writes the text of a refusal; nothing where it does not fit.
-// Ruled out: the line before the refusal's number; an empty field for line 0, which is written `0`.
-// Kept: the call writes any u8, as it did; a `Refusal` would ask more of its callers, which a rule of the project forbids.
-#[tactic(auto, using(crate::proofs::Sizes::refusal_asks))]
-pub fn write_refusal(number: u8, line: usize, to: &mut Writer)
-    ensures { Adds to.old (refusal_into number line (room to.old)) to.new }
-{
-    if refusal_fits(line, room(to)) {
-        put_numbers(b'X', usize::from(number), line, to);
+    if room < 11 {
+        return Err(Refusal::Length);
     }
+    Ok(())
+}
+
+/// Writes the line of a channel's number of clipped coefficients. Refuses by 12 a channel above 9,
+/// by 13 a number above 999,999, and by 8 an output with less room than 11 bytes.
+// Rules out: the number before the channel; an empty field for 0; a line cut at the output's end.
+pub fn write_clipped(channel: usize, number: usize, to: &mut Writer) -> Result<(), Refusal>
+    ensures answer { result ≡ clipped_answer channel number (room to.old) }
+    ensures writes { OnOk result (Adds to.old (clipped_text channel number) to.new) }
+    ensures unchanged { OnErr result (to.new ≡ to.old) }
+{
+    clipped_answer(channel, number, room(to))?;
+    put_numbers(b'K', channel, number, to);
+    Ok(())
+}
+
+// Whether the text of a refusal at this line is written: the line and the text's room.
+fn refusal_answer(line: usize, room: usize) -> Result<(), Refusal>
+    ensures { result ≡ refusal_answer line room }
+{
+    if line > 999999 {
+        return Err(Refusal::Size);
+    }
+    if room < 13 {
+        return Err(Refusal::Length);
+    }
+    Ok(())
+}
+
+/// Writes the text of a refusal of a line, or of no line by 0. Refuses by 2 a line above 999,999,
+/// and by 8 an output with less room than 13 bytes.
+// Rules out: the line before the refusal's number; an empty field for line 0, which is written `0`;
+// a number that is not in the table of refusals; the letter alone where the rest has no room.
+pub fn write_refusal(refused: Refusal, line: usize, to: &mut Writer) -> Result<(), Refusal>
+    ensures answer { result ≡ refusal_answer line (room to.old) }
+    ensures writes { OnOk result (Adds to.old (refusal_text (number_of refused) line) to.new) }
+    ensures unchanged { OnErr result (to.new ≡ to.old) }
+{
+    refusal_answer(line, room(to))?;
+    put_numbers(b'X', usize::from(refused.number()), line, to);
+    Ok(())
 }

@@ -21,9 +21,10 @@ use Rattle.rounds.specs.Whole.{job_count, run_of}
 use Rattle.rounds.proofs.Ends.{kept_most}
 use Rattle.solve.specs.Solve.{alone, joint_given, alone_given, separately, whole_of, clipped_at}
 use Rattle.copying.specs.declared.Writer.{Writer}
-use Rattle.output.specs.Output.{clipped_text, clipped_into, room, Adds}
-use Rattle.output.proofs.Sizes.{clipped-into, clipped_room_32}
-use Rattle.output.proofs.Fronts.{wrote_length, adds_as, adds_more}
+use Rattle.std.specs.Prelude.{Ok}
+use Rattle.output.specs.Output.{clipped_text, clipped_answer, room, Adds}
+use Rattle.output.proofs.Sizes.{clipped-answer, clipped_room_32}
+use Rattle.output.proofs.Fronts.{wrote_length, adds_more}
 use Rattle.program.specs.Printed.{limits, levels_of, clipped_lines, most_picture, AddsTo}
 use Rattle.program.proofs.Accepts.{same_sides}
 
@@ -70,10 +71,14 @@ unfolding clipped_lines upto
 none_written f = refl
 
 pub one_written : (f : ℕ → ℕ) (u v w : Writer) (c : ℕ) → c < 3 → f c ≤ 1024 → 27 + most_picture ≤ room u → AddsTo (9 * c) u (clipped_lines c f) v
-    → Adds v (clipped_into c (f c) (room v)) w → AddsTo (9 * (c + 1)) u (clipped_lines (c + 1) f) w
+    → Adds v (clipped_text c (f c)) w → AddsTo (9 * (c + 1)) u (clipped_lines (c + 1) f) w
 unfolding clipped_lines upto
-one_written f u v w c below small big early b =
+one_written f u v w c below small big early line =
+    let within : v.at ≤ length u.out.now = omega (arith, early.1) in
+    (rw add-one (adds_more within early.0 line), omega (arith, early.1, line.wrote.count, clipped_room_32 c (f c) (omega arith) (omega arith)))
+
+pub one_fits : (u v : Writer) (text : List ℕ) (c k : ℕ) → c < 3 → k ≤ 1024 → 27 + most_picture ≤ room u → AddsTo (9 * c) u text v → clipped_answer c k (room v) ≡ Ok tt
+one_fits u v text c k below small big early =
     let within : v.at ≤ length u.out.now = omega (arith, early.1) in
     let same : length v.out.now ≡ length u.out.now = wrote_length early.0.wrote within in
-    let line = adds_as (clipped-into c (f c) (room v) (omega arith) (omega arith) (omega (arith, early.1))) b in
-    (rw add-one (adds_more within early.0 line), omega (arith, early.1, line.wrote.count, clipped_room_32 c (f c) (omega arith) (omega arith)))
+    clipped-answer c k (room v) (omega arith) (omega arith) (omega (arith, early.1))

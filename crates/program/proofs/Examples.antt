@@ -1,7 +1,5 @@
--- Document 01's whole example, and the empty text, printed by computation.
-use Prim.Native.Nat.{ℕ, zero, suc}
-use Prim.Native.Char.{code}
-use Prim.Native.String.{String, len, char_at}
+-- A whole sheet's text, and the empty one, printed by computation.
+use Prim.Native.Nat.{ℕ}
 use mathlib.Core.Path.{◌≡◌, refl, ap, ◌∙◌}
 use mathlib.Core.List.{List, [], ◌∷◌, ◌++◌}
 use mathlib.Core.Bool.{Bool, false, cond}
@@ -37,24 +35,8 @@ use Rattle.picture.specs.declared.Rounding.TheVariants as rounding
 use Rattle.picture.specs.Finish as Finish
 use Rattle.output.specs.Output as Output
 use Rattle.output.specs.Output.{picture_text, refusal_text, totals_text, clipped_text}
+use Rattle.program.specs.Examples.{bytes, whole_text, whole_answer, empty_answer}
 use Rattle.program.specs.Printed.{limits, painted, totals_lines, clipped_lines, sheet_text, says, printed}
-
--- the bytes of a text
-abbrev bytes_from : String → ℕ → ℕ → List ℕ
-bytes_from s i zero = []
-bytes_from s i (suc n) = code (char_at s i) ∷ bytes_from s (suc i) n
-
-abbrev b : String → List ℕ
-b s = bytes_from s 0 (len s)
-
-abbrev times : ℕ → List ℕ → List ℕ
-times zero xs = []
-times (suc n) xs = xs ++ times n xs
-
--- "Whole, with a tab for each space: lines `S 8 8 2 1 1 s 0 0 0 w0 w0 w0 w0 w0 w0`; `C 8 8 1 1` and 64 times `8`; `B 1` and 63 times `0`; `E`"
-abbrev example : List ℕ
-example =
-    b "S\t8\t8\t2\t1\t1\ts\t0\t0\t0\tw0\tw0\tw0\tw0\tw0\tw0\nC\t8\t8\t1\t1" ++ (times 64 (b "\t8") ++ (b "\nB\t1" ++ (times 63 (b "\t0") ++ b "\nE\n")))
 
 abbrev sheet : Sheet
 sheet =
@@ -83,7 +65,7 @@ levels = pairs ones ones
 abbrev tables : List ℕ
 tables = replicate 64 8
 
-reads : read_text limits example ≡ contents sheet (held (lent ones ones tables) (false ∷ []) [])
+reads : read_text limits whole_text ≡ contents sheet (held (lent ones ones tables) (false ∷ []) [])
 unfolding read_text blank line_tag taken_if record_of header_of channel_of line_fault fields_fault rules_of number_at weight_at number_of bit_form weight_of level_of field_of
 reads = refl
 
@@ -102,11 +84,11 @@ unfolding totals_lines upto totals_text Output.each
 untotalled = refl
 
 -- "Without steps it is 0, and the whole example gains `K` tab `0` tab `0`" (M-104)
-unclipped : clipped_lines 1 (clipped_at sheet levels tables) ≡ b "K\t0\t0\n"
+unclipped : clipped_lines 1 (clipped_at sheet levels tables) ≡ bytes "K\t0\t0\n"
 unfolding clipped_lines upto whole_of separately alone kept clipped_text decimal
 unclipped = refl
 
-grey : painted rounding.Truncate sheet.header (replicate 64 (of_bits binary32 0x3f7fffff)) ≡ b "I\t2\t1\nR\t818181\t818181\n"
+grey : painted rounding.Truncate sheet.header (replicate 64 (of_bits binary32 0x3f7fffff)) ≡ bytes "I\t2\t1\nR\t818181\t818181\n"
 unfolding painted picture_text Output.each Finish.pixel upto to_unsigned
 grey = refl
 
@@ -114,7 +96,7 @@ otherwise : (x : Bool) (one other : List ℕ) → x ≡ false → cond x one oth
 otherwise x one other e = ap (λ (y : Bool). cond y one other) e
 
 -- "`smooth` prints two lines, `I` tab `2` tab `1`, then `R` tab `818181` tab `818181`", after the line `K`
-pub whole_example : printed example ≡ b "K\t0\t0\nI\t2\t1\nR\t818181\t818181\n"
+pub whole_example : printed whole_text ≡ whole_answer
 unfolding printed says sheet_text
 whole_example =
     let t = totals_lines sheet (totals_of sheet levels tables) in
@@ -123,6 +105,6 @@ whole_example =
     ∙ ap (λ (ps : List Float). t ++ (k ++ painted rounding.Truncate sheet.header ps)) start ∙ (λ i. untotalled i ++ (unclipped i ++ grey i))
 
 -- "For 7 it is the unended line, the one after the last when `E` is missing": no line at all
-pub empty_text : printed [] ≡ b "X\t7\t1\n"
+pub empty_text : printed [] ≡ empty_answer
 unfolding printed says read_text blank line_tag taken_if record_of header_of channel_of line_fault fields_fault rules_of number_at weight_at number_of bit_form weight_of level_of field_of refusal_text decimal
 empty_text = refl

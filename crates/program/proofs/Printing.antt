@@ -11,8 +11,9 @@ use lib.ListN.{length, take}
 use lib.Seq.{length-take-le}
 use Rattle.contents.specs.declared.Header.{Header}
 use Rattle.contents.specs.declared.Sheet.{Sheet}
-use Rattle.std.specs.Prelude.{Result, Ok, Err, IsOk}
+use Rattle.std.specs.Prelude.{Result, Ok, Err, IsOk, nat_le, if◌then◌else◌}
 use Rattle.refusal.specs.declared.Refusal.{Refusal}
+use Rattle.refusal.specs.declared.Refusal.TheVariants as refusal
 use Rattle.refusal.specs.Refusal.{number_of}
 use Rattle.sheet.specs.declared.Lengths.{Lengths}
 use Rattle.sheet.specs.declared.walk.Refused as walk
@@ -31,11 +32,10 @@ use Rattle.start.specs.Coef.{Levels}
 use Rattle.start.specs.Buffers.{Buffers}
 use Rattle.calls.specs.Buffers.{Plane, Prior, Gradient, Across, Down, Saved, Sized}
 use Rattle.calls.specs.Calls.{all_six, lengths}
-use Rattle.record.specs.declared.Accepted.{Accepted}
-use Rattle.record.specs.declared.Accepted.TheVariants.{Done}
-use Rattle.record.specs.Model.{answer_of}
+use Rattle.rounds.specs.declared.Ran.{Ran}
+use Rattle.rounds.specs.declared.Ran.TheVariants.{Done}
 use Rattle.calls.proofs.Tests.{sized_names}
-use Rattle.rounds.specs.Whole.{Loan, loan, ClippedAre, Ended, Ends}
+use Rattle.rounds.specs.Whole.{ending_of, Loan, loan, ClippedAre, Ended, Ends}
 use Rattle.solve.specs.Solve.{blend_count, whole_of, planes, blows, totals_of, clipped_at, number_in, answered, SolveIs}
 use Rattle.solve.specs.declared.Solved.{Solved}
 use Rattle.solve.specs.declared.Solved.TheVariants as solved
@@ -45,13 +45,13 @@ use Rattle.picture.specs.declared.Rounding.{Rounding}
 use Rattle.picture.specs.Finish as Finish
 use Rattle.picture.proofs.Pixels.{picture_length}
 use Rattle.copying.specs.declared.Writer.{Writer}
-use Rattle.output.specs.Output.{Wrote, picture_into, refusal_text, refusal_into, room as space, Adds}
+use Rattle.output.specs.Output.{Wrote, picture_text, picture_answer, refusal_text, refusal_answer, room as space, Adds}
 use Rattle.output.proofs.Fronts.{wrote_as, adds_as, adds_more}
-use Rattle.program.specs.Printed.{limits, levels_of, rounding_of, painted, totals_lines, clipped_lines, sheet_text, says, printed, most_picture, most_printed, printed_into, SixLong}
+use Rattle.program.specs.Printed.{limits, levels_of, rounding_of, painted, totals_lines, clipped_lines, sheet_text, says, printed, most_picture, most_printed, SixLong}
 use Rattle.program.proofs.Clipped.{clipped_small, lines_same}
 use Rattle.program.proofs.Accepts.{at-most, accepts}
 use Rattle.grammar.proofs.BoundLaws.{LineTo, line_bound}
-use Rattle.program.proofs.Sizes.{values_small, finished, written, refused}
+use Rattle.program.proofs.Sizes.{values_small, finished, picture_fits, written, refused}
 
 -- ---- paint_with: finish does not refuse, and what it leaves, written out
 
@@ -67,13 +67,19 @@ finishes f h l ps long rgb rgb' room t e = by t (ap (λ (o : Finish.Finished). o
 pub paints : (f : Rounding) (h : Header) → LegalHeader limits h → (ps : List Float) → length ps ≡ h.channels * (h.width * h.height)
     → (rgb rgb' : List ℕ) → length rgb ≡ 3 * (h.picture_width * h.picture_height) → (t : Finish.Verdict)
     → record { answer = t; bytes = rgb' } ≡ Finish.finishing f h.width h.height h.picture_width h.picture_height h.channels ps rgb
-    → (u v : Writer) → most_picture ≤ space u → Adds u (picture_into h.picture_width h.picture_height rgb' (space u)) v → Adds u (painted f h ps) v
-paints f h l ps long rgb rgb' room t e u v m w =
+    → (u v : Writer) → Adds u (picture_text h.picture_width h.picture_height rgb') v → Adds u (painted f h ps) v
+paints f h l ps long rgb rgb' room t e u v w =
+    adds_as (written f h ps rgb' (ap (λ (o : Finish.Finished). o.bytes) (e ∙ finished h l f ps long rgb room))) w
+
+-- and its text fits
+pub paint_fits : (f : Rounding) (h : Header) → LegalHeader limits h → (ps : List Float) → length ps ≡ h.channels * (h.width * h.height)
+    → (rgb rgb' : List ℕ) → length rgb ≡ 3 * (h.picture_width * h.picture_height) → (t : Finish.Verdict)
+    → record { answer = t; bytes = rgb' } ≡ Finish.finishing f h.width h.height h.picture_width h.picture_height h.channels ps rgb
+    → (room : ℕ) → most_picture ≤ room → picture_answer h.picture_width h.picture_height (length rgb') room ≡ Ok tt
+paint_fits f h l ps long rgb rgb' room t e space m =
     let is : rgb' ≡ Finish.picture (Finish.to_byte f) h.width h.height h.picture_width h.picture_height h.channels ps =
     ap (λ (o : Finish.Finished). o.bytes) (e ∙ finished h l f ps long rgb room) in
-    adds_as
-    (written h l f ps rgb' (space u) is (ap length is ∙ picture_length (Finish.to_byte f) h.width h.height h.picture_width h.picture_height h.channels ps) m)
-    w
+    picture_fits h l (length rgb') space (ap length is ∙ picture_length (Finish.to_byte f) h.width h.height h.picture_width h.picture_height h.channels ps) m
 
 -- ---- solved_with: how solving a legal sheet ends
 
@@ -88,7 +94,7 @@ none_done solved.Blown f e = let z : ◌≡◌ {A = ℕ} 0 1 = cc e in absurd (o
 
 module _ (S : Sheet) (b : Lent) (l : LegalSheet limits S b) (B : Buffers)
     (long : SixLong S.header B.plane B.prior B.gradient B.across B.down B.saved) (T₀ : List Float) (room : length T₀ ≡ blend_count S * 2)
-    (a : Result Accepted Refusal) (ks : List ℕ) (L' : Loan) (said : SolveIs S (levels_of b) b.tables (loan B T₀) a ks L') where
+    (a : Result Ran Refusal) (ks : List ℕ) (L' : Loan) (said : SolveIs S (levels_of b) b.tables (loan B T₀) a ks L') where
   abbrev ls : Levels
   ls = levels_of b
 
@@ -106,23 +112,23 @@ module _ (S : Sheet) (b : Lent) (l : LegalSheet limits S b) (B : Buffers)
   sized Down = long.4
   sized Saved = long.5
 
-  ended : Ended (blows S ls ts) (whole_of S ls ts) (loan B T₀) (answer_of a) (number_in ks) L'
+  ended : Ended (blows S ls ts) (whole_of S ls ts) (loan B T₀) (ending_of a) (number_in ks) L'
   ended =
-      subst (λ (n : ℕ). Ends n (whole_of S ls ts) (loan B T₀) (answer_of a) (number_in ks) L')
+      subst (λ (n : ℕ). Ends n (whole_of S ls ts) (loan B T₀) (ending_of a) (number_in ks) L')
       (accepts limits S b l (lengths all_six B) (sized_names size B sized all_six) (length T₀) room) said
 
   -- it is not refused
   pub solves : IsOk a
   solves = by a (blows S ls ts) ended
     where
-      by : (a : Result Accepted Refusal) (b : Bool) → Ended b (whole_of S ls ts) (loan B T₀) (answer_of a) (number_in ks) L' → IsOk a
+      by : (a : Result Ran Refusal) (b : Bool) → Ended b (whole_of S ls ts) (loan B T₀) (ending_of a) (number_in ks) L' → IsOk a
       by (Ok f) b e = refl
       by (Err r) true e = let z : ◌≡◌ {A = ℕ} 0 1 = cc e.0 in absurd (omega arith)
       by (Err r) false e = let z : ◌≡◌ {A = ℕ} 0 1 = cc e.0 in absurd (omega arith)
 
   -- done: it did not blow, and the planes, the totals and the numbers are there
   module _ (one : a ≡ Ok Done) where
-    not_blown : (b : Bool) → Ended b (whole_of S ls ts) (loan B T₀) (answer_of a) (number_in ks) L'
+    not_blown : (b : Bool) → Ended b (whole_of S ls ts) (loan B T₀) (ending_of a) (number_in ks) L'
         → (b ≡ false) × (L' ≡ loan (whole_of S ls ts).buffers (totals_of S ls ts)) × (length L'.buffers.plane ≡ size) × ClippedAre (whole_of S ls ts) (number_in ks)
         × (length L'.totals ≡ length T₀)
     not_blown true e = let z : ◌≡◌ {A = ℕ} 0 1 = cc (e.0, is_done a one) in absurd (omega arith)
@@ -153,16 +159,13 @@ module _ (S : Sheet) (b : Lent) (l : LegalSheet limits S b) (B : Buffers)
 
   -- any other answer: it blew
   module _ (other : a ≡ Ok Done → ⊥) where
-    blown : (b : Bool) → Ended b (whole_of S ls ts) (loan B T₀) (answer_of a) (number_in ks) L' → b ≡ true
+    blown : (b : Bool) → Ended b (whole_of S ls ts) (loan B T₀) (ending_of a) (number_in ks) L' → b ≡ true
     blown true e = refl
     blown false e = absurd (not_done a other (sym e.0))
 
-    pub blown_text : (u v : Writer) (number line : ℕ) → most_printed ≤ space u → Adds u (refusal_into number line (space u)) v
-        → number ≡ 10 → line ≡ 0 → Adds u (sheet_text S ls ts) v
+    pub blown_text : (u v : Writer) → Adds u (refusal_text 10 0) v → Adds u (sheet_text S ls ts) v
     unfolding sheet_text
-    blown_text u v number line m w e f =
-        rw (blown (blows S ls ts) ended)
-        (adds_as (refused number line (space u) (omega arith) m ∙ (λ i. refusal_text (e i) (f i))) w)
+    blown_text u v w = rw (blown (blows S ls ts) ended) w
 
 -- ---- read_with: reading into room of the lengths that measuring gave
 
@@ -247,30 +250,50 @@ pub decisive_32 : decisive 32 ≡ decided
 unfolding decisive longest decimal
 decisive_32 = refl
 
-pub refusal-text : (text : List ℕ) → length text ≤ decisive 32 → (r : Result Lengths walk.Refused) (f : walk.Refused) → Walk.said r ≡ measuring limits text → r ≡ Err f → (k : ℕ) → k ≡ number_of f.refusal
-    → (u v : Writer) → most_printed ≤ space u → Adds u (refusal_into k f.line (space u)) v → Adds u (printed text) v
-unfolding printed says
-refusal-text text h r f e p k same_number u v m w = by (read_text limits text) (line_bound limits text) (sym (ap Walk.said p) ∙ e)
-  where
-    by : (T : Outcome Contents) → LineTo (length text + 2) T → Refused (number_of f.refusal) f.line ≡ lengths_of T → Adds u (says T) v
-    by (Gives c) b q = absurd (let z : ◌≡◌ {A = ℕ} 0 1 = cc in omega arith)
-    by (Refused k' line') b q =
-        let number : k ≡ k' = cc in
-        let same : f.line ≡ line' = cc in
-        adds_as (refused k f.line (space u) (omega (arith, decisive_32)) m ∙ (λ i. refusal_text (number i) (same i))) w
+module _ (text : List ℕ) (r : Result Lengths walk.Refused) (f : walk.Refused) (e : Walk.said r ≡ measuring limits text) (p : r ≡ Err f) where
+  pub refusal_fits : length text ≤ decisive 32 → (room : ℕ) → most_printed ≤ room → refusal_answer f.line room ≡ Ok tt
+  refusal_fits h room m = by (read_text limits text) (line_bound limits text) (sym (ap Walk.said p) ∙ e)
+    where
+      by : (T : Outcome Contents) → LineTo (length text + 2) T → Refused (number_of f.refusal) f.line ≡ lengths_of T → refusal_answer f.line room ≡ Ok tt
+      by (Gives c) b q = absurd (let z : ◌≡◌ {A = ℕ} 0 1 = cc in omega arith)
+      by (Refused k line) b q = let same : f.line ≡ line = cc in refused f.line room (omega (arith, decisive_32)) m
+
+  pub refusal-text : (u v : Writer) → Adds u (refusal_text (number_of f.refusal) f.line) v → Adds u (printed text) v
+  unfolding printed says
+  refusal-text u v w = by (read_text limits text) (sym (ap Walk.said p) ∙ e)
+    where
+      by : (T : Outcome Contents) → Refused (number_of f.refusal) f.line ≡ lengths_of T → Adds u (says T) v
+      by (Gives c) q = absurd (let z : ◌≡◌ {A = ℕ} 0 1 = cc in omega arith)
+      by (Refused k line) q =
+          let number : number_of f.refusal ≡ k = cc in
+          let same : f.line ≡ line = cc in
+          adds_as (λ i. refusal_text (number i) (same i)) w
 
 -- ---- smooth_text: enough room, and as much of the text as decides
 
 pub part_short : (text : List ℕ) (n : ℕ) → n ≡ min decided (length text) → length (take n text) ≤ decisive 32
 part_short text n e = omega (arith, e, decisive_32, length-take-le n text (omega (arith, e)))
 
-pub roomy : (text out : List ℕ) (n : ℕ) (out' : List ℕ) → most_printed ≤ length out → Wrote 0 (printed text) out n out'
-    → Wrote 0 (printed_into text (length out)) out n out'
-unfolding printed_into
-roomy text out n out' h w = rw (le-leb most_printed (length out) h) w
-
-pub first_bytes : (text part out : List ℕ) (n : ℕ) (last out' : List ℕ) → most_printed ≤ length out → Wrote 0 (printed part) out n last → last ≡ out' → part ≡ take decided text
-    → Wrote 0 (printed_into text (length out)) out n out'
+pub first_bytes : (text part out : List ℕ) (n : ℕ) (last out' : List ℕ) → Wrote 0 (printed part) out n last → last ≡ out' → part ≡ take decided text
+    → Wrote 0 (printed text) out n out'
 unfolding printed
-first_bytes text part out n last out' h w same e =
-    roomy text out n out' h (wrote_as (ap printed e ∙ ap says (decides limits text decided (omega (arith, decisive_32)))) (rw same at w))
+first_bytes text part out n last out' w same e =
+    wrote_as (ap printed e ∙ ap says (decides limits text decided (omega (arith, decisive_32)))) (rw same at w)
+
+-- what is answered where there is room
+abbrev so_many : ℕ → Result ℕ Refusal
+so_many n = Ok n
+
+fits_room : (text : List ℕ) (room : ℕ) → most_printed ≤ room → (if nat_le most_printed room then so_many (length (printed text)) else Err refusal.Length) ≡ so_many (length (printed text))
+fits_room text room h = rw (le-leb most_printed room h) refl
+
+-- with room for every text none is refused
+pub has_room : (text : List ℕ) (room : ℕ) (r : Result ℕ Refusal) → most_printed ≤ room
+    → r ≡ (if nat_le most_printed room then Ok (length (printed text)) else Err refusal.Length) → IsOk r
+has_room text room r h e = subst IsOk (sym (e ∙ fits_room text room h)) refl
+
+-- and how many bytes that are
+pub counted : (text out : List ℕ) (n : ℕ) (out' : List ℕ) → most_printed ≤ length out → Wrote 0 (printed text) out n out'
+    → Ok n ≡ (if nat_le most_printed (length out) then Ok (length (printed text)) else Err refusal.Length)
+counted text out n out' h w =
+    let whole : n ≡ length (printed text) = omega (arith, w.count) in ap so_many whole ∙ sym (fits_room text (length out) h)

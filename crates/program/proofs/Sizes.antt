@@ -13,8 +13,9 @@ use Rattle.contents.specs.Legal.{Between, LegalSide, LegalHeader}
 use Rattle.contents.specs.declared.Header.{Header}
 use Rattle.picture.specs.declared.Rounding.{Rounding}
 use Rattle.picture.specs.Finish as Finish
-use Rattle.output.specs.Output.{picture_text, picture_into, refusal_text, refusal_into}
-use Rattle.output.proofs.Sizes.{room_more, picture-into, refusal-into}
+use Rattle.std.specs.Prelude.{Ok}
+use Rattle.output.specs.Output.{picture_text, picture_answer, refusal_answer}
+use Rattle.output.proofs.Sizes.{room_more, picture-answer, refusal-answer}
 use Rattle.program.specs.Printed.{limits, painted, most_picture, most_printed}
 use Rattle.program.proofs.Accepts.{at-most, is_true, counted, wider, full_test}
 
@@ -56,18 +57,21 @@ module _ (h : Header) (l : LegalHeader limits h) where
         (rw (is_true (Finish.fitting h.width h.height h.picture_width h.picture_height h.channels (length planes) (length rgb)) fitting_test) refl)
 
   -- the picture's text fits
-  pub written : (f : Rounding) (planes : List Float) (bytes : List ℕ) (room : ℕ)
-      → bytes ≡ Finish.picture (Finish.to_byte f) h.width h.height h.picture_width h.picture_height h.channels planes
-      → length bytes ≡ 3 * (h.picture_width * h.picture_height) → most_picture ≤ room
-      → picture_into h.picture_width h.picture_height bytes room ≡ painted f h planes
-  unfolding painted
-  written f planes bytes room e n r =
+  pub picture_fits : (bytes room : ℕ) → bytes ≡ 3 * (h.picture_width * h.picture_height) → most_picture ≤ room
+      → picture_answer h.picture_width h.picture_height bytes room ≡ Ok tt
+  picture_fits bytes room n r =
       let wide : h.picture_width ≤ 32 = omega (arith, l.shown_width.top, l.width.top) in
       let high : h.picture_height ≤ 32 = omega (arith, l.shown_height.top, l.height.top) in
-      picture-into h.picture_width h.picture_height bytes room (omega arith) (omega arith) n
+      picture-answer h.picture_width h.picture_height bytes room (omega arith) (omega arith) n
       (omega (arith, room_more h.picture_width h.picture_height 32 32 wide high))
-      ∙ ap (picture_text h.picture_width h.picture_height) e
+
+-- and is that of the picture
+pub written : (f : Rounding) (h : Header) (planes : List Float) (bytes : List ℕ)
+    → bytes ≡ Finish.picture (Finish.to_byte f) h.width h.height h.picture_width h.picture_height h.channels planes
+    → picture_text h.picture_width h.picture_height bytes ≡ painted f h planes
+unfolding painted
+written f h planes bytes e = ap (picture_text h.picture_width h.picture_height) e
 
 -- a refusal's text fits
-pub refused : (number line room : ℕ) → line ≤ 999999 → most_printed ≤ room → refusal_into number line room ≡ refusal_text number line
-refused number line room h r = refusal-into number line room h (omega arith)
+pub refused : (line room : ℕ) → line ≤ 999999 → most_printed ≤ room → refusal_answer line room ≡ Ok tt
+refused line room h r = refusal-answer line room h (omega arith)

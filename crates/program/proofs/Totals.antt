@@ -17,8 +17,9 @@ use Rattle.contents.specs.Legal.{LegalHeader}
 use Rattle.solve.specs.Solve.{iterations_at, steps_before, blend_count}
 use Rattle.solve.proofs.Alone.{steps_rise}
 use Rattle.copying.specs.declared.Writer.{Writer}
-use Rattle.output.specs.Output.{totals_text, totals_into, room, Adds}
-use Rattle.output.proofs.Sizes.{totals-into, totals_room}
+use Rattle.std.specs.Prelude.{Ok}
+use Rattle.output.specs.Output.{totals_text, totals_answer, room, Adds}
+use Rattle.output.proofs.Sizes.{totals-answer, totals_room}
 use Rattle.output.proofs.Fronts.{wrote_length, adds_as, adds_more}
 use Rattle.program.specs.Printed.{limits, run_lines, totals_lines, most_totals, AddsTo}
 use Rattle.program.proofs.Accepts.{at-most}
@@ -64,7 +65,7 @@ module _ (S : Sheet) (l : LegalHeader limits S.header) where
 
       -- one run's lines more, which have room
       pub one_more : (u v w : Writer) (from to : ℕ) → from ≡ steps_before S c * 2 → to ≡ steps_before S (c + 1) * 2 → most_totals ≤ room u
-          → AddsTo (c * 43000) u (join_upto (run_lines S T) c) v → Adds v (totals_into c (iterations_at S c) (part T from to) (room v)) w
+          → AddsTo (c * 43000) u (join_upto (run_lines S T) c) v → Adds v (totals_text c (iterations_at S c) (part T from to)) w
           → AddsTo ((c + 1) * 43000) u (join_upto (run_lines S T) (c + 1)) w
       unfolding upto
       one_more u v w from to from_is to_is big early b =
@@ -72,14 +73,20 @@ module _ (S : Sheet) (l : LegalHeader limits S.header) where
           let after : to ≡ steps_before S (suc c) * 2 = to_is ∙ ap (λ (k : ℕ). steps_before S k * 2) (add-one c) in
           let less : steps ≤ 1000 = few_steps c in
           let within : v.at ≤ length u.out.now = omega (arith, few, early.1) in
-          let same : length v.out.now ≡ length u.out.now = wrote_length early.0.wrote within in
-          let lines = adds_as
-          (ap (λ (xs : List Float). totals_into c steps xs (room v)) (λ i. part T (from_is i) (after i))
-          ∙ totals-into c steps (part T (steps_before S c * 2) (steps_before S (suc c) * 2)) (room v) (omega (arith, few)) (omega arith) part_long (omega (arith, few, early.1)))
-          b in (
+          let lines = adds_as (ap (totals_text c steps) (λ i. part T (from_is i) (after i))) b in (
             rw add-one (adds_more within early.0 lines),
             omega (arith, early.1, lines.wrote.count, totals_room c steps (part T (steps_before S c * 2) (steps_before S (suc c) * 2)) (omega (arith, few)) (omega arith)),
           )
+
+      pub one_fits : (u v : Writer) (text : List ℕ) (from to : ℕ) → from ≡ steps_before S c * 2 → to ≡ steps_before S (c + 1) * 2 → most_totals ≤ room u
+          → AddsTo (c * 43000) u text v → totals_answer c (iterations_at S c) (length (part T from to)) (room v) ≡ Ok tt
+      one_fits u v text from to from_is to_is big early =
+          let after : to ≡ steps_before S (suc c) * 2 = to_is ∙ ap (λ (k : ℕ). steps_before S k * 2) (add-one c) in
+          let less : iterations_at S c ≤ 1000 = few_steps c in
+          let within : v.at ≤ length u.out.now = omega (arith, few, early.1) in
+          let same : length v.out.now ≡ length u.out.now = wrote_length early.0.wrote within in
+          totals-answer c (iterations_at S c) (length (part T from to)) (room v) (omega (arith, few)) (omega arith)
+          (ap length (λ i. part T (from_is i) (after i)) ∙ part_long) (omega (arith, few, early.1))
 
   pub none-yet : (T : List Float) → [] ≡ join_upto (run_lines S T) 0
   unfolding upto
@@ -87,16 +94,21 @@ module _ (S : Sheet) (l : LegalHeader limits S.header) where
 
   -- joint mode: the one run's
   pub joint_lines : (T : List Float) → S.header.joint ≡ true → length T ≡ blend_count S * 2 → (u v : Writer) → most_totals ≤ room u
-      → Adds u (totals_into 0 (iterations_at S 0) T (room u)) v → AddsTo most_totals u (totals_lines S T) v
+      → Adds u (totals_text 0 (iterations_at S 0) T) v → AddsTo most_totals u (totals_lines S T) v
   unfolding totals_lines
-  joint_lines T j long u v big b =
+  joint_lines T j long u v big lines =
       let steps = iterations_at S 0 in
-      let less : steps ≤ 1000 = few_steps 0 in
-      let fit : length T ≡ steps * 2 = long ∙ ap (λ (b : Bool). cond b steps (steps_before S S.header.channels) * 2) j in
-      let lines = adds_as (totals-into 0 steps T (room u) (omega arith) (omega arith) fit (omega arith)) b in (
+      let less : steps ≤ 1000 = few_steps 0 in (
         adds_as (sym (ap (λ (b : Bool). cond b (totals_text 0 steps T) (join_upto (run_lines S T) S.header.channels)) j)) lines,
         omega (arith, lines.wrote.count, totals_room 0 steps T (omega arith) (omega arith)),
       )
+
+  pub joint_fits : (T : List Float) → S.header.joint ≡ true → length T ≡ blend_count S * 2 → (u : Writer) → most_totals ≤ room u
+      → totals_answer 0 (iterations_at S 0) (length T) (room u) ≡ Ok tt
+  joint_fits T j long u big =
+      let steps = iterations_at S 0 in
+      let less : steps ≤ 1000 = few_steps 0 in
+      totals-answer 0 steps (length T) (room u) (omega arith) (omega arith) (long ∙ ap (λ (b : Bool). cond b steps (steps_before S S.header.channels) * 2) j) (omega arith)
 
   -- separate mode: all runs'
   pub apart_lines : (T : List Float) → S.header.joint ≡ false → (u v : Writer) → AddsTo most_totals u (join_upto (run_lines S T) S.header.channels) v

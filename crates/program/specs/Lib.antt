@@ -3,3 +3,4 @@ pub mod Printed
 pub mod Callers
 pub mod Equal
 pub mod Partner
+pub mod Examples

@@ -79,10 +79,6 @@ most_totals = 3 * (1000 * 43)
 abbrev pub most_printed : ℕ
 most_printed = most_totals + (27 + most_picture)
 
--- what the call writes to a buffer of `room` bytes: the text, or nothing where the buffer could be too small for some text
-unfoldable pub printed_into : List ℕ → ℕ → List ℕ
-printed_into text room = cond (leb most_printed room) (printed text) []
-
 -- what the functions ask of the room that they are lent: each of the six has (channels of the sheet) × W × H values
 abbrev pub SixLong : Header → List Float → List Float → List Float → List Float → List Float → List Float → Type 0
 SixLong h plane prior gradient across down saved =

@@ -1,7 +1,7 @@
 // The whole program as a function: the bytes that `smooth` prints for a text.
 #![tactic(auto)]
 
-ghost use Rattle.std.specs.Prelude.{◌≡◌, ℕ, ◌+◌, ◌*◌, ◌≤◌, ◌<◌, false, length};
+ghost use Rattle.std.specs.Prelude.{◌≡◌, ℕ, ◌+◌, ◌*◌, ◌≤◌, ◌<◌, false, length, nat_le, if◌then◌else◌, Ok, Err, IfOk, OnErr};
 ghost use Rattle.fold.specs.Join.{join_upto};
 ghost use Rattle.contents.specs.Sheets.{lent};
 ghost use Rattle.record.specs.Lent.{levels_in, six_of};
@@ -12,7 +12,7 @@ ghost use Rattle.sheet.specs.Reading.Outcome.{Gives};
 ghost use Rattle.contents.specs.Legal.{LegalHeader, LegalSheet};
 ghost use Rattle.solve.specs.Solve.{blend_count, number_in};
 ghost use Rattle.output.specs.Output.{Wrote, Adds, room};
-ghost use Rattle.program.specs.Printed.{limits, painted, run_lines, totals_lines, clipped_lines, sheet_text, printed, most_picture, most_totals, most_printed, printed_into, SixLong, AddsTo};
+ghost use Rattle.program.specs.Printed.{limits, painted, run_lines, totals_lines, clipped_lines, sheet_text, printed, most_picture, most_totals, most_printed, SixLong, AddsTo};
 
 use contents::{Header, Limits, Reader, Sheet, chosen};
 use copying::Writer;
@@ -43,7 +43,7 @@ fn write_runs(s: Sheet, totals: &[f64], to: &mut Writer)
         let from = steps_before(s, c) * 2;
         let end = steps_before(s, c + 1) * 2;
         let steps = iterations_at(s, c) as usize;
-        output::write_totals(c as usize, steps, &totals[from..end], to);
+        output::write_totals(c as usize, steps, &totals[from..end], to).unwrap();
     }
 }
 
@@ -54,7 +54,7 @@ fn write_sums(s: Sheet, totals: &[f64], to: &mut Writer)
 {
     let h = s.header;
     if h.joint {
-        return output::write_totals(0, h.iterations[0] as usize, totals, to);
+        return output::write_totals(0, h.iterations[0] as usize, totals, to).unwrap();
     }
     write_runs(s, totals, to)
 }
@@ -66,7 +66,7 @@ fn write_numbers(n: u32, clipped: [u32; 3], to: &mut Writer)
     ensures { AddsTo 27 to.old (clipped_lines n (number_in clipped)) to.new }
 {
     for c in 0..n as usize {
-        output::write_clipped(c, clipped[c] as usize, to);
+        output::write_clipped(c, clipped[c] as usize, to).unwrap();
     }
 }
 
@@ -81,7 +81,7 @@ fn paint_with(rounding: Rounding, h: Header, planes: &[f32], rgb: &mut [u8], to:
         rounding, h.width, h.height, width, height, h.channels, planes, rgb,
     )
     .unwrap();
-    output::write_picture(width, height, rgb, to)
+    output::write_picture(width, height, rgb, to).unwrap()
 }
 
 // The same, with room of its own.
@@ -108,7 +108,7 @@ fn solved_with(s: Sheet, given: Given, six: &mut Buffers, totals: &mut [f64], to
     // Line F's letter; without it t holds.
     let rounding = chosen(s.settings.rounding, Rounding::Truncate, Rounding::Nearest);
     let Solved::Done(clipped) = solve(s, given, six, totals).unwrap() else {
-        return output::write_refusal(Refusal::Blown.number(), 0, to);
+        return output::write_refusal(Refusal::Blown, 0, to).unwrap();
     };
     write_sums(s, totals, to);
     write_numbers(h.channels, clipped, to);
@@ -155,7 +155,7 @@ fn read_with(text: &[u8], lows: &mut [i16], highs: &mut [i16], tables: &mut [u16
             };
             solved(s, given, to)
         }
-        Err(e) => output::write_refusal(e.refusal.number(), e.line, to),
+        Err(e) => output::write_refusal(e.refusal, e.line, to).unwrap(),
     }
 }
 
@@ -185,21 +185,25 @@ fn answer(text: &[u8], to: &mut Writer)
 {
     match sheet::measure(text, LIMITS) {
         Ok(lengths) => read_and_solve(text, lengths, to),
-        Err(e) => output::write_refusal(e.refusal.number(), e.line, to),
+        Err(e) => output::write_refusal(e.refusal, e.line, to).unwrap(),
     }
 }
 
-// What `smooth` prints for a text, written to the front of `out`, and how many bytes that is; 0, with nothing written, where `out` could be too
-// small for some text. Of a long text the first bytes decide.
-// Ruled out: a grey picture for every sheet; a refusal for a sheet that keeps every rule.
-// Kept: the 0 is how many bytes are written, and one clause says of every output what these are. A public function that couldn't fail still can't, by a rule of the project.
-pub fn smooth_text(text: &[u8], out: &mut [u8]) -> usize
-    ensures { Wrote 0 (printed_into text.now (length out.old)) out.old result out.new }
+/// Writes what `smooth` prints for a text to the front of `out`, and answers how many bytes that
+/// is. Of a long text the first bytes decide. Refuses by 8 an output with less room than any answer
+/// may take, whatever this one takes.
+// Rules out: a grey picture for every sheet; a refusal for a sheet that keeps every rule; a byte
+// changed behind the answer, or before a refusal.
+pub fn smooth_text(text: &[u8], out: &mut [u8]) -> Result<usize, Refusal>
+    ensures answer { result ≡ (if nat_le most_printed (length out.old)
+        then Ok (length (printed text.now)) else Err Refusal.Length) }
+    ensures writes { IfOk result (λ n. Wrote 0 (printed text.now) out.old n out.new) }
+    ensures unchanged { OnErr result (out.new ≡ out.old) }
 {
     if out.len() < MOST_PRINTED {
-        return 0;
+        return Err(Refusal::Length);
     }
     let mut to = Writer::new(out);
     answer(&text[..DECISIVE.min(text.len())], &mut to);
-    to.at
+    Ok(to.at)
 }

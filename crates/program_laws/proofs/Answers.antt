@@ -92,7 +92,7 @@ refused k line t from most =
     record {
       refusal = t.0;
       line = line;
-      place = inr from;
+      place = inr ((λ e. t.2 (sym t.1 ∙ ap table.number_of e)), from);
       bytes = subst (λ (n : ℕ). IsLine 88 (Number n ∷ Number line ∷ []) (ended (numbers_line 88 k line ∷ []))) (sym t.1)
           (two_numbers 88 k line (omega (arith, t.1, number_small t.0)) most);
     }
@@ -208,6 +208,7 @@ module _ (s : Sheet) (b : Lent) (l : LegalSheet limits s b) where
         bytes = ap (λ (p : List ℕ). totals_lines s (totals_of s ls ts) ++ (clipped_lines s.header.channels (clipped_at s ls ts) ++ p)) painted_lines;
         one_or_three = l.header.channels;
         few_steps = steps_few s.header.joint;
+        few_clipped = λ c h. clipped_small s b l c h;
         wide = (l.header.shown_width.low, wide);
         high = (l.header.shown_height.low, high);
         totals_lines = totals_parts (totals_of s ls ts) s.header.joint;

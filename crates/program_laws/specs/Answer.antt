@@ -1,6 +1,6 @@
 -- What any answer of the program looks like, byte for byte, whatever it was computed from: one
 -- complete picture, or one numbered refusal.
-use Rattle.std.specs.Prelude.{ℕ, ◌+◌, ◌-◌, ◌*◌, ◌≡◌, ◌<◌, ◌≤◌, ◌⊎◌}
+use Rattle.std.specs.Prelude.{ℕ, ◌+◌, ◌-◌, ◌*◌, ◌≡◌, ◌≢◌, ◌<◌, ◌≤◌, ◌⊎◌}
 use Rattle.std.specs.Prelude.{List, [], ◌∷◌, ◌++◌, length, All, replicate}
 use Rattle.std.specs.List.{AllZip}
 use Rattle.refusal.specs.declared.Refusal.{Refusal}
@@ -67,7 +67,7 @@ IsRun steps channel =
     IsParts (λ k. IsLine 84 (Number channel ∷ Number (k + 1) ∷ Hex 16 ∷ Hex 16 ∷ [])) steps
 
 -- One complete picture: the lines `T` of its runs, channels rising; a line `K` with a number for
--- each channel; a line `I` with width and height; and so many lines `R` as it is high, each of so
+-- each channel, at most 1,024; a line `I` with width and height; and so many lines `R` as it is high, each of so
 -- many pixels as it is wide.
 pub record IsPicture (text : List ℕ) : Type 0 where
   pub channels : ℕ
@@ -82,6 +82,7 @@ pub record IsPicture (text : List ℕ) : Type 0 where
   pub bytes : text ≡ totals ++ (numbers ++ (sides ++ rows))
   pub one_or_three : (channels ≡ 1) ⊎ (channels ≡ 3)
   pub few_steps : (c : ℕ) → steps c ≤ 1000
+  pub few_clipped : (c : ℕ) → c < channels → clipped c ≤ 1024
   pub wide : (1 ≤ width) × (width ≤ 32)
   pub high : (1 ≤ height) × (height ≤ 32)
   pub totals_lines : IsParts (λ c. IsRun (steps c) c) channels totals
@@ -90,11 +91,12 @@ pub record IsPicture (text : List ℕ) : Type 0 where
   pub rows_lines : IsParts (λ y. IsLine 82 (replicate width (Hex 6))) height rows
 
 -- One numbered refusal: a line `X` with a number of the table of refusals, and the number of the
--- text's bad line, from 1. A sheet whose solving blows up is refused for no line, by 0.
+-- text's bad line, from 1. A sheet whose solving blows up is refused for no line, by 0, and no other
+-- text is.
 pub record IsRefusal (text : List ℕ) : Type 0 where
   pub refusal : Refusal
   pub line : ℕ
-  pub place : ((refusal ≡ Blown) × (line ≡ 0)) ⊎ (1 ≤ line)
+  pub place : ((refusal ≡ Blown) × (line ≡ 0)) ⊎ ((refusal ≢ Blown) × (1 ≤ line))
   pub bytes : IsLine 88 (Number (number_of refusal) ∷ Number line ∷ []) text
 
 abbrev pub IsAnswer : List ℕ → Type 0

@@ -3,6 +3,7 @@
 #![tactic(auto)]
 
 ghost use Rattle.std.specs.Prelude.{◌≤◌, length};
+ghost use Rattle.program.specs.Printed.{most_printed};
 
 use filling::read_full;
 use std::io;
@@ -26,7 +27,7 @@ fn print_next<R: Read, W: Write>(
     space: &mut [u8],
     out: &mut [u8],
 ) -> io::Result<bool>
-    requires { 65536 ≤ length space.old }
+    requires { (65536 ≤ length space.old) × (most_printed ≤ length out.old) }
 {
     let mut d = [48u8; 5];
     let got = read_full(input, &mut d)?;
@@ -35,7 +36,7 @@ fn print_next<R: Read, W: Write>(
     }
     let n = length_of(&d);
     let m = read_full(input, &mut space[0..n])?;
-    let r = program::smooth_text(&space[0..m], out);
+    let r = program::smooth_text(&space[0..m], out).unwrap();
     to.write_all(&out[0..r])?;
     Ok(true)
 }
@@ -47,7 +48,7 @@ fn print_all<R: Read, W: Write>(
     space: &mut [u8],
     out: &mut [u8],
 ) -> io::Result<()>
-    requires { 65536 ≤ length space.old }
+    requires { (65536 ≤ length space.old) × (most_printed ≤ length out.old) }
 {
     // Kept: each loop is proved to end, and nothing says that an input does: `while print_next(..)? {}` has no measure.
     for _ in 0..u64::MAX {

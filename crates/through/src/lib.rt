@@ -18,7 +18,9 @@ const PRINTED_MOST: usize = 139264;
 
 /// Reads a text, or as much of it as decides, and writes what is printed for the whole of it, once
 /// and nothing else: one complete picture, or one numbered refusal. An error is the reader's or the
-/// writer's, and what was written until then is not promised.
+/// writer's, and what was written until then is not promised. This is said of readers and writers
+/// whose bytes are known, as slices and vectors are: which bytes a file or a pipe gives and takes,
+/// nothing says.
 // Rules out: an answer to a part of the text, as to what one read of a pipe gives; an answer cut
 // short, or written twice; a picture of another text.
 #[tactic(auto, using(program_laws::proofs::Answers::one_answer))]
@@ -30,7 +32,7 @@ pub fn run<R: Read, W: Write>(input: &mut R, output: &mut W) -> io::Result<()>
     let mut space = [0u8; READ_MOST];
     let n = read_full(input, &mut space)?;
     let mut out = [0u8; PRINTED_MOST];
-    let m = program::smooth_text(&space[..n], &mut out);
+    let m = program::smooth_text(&space[..n], &mut out).unwrap();
     output.write_all(&out[..m])
 }
 

@@ -1,10 +1,11 @@
--- Kept: the check finds none of these alone (scripts/answers tries each).
 -- `output::write_clipped` meets its contract.
-use Rattle.output.proofs.Sizes.{clipped_adds, clipped_none}
+use native.Mathlib.Omega.{arith}
+use Rattle.output.proofs.Sizes.{clipped_asks, clipped_adds}
 use Rattle.output.proofs.write_clipped.Goals as goal
 
-pub returns-then-clipped_fits : goal.returns-then-clipped_fits
-returns-then-clipped_fits c = clipped_adds c.args.to.now _ _ _ c.room.ensures _ _ c.clipped_fits.ensures c.if-clipped_fits.true c.put_numbers.ensures
+pub put_numbers-requires : goal.put_numbers-requires
+put_numbers-requires c =
+    omega (arith, clipped_asks c.args.to.now c.args.to.now c.room.result c.room.ensures c.clipped_answer.result c.in_ok-clipped_answer.was c.args.channel c.args.number c.clipped_answer.ensures)
 
-pub returns-else-clipped_fits : goal.returns-else-clipped_fits
-returns-else-clipped_fits c = clipped_none c.args.to.now c.args.to.now _ _ c.room.ensures _ _ c.clipped_fits.ensures c.if-clipped_fits.false
+pub returns-clause-writes : goal.returns-clause-writes
+returns-clause-writes c = clipped_adds _ _ _ c.room.ensures _ c.in_ok-clipped_answer.was _ _ c.clipped_answer.ensures c.put_numbers.ensures

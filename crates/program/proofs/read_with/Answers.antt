@@ -17,6 +17,12 @@ returns-in-Ok c =
     let o = c.read in
     sheet-text a.text.now (lent a.lows.now a.highs.now a.tables.now) _ o.result c.requires.0 c.requires.1 o.ensures _ c.in-Ok.is a.to.now _ c.solved.ensures
 
+pub unwrap-requires : goal.unwrap-requires
+unwrap-requires c =
+    let a = c.args in
+    let o = c.read in
+    absurd (not_refused a.text.now (lent a.lows.now a.highs.now a.tables.now) _ o.result c.requires.0 c.requires.1 o.ensures _ c.in-Err.is)
+
 pub returns-in-Err : goal.returns-in-Err
 returns-in-Err c =
     let a = c.args in

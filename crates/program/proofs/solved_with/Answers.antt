@@ -5,10 +5,11 @@ use mathlib.Core.Path.{refl}
 use Rattle.std.specs.Prelude.{Ok}
 use Rattle.contents.specs.Sheets.{lent}
 use Rattle.record.specs.Lent.{six_of}
-use Rattle.record.specs.declared.Accepted.TheVariants.{Done}
+use Rattle.rounds.specs.declared.Ran.TheVariants.{Done}
 use Rattle.solve.specs.Solve.{answered, numbers_in}
-use Rattle.output.proofs.Fronts.{wrote_length}
+use Rattle.output.proofs.Fronts.{wrote_length, said_ok}
 use Rattle.program.proofs.Accepts.{at-most}
+use Rattle.program.proofs.Sizes.{refused}
 use Rattle.program.proofs.Printing.{is_ok, none_done, solves, done_long, done_text, numbers_small, blown_text}
 use Rattle.program.proofs.solved_with.Goals as goal
 
@@ -19,13 +20,16 @@ unwrap-requires c =
     let o = c.solve in
     is_ok o.result (solves a.s (lent a.given.lows.now a.given.highs.now a.given.tables.now) p.0 (six_of a.six.now) p.1 a.totals.now p.2 (answered o.result) (numbers_in o.result) _ o.ensures.is)
 
+pub unwrap-requires-in_default : goal.unwrap-requires-in_default
+unwrap-requires-in_default c = said_ok c.write_refusal.ensures.answer (refused 0 _ (omega arith) c.requires.3)
+
 pub returns-in_default : goal.returns-in_default
 returns-in_default c =
     let a = c.args in
     let p = c.requires in
     let f = c.unwrap.result in
     blown_text a.s (lent a.given.lows.now a.given.highs.now a.given.tables.now) p.0 (six_of a.six.now) p.1 a.totals.now p.2 (answered (Ok f)) (numbers_in (Ok f)) _ (rw c.unwrap.ensures at c.solve.ensures.is) (none_done f c.in_default.not-Done)
-    a.to.now _ _ _ p.3 c.write_refusal.ensures c.number.ensures refl
+    a.to.now _ (rw c.unwrap-in_default.ensures at c.write_refusal.ensures.writes)
 
 pub write_numbers-requires : goal.write_numbers-requires
 write_numbers-requires c =

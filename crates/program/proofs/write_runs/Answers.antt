@@ -4,8 +4,8 @@ use Prim.Native.Nat.{ℕ, suc, ◌*◌}
 use native.Mathlib.Numerals.{add-one}
 use native.Mathlib.Omega.{arith}
 use Rattle.solve.specs.Solve.{steps_before}
-use Rattle.output.proofs.Fronts.{adds_none, adds_as}
-use Rattle.program.proofs.Totals.{from_to, to_most, one_more, none-yet}
+use Rattle.output.proofs.Fronts.{adds_none, adds_as, said_ok}
+use Rattle.program.proofs.Totals.{from_to, to_most, one_more, one_fits, none-yet}
 use Rattle.program.proofs.write_runs.Goals as goal
 
 pub loop-c-init : goal.loop-c-init
@@ -29,12 +29,21 @@ slice_bounds-write_totals-end c = (let a = c.args in
     let e : c.steps_before-end.result ≡ steps_before a.s (suc l.c) = c.steps_before-end.ensures.0 ∙ ap (steps_before a.s) (add-one l.c) in
     omega (arith, c.steps_before-from.ensures.0, from_to a.s c.requires.0 a.totals.now c.requires.1 c.requires.2 l.c c.loop-c-test.true, to_most a.s c.requires.0 a.totals.now c.requires.1 c.requires.2 l.c c.loop-c-test.true))
 
+pub unwrap-requires : goal.unwrap-requires
+unwrap-requires c =
+    let a = c.args in
+    let p = c.requires in
+    let l = c.loop-c in
+    said_ok (rw c.iterations_at-steps.ensures at c.write_totals.ensures.answer)
+    (one_fits a.s p.0 a.totals.now p.1 p.2 l.c c.loop-c-test.true a.to.now _ _ _ _
+    (ap (λ (n : ℕ). n * 2) c.steps_before-from.ensures.0) (ap (λ (n : ℕ). n * 2) c.steps_before-end.ensures.0) p.3 l.invariant.1)
+
 pub loop-c-preserved : goal.loop-c-preserved
 loop-c-preserved c =
     let a = c.args in
     let p = c.requires in
     let l = c.loop-c in
-    let v = rw c.iterations_at-steps.ensures at c.write_totals.ensures in (
+    let v = rw (c.unwrap.ensures, c.iterations_at-steps.ensures) at c.write_totals.ensures.writes in (
       omega arith,
       one_more a.s p.0 a.totals.now p.1 p.2 l.c c.loop-c-test.true a.to.now _ _ _ _
           (ap (λ (n : ℕ). n * 2) c.steps_before-from.ensures.0) (ap (λ (n : ℕ). n * 2) c.steps_before-end.ensures.0) p.3 l.invariant.1 v,
