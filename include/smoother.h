@@ -11,8 +11,13 @@
  *
  * What a caller owes, and the library cannot check: each pointer is valid for its length, aligned for its type and not null (also
  * where the length is 0); nothing that a call writes overlaps anything else that it is lent; `mark` holds 0 or 1, as a C `bool`
- * always does; the processor rounds f32 to the nearest, ties to even, and keeps subnormals, as it does unless told otherwise.
+ * always does; during every call that computes the calling thread's processor rounds to the nearest, ties to even, and keeps subnormals.
  * Everything else is checked: a length, number, level, quantiser, position or weight that is not usable is refused.
+ *
+ * Rounding. A processor does so unless it is told otherwise: by fesetround, by _mm_setcsr, by a program or shared library that was linked with
+ * -ffast-math or -Ofast. Then smoother_start, smoother_push, smoother_data, smoother_blend, smoother_move, smoother_project, smoother_serve, smoother_solve
+ * and smoother_finish answer 0 as ever, but most values that they leave are others; the library cannot know it. Ask smoother_rounds_to_nearest() before
+ * such a call. The other calls compute no float, and do not depend on it. (The library uses SSE alone: the x87 control word does not matter.)
  *
  * Answers. 0 is done. A number of the table is a refusal: nothing that was lent has changed, except `*line` of measure and read, and `*which` and `*line` of the stitching calls. 255 (project
  * and smoother_solve) is done, and the channel is now marked blown, or a channel blew in the run. */
@@ -22,10 +27,18 @@
 #include <stdbool.h>
 #include <stddef.h>
 #include <stdint.h>
+#include <xmmintrin.h> /* _mm_getcsr; the library is for x86-64 */
 
 #ifdef __cplusplus
 extern "C" {
 #endif
+
+/* Whether the calling thread's floats are rounded to the nearest, ties to even, and its subnormals kept, as operands and as results: rounding control,
+ * flush to zero and denormals are zero of MXCSR are 0. It stands in this header alone, and takes a few nanoseconds. */
+static inline bool smoother_rounds_to_nearest(void)
+{
+    return (_mm_getcsr() & 0xE040) == 0;
+}
 
 /* The numbers of the table in document 01. */
 enum smoother_answer {
@@ -189,7 +202,9 @@ uint32_t smoother_serve(struct smoother_run *run, const uint8_t *jobs, size_t jo
 /* The whole run of a sheet, in its mode, by the SMOOTHER_NUMBERS numbers that smoother_read lends out: joint mode is one run, in separate mode
  * each channel is one. plane, prior, gradient, across, down and saved have channels x W x H values each in either mode; what they hold before
  * does not matter. totals has two places for each blend, one blend in each step of each run: 2 x N values, N being the first iteration count in joint
- * mode and the sum of the channels' in separate mode. clipped has one place for each channel. Fields that no run of the sheet uses are not looked at.
+ * mode and the sum of the channels' in separate mode. clipped has one place for each channel. The runs of both modes must be legal, whatever the mode:
+ * with three channels all three iteration counts and held step counts, smoothing weights and data weights are looked at in either mode (13). Not looked at are the
+ * picture's sides, the rounding's number, and with one channel the second and third of those counts and weights and the second and third channel.
  * 0: the six hold each channel's after its last job, channel after channel; plane the planes, totals both totals of each blend, run after run and step
  * after step, and clipped the number of coefficients that each channel's last project clipped, 0 without steps.
  * 255: a channel is blown; the contents of the six and of totals are not promised, and clipped is unchanged.

@@ -1,6 +1,8 @@
-/* sheet batch: a folder of sheets to a folder of pictures, each sheet in a process of its own. */
+/* sheet batch: a folder of sheets to a folder of pictures, each sheet in a process of its own. Rows and summary go to a folder beside, so that the pictures' folder can be
+ * sent to a partner as it is. */
 #define _GNU_SOURCE
 #include "commands.h"
+#include "folders.h"
 #include "options.h"
 #include "row.h"
 #include "words.h"
@@ -12,7 +14,6 @@
 #include <stdlib.h>
 #include <string.h>
 #include <sys/prctl.h>
-#include <sys/stat.h>
 #include <sys/wait.h>
 #include <unistd.h>
 
@@ -26,9 +27,9 @@ struct item {
 };
 
 struct batch {
-    const char *in, *out;
+    struct folders folders; /* `in` is a folder, or for `one` a sheet */
     struct drawing how;
-    uint32_t processes;
+    uint32_t processes; /* 0 for `one`, which takes no -j */
     struct item *items;
     size_t count, missing, ended, refused, failed;
     struct bar bar;
@@ -56,27 +57,36 @@ static int is_sheet(const struct dirent *entry)
     return len > 4 && entry->d_name[0] != '.' && strcmp(entry->d_name + len - 4, ".tsv") == 0;
 }
 
-/* The folder's sheets by name, each with its row where it is done already. */
+/* The folder's sheets by name. */
 static enum status list_items(struct batch *b)
 {
     struct dirent **names;
-    int n = scandir(b->in, &names, is_sheet, alphasort);
+    int n = scandir(b->folders.in, &names, is_sheet, alphasort);
     if (n < 0)
-        return trouble("%s: can't be read: %s", b->in, strerror(errno));
+        return trouble("%s: can't be read: %s", b->folders.in, strerror(errno));
     b->count = (size_t)n;
     b->items = space(b->count, sizeof *b->items);
     for (int i = 0; i < n; i++) {
-        struct item *it = &b->items[i];
-        char *name = name_in(b->in, names[i]->d_name, "", "");
-        it->one = one_of(name, b->out, b->how);
-        enum status before = one_before(&it->one, &it->row);
-        b->missing += before == TROUBLE;
-        b->refused += before == REFUSED;
+        char *name = name_in(b->folders.in, names[i]->d_name, "", "");
+        b->items[i].one = one_of(name, b->folders.out, b->folders.rows, b->how);
         free(name);
         free(names[i]);
     }
     free(names);
     return DONE;
+}
+
+/* Takes the rows of the sheets that are done already. */
+static void take_rows(struct batch *b)
+{
+    for (size_t i = 0; i < b->count; i++) {
+        struct item *it = &b->items[i];
+        enum status before = one_before(&it->one, &it->row);
+        b->missing += before == TROUBLE;
+        b->refused += before == REFUSED;
+        if (before == TROUBLE)
+            one_forget(&it->one);
+    }
 }
 
 /* What the child does: the signals are as usual again, and it ends with its parent. */
@@ -206,7 +216,7 @@ static enum status run(struct batch *b)
 static enum status summarise(const struct batch *b)
 {
     struct bytes text = {0};
-    char *name = name_in(b->out, "summary.tsv", "", "");
+    char *name = name_in(b->folders.rows, "summary.tsv", "", "");
     add_text(&text, "%s", row_head);
     for (size_t i = 0; i < b->count; i++)
         add_text(&text, "%s", b->items[i].row);
@@ -219,88 +229,94 @@ static enum status summarise(const struct batch *b)
     return status != DONE || b->failed > 0 ? TROUBLE : b->refused > 0 ? REFUSED : DONE;
 }
 
-/* The folder for pictures is made where there is none. */
-static enum status out_folder(const char *out)
-{
-    struct stat s;
-    if (mkdir(out, 0777) == 0 || (errno == EEXIST && stat(out, &s) == 0 && S_ISDIR(s.st_mode)))
-        return DONE;
-    return trouble("%s: is no folder and can't be made one: %s", out, strerror(errno));
-}
-
-static bool same_folder(const char *a, const char *b)
-{
-    struct stat x, y;
-    return stat(a, &x) == 0 && stat(b, &y) == 0 && x.st_ino == y.st_ino && x.st_dev == y.st_dev;
-}
-
-/* Two words and the options, -j among them where `processes` is not null. */
-static enum status words_of(int argc, char **argv, const char *words[2], struct drawing *how, uint32_t *processes)
+/* Two words and the options; -j and a number of processes where there is one already. */
+static enum status words_of(int argc, char **argv, struct batch *b)
 {
     int n = 0;
+    const char **words[] = {&b->folders.in, &b->folders.out};
     for (int i = 0; i < argc; i++) {
-        int shared = drawing_option(argc, argv, &i, how);
+        int shared = drawing_option(argc, argv, &i, &b->how);
         if (shared == 2)
             return TROUBLE;
         if (shared == 1)
             continue;
-        if (processes && strcmp(argv[i], "-j") == 0) {
-            if (++i == argc || !whole_number(argv[i], 1, MOST_PROCESSES, processes))
+        if (b->processes > 0 && strcmp(argv[i], "-j") == 0) {
+            if (++i == argc || !whole_number(argv[i], 1, MOST_PROCESSES, &b->processes))
                 return trouble("-j needs a number of processes, 1 to %d", MOST_PROCESSES);
+        } else if (strcmp(argv[i], "--rows") == 0 && i + 1 < argc) {
+            free(b->folders.rows);
+            b->folders.rows = strdup(argv[++i]);
         } else if (argv[i][0] == '-' || n == 2) {
             return trouble("%s: no such option, or a word too many (sheet --help)", argv[i]);
         } else {
-            words[n++] = argv[i];
+            *words[n++] = argv[i];
         }
     }
     return n == 2 ? DONE : trouble("two words are needed, what to read and OUT_DIR (sheet --help)");
 }
 
-enum status batch_command(int argc, char **argv)
+static void batch_free(struct batch *b)
 {
-    const char *words[2];
-    long processors = sysconf(_SC_NPROCESSORS_ONLN);
-    struct batch b = {.how = {.how = whole_reading}, .processes = processors > 0 && processors <= MOST_PROCESSES ? (uint32_t)processors : 1};
-    enum status status = words_of(argc, argv, words, &b.how, &b.processes);
-    if (status != DONE)
-        return status;
-    b.in = words[0];
-    b.out = words[1];
-    if (out_folder(b.out) != DONE)
-        return TROUBLE;
-    if (same_folder(b.in, b.out))
-        return trouble("%s: pictures need another folder than the sheets", b.out);
-    status = list_items(&b);
-    if (status == DONE)
-        status = run(&b);
-    if (status == DONE)
-        status = summarise(&b);
-    for (size_t i = 0; i < b.count; i++) {
-        one_free(&b.items[i].one);
-        free(b.items[i].row);
+    for (size_t i = 0; i < b->count; i++) {
+        one_free(&b->items[i].one);
+        free(b->items[i].row);
     }
-    free(b.items);
-    return status;
+    free(b->items);
+    free(b->folders.rows);
 }
 
-enum status one_command(int argc, char **argv)
+/* For a partner the folder is looked at before the work and after it. */
+static enum status do_all(struct batch *b)
 {
-    const char *words[2];
-    struct drawing how = {.how = whole_reading};
-    enum status status = words_of(argc, argv, words, &how, NULL);
-    if (status != DONE || out_folder(words[1]) != DONE)
-        return TROUBLE;
-    struct item it = {.one = one_of(words[0], words[1], how)};
-    struct batch none = {0};
-    status = one_before(&it.one, &it.row);
+    bool partner = b->how.how.partner;
+    enum status status = partner ? folders_check(&b->folders, false) : DONE;
+    if (status == DONE)
+        status = list_items(b);
+    if (status == DONE) {
+        take_rows(b);
+        status = run(b);
+    }
+    if (status == DONE)
+        status = summarise(b);
+    return status != TROUBLE && partner && folders_check(&b->folders, true) != DONE ? TROUBLE : status;
+}
+
+static enum status do_one(struct batch *b)
+{
+    struct item it = {.one = one_of(b->folders.in, b->folders.out, b->folders.rows, b->how)};
+    enum status status = one_before(&it.one, &it.row);
     if (status == TROUBLE) {
+        one_forget(&it.one);
         status = one_draw(&it.one);
         if (status != TROUBLE)
             status = one_before(&it.one, &it.row);
     }
     if (status == REFUSED)
-        report(&none, &it);
+        report(b, &it);
     free(it.row);
     one_free(&it.one);
     return status;
+}
+
+static enum status command(int argc, char **argv, struct batch b, enum status (*work)(struct batch *b))
+{
+    enum status status = words_of(argc, argv, &b);
+    if (status == DONE)
+        status = folders_make(&b.folders, b.how.how.partner);
+    if (status == DONE)
+        status = work(&b);
+    batch_free(&b);
+    return status;
+}
+
+enum status batch_command(int argc, char **argv)
+{
+    long processors = sysconf(_SC_NPROCESSORS_ONLN);
+    uint32_t usual = processors > 0 && processors <= MOST_PROCESSES ? (uint32_t)processors : 1;
+    return command(argc, argv, (struct batch){.how = {.how = whole_reading}, .processes = usual}, do_all);
+}
+
+enum status one_command(int argc, char **argv)
+{
+    return command(argc, argv, (struct batch){.how = {.how = whole_reading}}, do_one);
 }

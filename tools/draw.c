@@ -20,6 +20,8 @@ static enum status paint(const struct sheet *s, struct drawn *out)
     size_t len;
     const uint32_t *n = s->numbers;
     uint8_t *rgb = picture_of(s, &out->solved, &len);
+    if (!rgb)
+        return TROUBLE;
     enum status status = png_bytes(rgb, n[SMOOTHER_AT_PICTURE_WIDTH], n[SMOOTHER_AT_PICTURE_HEIGHT], n[SMOOTHER_AT_CHANNELS] == 1, &out->png);
     free(rgb);
     return status;
@@ -46,6 +48,8 @@ enum status draw(const struct bytes *text, struct drawing how, const char *bar_u
     enum status status = REFUSED;
     if (answer == SMOOTHER_OK)
         status = paint(&s, out);
+    else if (answer == NOT_MADE)
+        status = TROUBLE;
     else
         out->why = answer == SMOOTHER_BLOWN ? blown(&out->solved) : refuse(answer, 0);
     sheet_free(&s);

@@ -87,9 +87,9 @@ int main(int argc, char **argv)
     struct request r = {.out = "-", .wishes = usual_wishes};
     struct bytes jpeg = {0}, text = {0};
     char why[400];
-    enum status status = request_of(argc, argv, &r);
+    enum status status = library_fits(); /* first: the weights of the command line are floats */
     if (status == DONE)
-        status = library_fits();
+        status = request_of(argc, argv, &r);
     if (status == DONE)
         status = file_read(r.in, &jpeg);
     if (status == DONE) {

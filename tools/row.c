@@ -10,9 +10,10 @@
 
 const char row_head[] = "sheet\trefusal\tline\twords\tsteps\ttv_0\ttgv_0\ttv_1\ttgv_1\ttv_2\ttgv_2\tclipped_0\tclipped_1\tclipped_2\tseconds\n";
 
-struct one one_of(const char *in, const char *out_dir, struct drawing how)
+struct one one_of(const char *in, const char *out_dir, const char *rows_dir, struct drawing how)
 {
-    return (struct one){.in = strdup(in), .png = name_in(out_dir, in, ".tsv", ".png"), .row = name_in(out_dir, in, ".tsv", ".row"), .how = how};
+    file_input(in);
+    return (struct one){.in = strdup(in), .png = name_in(out_dir, in, ".tsv", ".png"), .row = name_in(rows_dir, in, ".tsv", ".row"), .how = how};
 }
 
 void one_free(struct one *o)
@@ -32,6 +33,18 @@ static struct bytes made_from(const struct one *o)
         add_text(&b, "from\t%s\t%s\t%" PRIu32 "\t%jd\t%jd.%09ld\n", o->how.how.partner ? "partner" : "staff", o->how.start_only ? "start" : "end",
                  o->how.how.limits.iterations, (intmax_t)in.st_size, (intmax_t)in.st_mtim.tv_sec, in.st_mtim.tv_nsec);
     return b;
+}
+
+/* Which picture the row is of: FNV-1a of its bytes, or that there is none. */
+static void add_picture(struct bytes *row, const struct bytes *picture)
+{
+    uint64_t sum = 0xcbf29ce484222325;
+    for (size_t i = 0; i < picture->len; i++)
+        sum = (sum ^ picture->at[i]) * 0x100000001b3;
+    if (picture->len > 0)
+        add_text(row, "picture\t%016" PRIx64 "\n", sum);
+    else
+        add_text(row, "picture\tnone\n");
 }
 
 /* The file's name without its folder, as a field: no tab, line end or double quote. */
@@ -79,19 +92,29 @@ static void add_row(struct bytes *row, const struct one *o, const struct drawn *
     add_text(row, "\t%.3f\n", took);
 }
 
+/* The sheet's picture, or none where it is refused. */
+static enum status save_picture(const struct one *o, const struct bytes *text, struct drawn *d)
+{
+    enum status status = draw(text, o->how, NULL, d);
+    if (status == DONE)
+        return file_save(o->png, d->png.at, d->png.len);
+    if (status == REFUSED)
+        file_remove(o->png);
+    return status;
+}
+
 enum status one_draw(const struct one *o)
 {
     double begun = seconds();
     struct bytes row = made_from(o), text = {0};
     struct drawn d = {0};
     enum status status = file_read(o->in, &text);
+    if (file_output(o->png) != DONE || file_output(o->row) != DONE)
+        status = TROUBLE;
     if (status == DONE)
-        status = draw(&text, o->how, NULL, &d);
-    if (status == DONE)
-        status = file_save(o->png, d.png.at, d.png.len);
-    else if (status == REFUSED)
-        file_remove(o->png);
+        status = save_picture(o, &text, &d);
     if (status != TROUBLE) {
+        add_picture(&row, &d.png);
         add_row(&row, o, &d, seconds() - begun);
         if (file_save(o->row, row.at, row.len) != DONE)
             status = TROUBLE;
@@ -102,17 +125,36 @@ enum status one_draw(const struct one *o)
     return status;
 }
 
+/* The row's file, and the lines that it begins with where it is of this sheet, these settings and the picture that is there. */
+static bool read_row(const struct one *o, struct bytes *row, struct bytes *due)
+{
+    struct bytes picture = {0};
+    *due = made_from(o);
+    bool read = due->len > 0 && access(o->row, R_OK) == 0 && file_read_own(o->row, row) == DONE &&
+                (access(o->png, F_OK) != 0 || file_read_own(o->png, &picture) == DONE);
+    add_picture(due, &picture);
+    drop(&picture);
+    return read;
+}
+
 enum status one_before(const struct one *o, char **line)
 {
-    struct bytes row = {0}, from = made_from(o);
+    struct bytes row = {0}, due;
     enum status status = TROUBLE;
-    if (from.len > 0 && access(o->row, R_OK) == 0 && file_read(o->row, &row) == DONE && row.len > from.len && memcmp(row.at, from.at, from.len) == 0) {
-        const char *at = (const char *)row.at + from.len, *tab = strchr(at, '\t');
-        status = tab && tab[1] != '0' ? REFUSED : access(o->png, R_OK) == 0 ? DONE : TROUBLE;
-        if (status != TROUBLE)
+    if (read_row(o, &row, &due) && !file_unfinished(o->png) && row.len > due.len && memcmp(row.at, due.at, due.len) == 0) {
+        const char *at = (const char *)row.at + due.len, *tab = strchr(at, '\t');
+        if (tab) {
+            status = tab[1] == '0' ? DONE : REFUSED;
             *line = strdup(at);
+        }
     }
     drop(&row);
-    drop(&from);
+    drop(&due);
     return status;
+}
+
+void one_forget(const struct one *o)
+{
+    if (o->how.how.partner && file_output(o->png) == DONE)
+        unlink(o->png);
 }

@@ -13,7 +13,8 @@ enum status {
 /* The program's name, for the front of each message. */
 extern const char *program;
 
-/* One line on standard error. */
+/* One line on standard error. Names and words of a file stand in it as they are but for what a terminal would obey: a control character, a byte that is no UTF-8 and
+ * the like is a backslash and three octal digits, a backslash two, as printf of a shell takes them. */
 void say(const char *format, ...) __attribute__((format(printf, 1, 2)));
 
 /* The same, and TROUBLE. */

@@ -3,6 +3,7 @@
 #include "features.h"
 #include "words.h"
 
+#include <fenv.h>
 #include <inttypes.h>
 #include <stdio.h>
 #include <stdlib.h>
@@ -14,8 +15,16 @@ const struct reading whole_reading = {{SMOOTHER_MOST_SIDE, SMOOTHER_MOST_ITERATI
 enum status library_fits(void)
 {
     if (smoother_run_bytes() == sizeof(struct smoother_run) && smoother_sheet_numbers() == SMOOTHER_NUMBERS)
-        return DONE;
+        return processor_fits();
     return trouble("libsmoother.a is another than include/smoother.h: build both anew (scripts/staticlib smoother, make -C tools)");
+}
+
+enum status processor_fits(void)
+{
+    if (smoother_rounds_to_nearest() && fegetround() == FE_TONEAREST)
+        return DONE;
+    return trouble("the processor is set to round otherwise than to the nearest, or to drop subnormals (MXCSR %#x, x87 rounding %#x): nothing is computed", _mm_getcsr(),
+                   (unsigned)fegetround());
 }
 
 struct refusal refuse(uint32_t number, size_t line)

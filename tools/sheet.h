@@ -46,7 +46,11 @@ enum status sheet_load(const char *name, struct reading how, struct bytes *text,
 size_t levels_of(const struct sheet *s, uint32_t c);
 size_t levels_before(const struct sheet *s, uint32_t c);
 
-/* DONE where the library is the header's. */
+/* DONE where the library is the header's and the processor fits. */
 enum status library_fits(void);
+
+/* DONE where the processor rounds to the nearest and keeps subnormals, else it is said: for the library, and for the C library, which turns text into floats and back by the
+ * rounding of the x87 control word. */
+enum status processor_fits(void);
 
 #endif

@@ -42,6 +42,15 @@ static enum status request_of(int argc, char **argv, struct request *r)
     return r->out ? DONE : trouble("two files are needed, IN.tsv and OUT.png (--help)");
 }
 
+/* Both outputs are other files than the input and than one another. */
+static enum status check_outputs(const struct request *r)
+{
+    file_input(r->in);
+    if (file_output(r->out) != DONE || (r->totals && file_output(r->totals) != DONE))
+        return TROUBLE;
+    return r->totals && file_same(r->out, r->totals) ? trouble("%s: can't be written: --totals names it too", r->out) : DONE;
+}
+
 static enum status save_all(const struct request *r, const struct drawn *d)
 {
     enum status status = DONE;
@@ -66,6 +75,8 @@ int main(int argc, char **argv)
     enum status status = request_of(argc, argv, &r);
     if (status == DONE)
         status = library_fits();
+    if (status == DONE)
+        status = check_outputs(&r);
     if (status == DONE)
         status = file_read(r.in, &text);
     if (status == DONE) {

@@ -8,9 +8,10 @@
 
 static const char usage[] =
     "usage: sheet COMMAND ..\n"
-    "  sheet batch IN_DIR OUT_DIR [-j N] [--start] [--page N] [--partner]\n"
-    "                                  every *.tsv of a folder to a picture, N processes; started again it does what is missing; OUT_DIR/summary.tsv\n"
-    "  sheet one IN.tsv OUT_DIR [--start] [--page N] [--partner]\n"
+    "  sheet batch IN_DIR OUT_DIR [-j N] [--rows DIR] [--start] [--page N] [--partner]\n"
+    "                                  every *.tsv of a folder to a picture, N processes; started again it does what is missing; DIR/summary.tsv,\n"
+    "                                  DIR being OUT_DIR.rows where none is named; with --partner OUT_DIR can be sent as it is, DIR can't\n"
+    "  sheet one IN.tsv OUT_DIR [--rows DIR] [--start] [--page N] [--partner]\n"
     "                                  one sheet as the batch does it, for GNU parallel or a Slurm array\n"
     "  sheet archive IN.tsv OUT.tape   the levels as the archive tapes store them\n"
     "  sheet archive --restore IN.tape LIKE.tsv OUT.tsv\n"

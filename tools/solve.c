@@ -14,6 +14,9 @@ struct lent {
     float *plane, *prior, *gradient, *across, *down, *saved;
 };
 
+/* A call that computes: the processor is looked at before each, since any code between two calls may set it otherwise. */
+#define COMPUTED(call) (processor_fits() == DONE ? (call) : NOT_MADE)
+
 static float value(uint32_t bits)
 {
     float x;
@@ -76,8 +79,8 @@ static struct lent lent_to(const struct sheet *s, uint32_t r, float *six)
 static uint32_t start(struct lent *l)
 {
     size_t k = l->values;
-    return smoother_start(&l->run, l->lows, l->levels, l->highs, l->levels, l->tables, l->quantisers, l->plane, k, l->prior, k, l->gradient, k, l->across, k,
-                          l->down, k, l->saved, k);
+    return COMPUTED(smoother_start(&l->run, l->lows, l->levels, l->highs, l->levels, l->tables, l->quantisers, l->plane, k, l->prior, k, l->gradient, k,
+                                   l->across, k, l->down, k, l->saved, k));
 }
 
 /* The first three jobs of a step. */
@@ -86,11 +89,11 @@ static uint32_t to_blend(struct lent *l, double *totals)
     size_t k = l->values;
     uint32_t answer = SMOOTHER_OK;
     for (uint32_t c = 0; c < l->run.count && !answer; c++) {
-        answer = smoother_push(&l->run, c, l->plane, k, l->prior, k);
+        answer = COMPUTED(smoother_push(&l->run, c, l->plane, k, l->prior, k));
         if (!answer)
-            answer = smoother_data(&l->run, c, l->lows, l->levels, l->highs, l->levels, l->tables, l->quantisers, l->gradient, k, l->saved, k);
+            answer = COMPUTED(smoother_data(&l->run, c, l->lows, l->levels, l->highs, l->levels, l->tables, l->quantisers, l->gradient, k, l->saved, k));
     }
-    return answer ? answer : smoother_blend(&l->run, l->plane, k, l->gradient, k, l->across, k, l->down, k, totals, 2);
+    return answer ? answer : COMPUTED(smoother_blend(&l->run, l->plane, k, l->gradient, k, l->across, k, l->down, k, totals, 2));
 }
 
 /* The last two jobs of a step: 10 where a channel blew, which is *blown. */
@@ -99,10 +102,10 @@ static uint32_t to_project(struct lent *l, uint32_t *blown)
     size_t k = l->values;
     uint32_t answer = SMOOTHER_OK;
     for (uint32_t c = 0; c < l->run.count && !answer; c++) {
-        answer = smoother_move(&l->run, c, l->plane, k, l->gradient, k);
+        answer = COMPUTED(smoother_move(&l->run, c, l->plane, k, l->gradient, k));
         if (!answer)
-            answer = smoother_project(&l->run, c, l->lows, l->levels, l->highs, l->levels, l->tables, l->quantisers, l->plane, k, l->across, k, l->down, k,
-                                      l->saved, k);
+            answer = COMPUTED(smoother_project(&l->run, c, l->lows, l->levels, l->highs, l->levels, l->tables, l->quantisers, l->plane, k, l->across, k,
+                                               l->down, k, l->saved, k));
         if (answer == SMOOTHER_NOW_BLOWN) {
             *blown = c;
             answer = SMOOTHER_BLOWN;
@@ -169,11 +172,12 @@ uint8_t *picture_of(const struct sheet *s, const struct solved *solved, size_t *
     const uint32_t *n = s->numbers;
     *len = (size_t)3 * n[SMOOTHER_AT_PICTURE_WIDTH] * n[SMOOTHER_AT_PICTURE_HEIGHT];
     uint8_t *rgb = space(*len, 1);
-    uint32_t answer = smoother_finish(n[SMOOTHER_AT_ROUNDING], n[SMOOTHER_AT_W], n[SMOOTHER_AT_H], n[SMOOTHER_AT_PICTURE_WIDTH],
-                                      n[SMOOTHER_AT_PICTURE_HEIGHT], n[SMOOTHER_AT_CHANNELS], solved->plane, solved->values, rgb, *len);
-    if (answer != SMOOTHER_OK) { /* no sheet that was read is refused */
+    uint32_t answer = COMPUTED(smoother_finish(n[SMOOTHER_AT_ROUNDING], n[SMOOTHER_AT_W], n[SMOOTHER_AT_H], n[SMOOTHER_AT_PICTURE_WIDTH],
+                                               n[SMOOTHER_AT_PICTURE_HEIGHT], n[SMOOTHER_AT_CHANNELS], solved->plane, solved->values, rgb, *len));
+    if (answer == SMOOTHER_OK)
+        return rgb;
+    if (answer != NOT_MADE) /* no sheet that was read is refused */
         say("the library refuses to draw: %u", answer);
-        exit(TROUBLE);
-    }
-    return rgb;
+    free(rgb);
+    return NULL;
 }

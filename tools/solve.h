@@ -19,7 +19,10 @@ struct solved {
 uint32_t runs_of(const struct sheet *s);
 uint32_t steps_of(const struct sheet *s, uint32_t r);
 
-/* Makes all steps, or with `start_only` none. 0; 10 where a channel blew; another number of the table only where the library is another than the header's.
+/* No answer of the library: a call was not made, since the processor does not fit it, which is said. */
+enum { NOT_MADE = 256 };
+
+/* Makes all steps, or with `start_only` none. 0; 10 where a channel blew; NOT_MADE; another number of the table only where the library is another than the header's.
  * *out is to be freed by solved_free in any case. `bar` may be null. */
 uint32_t solve_sheet(const struct sheet *s, bool start_only, struct bar *bar, struct solved *out);
 void solved_free(struct solved *s);
@@ -27,7 +30,7 @@ void solved_free(struct solved *s);
 /* Both totals of step k, from 0, of run r. */
 const double *totals_at(const struct solved *s, uint32_t r, uint32_t k);
 
-/* The picture's bytes: 3 x picture width x picture height. */
+/* The picture's bytes: 3 x picture width x picture height, to be freed. Null where the call was not made or is refused, which is said. */
 uint8_t *picture_of(const struct sheet *s, const struct solved *solved, size_t *len);
 
 #endif

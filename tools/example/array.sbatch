@@ -5,7 +5,7 @@
 # A folder of sheets as a Slurm array: each task does every n-th sheet, n being the number of tasks.
 #
 #     sbatch tools/example/array.sbatch SURVEY PICTURES
-#     tools/bin/sheet batch SURVEY PICTURES       # when the array has ended: does what is left, if anything, and writes PICTURES/summary.tsv
+#     tools/bin/sheet batch SURVEY PICTURES       # when the array has ended: does what is left, if anything, and writes PICTURES.rows/summary.tsv
 sheet=${SHEET:-tools/bin/sheet}
 n=0
 for file in "$1"/*.tsv; do

@@ -25,6 +25,8 @@ static void print_picture(const struct sheet *s, const struct solved *d)
 {
     size_t len;
     uint8_t *rgb = picture_of(s, d, &len);
+    if (!rgb)
+        exit(TROUBLE);
     uint32_t width = s->numbers[SMOOTHER_AT_PICTURE_WIDTH], height = s->numbers[SMOOTHER_AT_PICTURE_HEIGHT];
     printf("I\t%u\t%u\n", width, height);
     for (uint32_t y = 0; y < height; y++) {

@@ -33,7 +33,7 @@ static void child(const char *name, uint8_t *at)
 static bool whole(const char *name, uint8_t *due)
 {
     struct bytes b = {0};
-    bool good = file_read(name, &b) == DONE && b.len == SIZE;
+    bool good = file_read_own(name, &b) == DONE && b.len == SIZE;
     if (good) {
         fill(due, b.at[0]);
         good = (b.at[0] == 111 || b.at[0] == 7) && memcmp(b.at, due, SIZE) == 0;

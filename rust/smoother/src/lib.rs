@@ -1,5 +1,5 @@
 //! The proved smoother of spectrogram sheets, behind safe functions. Lengths, channel numbers, positions and the record are checked by the library
-//! itself: a call that can't be made is refused, and changes nothing.
+//! itself, how the processor rounds by this crate: a call that can't be made is refused, and changes nothing.
 //!
 //! ```
 //! use smoother::Limits;
@@ -18,6 +18,7 @@ macro_rules! exports {
 
 #[allow(dead_code)] // smoother_sheet_numbers, which only a test calls
 mod ffi;
+mod mode;
 mod refusal;
 mod run;
 mod segments;
@@ -25,6 +26,7 @@ mod sheet;
 mod stitch;
 mod tapes;
 
+pub use mode::rounds_to_nearest;
 pub use refusal::{Error, Fault, Refusal};
 pub use run::{
     Answers, Buffers, Channel, Job, Outcome, Projected, Reorder, Run, Totals, blend, call, data, move_plane, project,

@@ -119,6 +119,8 @@ impl std::error::Error for Refusal {}
 #[derive(Clone, Copy, Debug, PartialEq, Eq, Hash)]
 pub enum Error {
     Refused(Refusal),
+    /// This thread's processor is set otherwise than the library needs it ([`rounds_to_nearest`](crate::rounds_to_nearest)): the call was not made, and nothing has changed.
+    Mode,
     /// A number that the call has no meaning for: the library is another than the one that this crate was written for. Nothing is known of what was lent.
     Unknown(u32),
 }
@@ -133,6 +135,9 @@ impl fmt::Display for Error {
     fn fmt(&self, f: &mut fmt::Formatter) -> fmt::Result {
         match self {
             Self::Refused(refusal) => refusal.fmt(f),
+            Self::Mode => f.write_str(
+                "the processor is set to round otherwise than to the nearest, or to drop subnormals: nothing is computed",
+            ),
             Self::Unknown(number) => write!(f, "{number}: no answer of this call"),
         }
     }

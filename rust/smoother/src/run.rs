@@ -2,6 +2,7 @@
 use crate::{
     Error, Levels,
     ffi::{lend, *},
+    mode::nearest,
     refusal::done,
 };
 
@@ -154,16 +155,19 @@ fn lent(run: &mut Run) -> &mut Run {
 
 /// A fresh run: plane and prior are the start, saved is half sum × quantiser, other values 0; positions 0, no marks, nothing clipped. Takes any legal record.
 pub fn start(run: &mut Run, levels: Levels, tables: &[u16], b: &mut Buffers) -> Result<Outcome, Error> {
+    nearest()?;
     plain(unsafe { lend!(smoother_start(lent(run), read levels.lows, read levels.highs, read tables, six b)) })
 }
 
 /// Push of channel `c`: writes its part of plane and prior.
 pub fn push(run: &mut Run, c: u32, b: &mut Buffers) -> Result<Outcome, Error> {
+    nearest()?;
     plain(unsafe { lend!(smoother_push(lent(run), c, write b.plane, write b.prior)) })
 }
 
 /// Data of channel `c`: writes its part of the gradient, reads saved.
 pub fn data(run: &mut Run, c: u32, levels: Levels, tables: &[u16], b: &mut Buffers) -> Result<Outcome, Error> {
+    nearest()?;
     plain(unsafe {
         lend!(smoother_data(lent(run), c, read levels.lows, read levels.highs, read tables, write b.gradient, read b.saved))
     })
@@ -171,6 +175,7 @@ pub fn data(run: &mut Run, c: u32, levels: Levels, tables: &[u16], b: &mut Buffe
 
 /// Blend of all channels: writes gradient, across and down, reads the plane.
 pub fn blend(run: &mut Run, b: &mut Buffers) -> Result<Totals, Error> {
+    nearest()?;
     let mut both = [0.0; 2];
     plain(unsafe {
         lend!(smoother_blend(lent(run), read b.plane, write b.gradient, write b.across, write b.down, write both))
@@ -180,11 +185,13 @@ pub fn blend(run: &mut Run, b: &mut Buffers) -> Result<Totals, Error> {
 
 /// Move of channel `c`: writes its part of the plane, reads the gradient.
 pub fn move_plane(run: &mut Run, c: u32, b: &mut Buffers) -> Result<Outcome, Error> {
+    nearest()?;
     plain(unsafe { lend!(smoother_move(lent(run), c, write b.plane, read b.gradient)) })
 }
 
 /// Project of channel `c`: writes its part of plane, across, down and saved.
 pub fn project(run: &mut Run, c: u32, levels: Levels, tables: &[u16], b: &mut Buffers) -> Result<Projected, Error> {
+    nearest()?;
     let outcome = told(unsafe {
         lend!(smoother_project(
             lent(run), c, read levels.lows, read levels.highs, read tables, write b.plane, write b.across, write b.down, write b.saved
@@ -240,6 +247,7 @@ pub fn serve_numbers(
     tables: &[u16],
     b: &mut Buffers,
 ) -> Result<(), Error> {
+    nearest()?;
     done(unsafe {
         lend!(smoother_serve(lent(run), read jobs, read channels, write answers, read levels.lows, read levels.highs, read tables, six b))
     })

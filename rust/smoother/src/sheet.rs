@@ -2,6 +2,7 @@
 use crate::{
     Buffers, Channel, Error, Fault, Outcome, Reorder, Run, Totals,
     ffi::{lend, *},
+    mode::nearest,
     refusal::done,
     run::told,
 };
@@ -312,6 +313,7 @@ pub fn solve_into(
     clipped: &mut [u32],
     totals: &mut [f64],
 ) -> Result<Outcome, Error> {
+    nearest()?;
     // SAFETY: each pointer and length are of one slice, and the slices do not overlap.
     told(unsafe {
         lend!(smoother_solve(
@@ -328,6 +330,7 @@ pub fn finish_into(
     planes: &[f32],
     rgb: &mut [u8],
 ) -> Result<(), Error> {
+    nearest()?;
     let [w, h, width, height] = sides;
     // SAFETY: each pointer and length are of one slice, and the slices do not overlap.
     done(unsafe { lend!(smoother_finish(rounding as u32, w, h, width, height, channels, read planes, write rgb)) })

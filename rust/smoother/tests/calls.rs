@@ -118,7 +118,8 @@ fn start_reordered_repeatedly_and_once() {
             let header = tabs(&format!("S 16 8 16 8 1 {mode} 0 0 0 w0 w0 w0 w0 w0 w0"));
             let sheet = sheet_of(&(header + line + &channel_lines(16, 8, 1, 1, |_| 8, level) + "E\n"));
             assert_eq!((sheet.reorder, sheet.numbers()[28]), (reorder, reorder as u32));
-            let due = |i: usize| if i / 16 % step == 0 && i % 16 < 8 { 1.0 - 2.0_f32.powi(-24) } else { 0.0 };
+            let due =
+                |i: usize| if (i / 16).is_multiple_of(step) && i % 16 < 8 { 1.0 - 2.0_f32.powi(-24) } else { 0.0 };
             let due: Vec<f32> = (0..128).map(due).collect();
             assert_eq!(started(&sheet).1.plane, due);
             assert_eq!(sheet.solve().expect("legal"), Some(Solved { planes: due, totals: vec![], clipped: vec![0] }));
@@ -168,7 +169,8 @@ fn equal_pairs() {
     assert_eq!(plain.solve(), ranges.solve());
     // with wider ranges the last project clips fewer coefficients
     let mut wide = ranges.clone();
-    (wide.lows.iter_mut().for_each(|low| *low -= 9), wide.highs.iter_mut().for_each(|high| *high += 9));
+    wide.lows.iter_mut().for_each(|low| *low -= 9);
+    wide.highs.iter_mut().for_each(|high| *high += 9);
     let clipped = |sheet: &Sheet| sheet.solve().expect("legal").expect("planes").clipped.iter().sum::<u32>();
     assert!(clipped(&wide) < clipped(&plain));
 }
