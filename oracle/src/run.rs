@@ -101,6 +101,16 @@ pub fn push(aux: &mut Aux, count: usize, factor: f32) {
     std::mem::swap(&mut aux.fdata, &mut aux.fista);
 }
 
+/// Statements of `solver_step` on one channel.
+pub fn descend(aux: &mut Aux, count: usize, step_size: f32) {
+    let norm = aux.obj_gradient.iter().fold(0.0, |acc, &x| mul_add!(x, x, acc)).sqrt();
+    if norm != 0.0 {
+        for i in 0..count {
+            aux.fdata[i] = step_size.mul_add(-(aux.obj_gradient[i] / norm), aux.fdata[i]);
+        }
+    }
+}
+
 /// What both published gradients return of all channels.
 fn published_blend(w: u32, h: u32, auxs: &mut [Aux], second_order_weight: f32) -> [f64; 2] {
     let nchannel = auxs.len();
@@ -280,19 +290,8 @@ impl Run {
     }
 
     pub fn move_plane(&mut self, c: usize, step_size: f32) {
-        self.turn(c, |run| run.descend(c, step_size));
-    }
-
-    /// Statements of `solver_step`.
-    fn descend(&mut self, c: usize, step_size: f32) {
         let count = self.count();
-        let aux = &mut self.auxs[c];
-        let norm = aux.obj_gradient.iter().fold(0.0, |acc, &x| mul_add!(x, x, acc)).sqrt();
-        if norm != 0.0 {
-            for i in 0..count {
-                aux.fdata[i] = step_size.mul_add(-(aux.obj_gradient[i] / norm), aux.fdata[i]);
-            }
-        }
+        self.turn(c, |run| descend(&mut run.auxs[c], count, step_size));
     }
 
     /// A channel's coefficients as the projection finds them: those that the published one keeps where each interval has no end, the quantisers being infinite.
