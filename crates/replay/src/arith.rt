@@ -1,25 +1,27 @@
 // The f32 operations, and the sums of f64 that the totals are made of: `fma` (the method `mul_add`), `mac` (the macro `mul_add!`), `clamp`, `sqrt`, `pow` (`powi(2)`), `mid` (`f32::midpoint`).
 use float::bits::{from_bits, to_bits};
 use float::double;
-use words::{number_at, word};
+use words::number_at;
 
 // Operand k of the line.
 fn operand(line: &[u8], k: usize) -> f32 {
     from_bits(number_at(line, k))
 }
 
-// Whether the line has the result that the proved operation gives.
+// Whether the line has the result that the proved operation gives. Its two first letters tell the
+// operation, and only the operands that it takes are read.
 pub fn same(line: &[u8]) -> bool {
     let a = operand(line, 1);
-    let b = operand(line, 2);
-    let c = operand(line, 3);
-    let (result, k) = match word(line, 0) {
-        b"sqrt" => (float::sqrt(a), 2),
-        b"pow" => (float::powi2(a), 2),
-        b"mid" => (float::midpoint(a, b), 3),
-        b"fma" => (float::mul_add(a, b, c), 4),
-        b"clamp" => (float::clamp(a, b, c), 4),
-        _ => (float::mul_add_rounded(a, b, c), 4),
+    let (result, k) = match line {
+        [b's', ..] => (float::sqrt(a), 2),
+        [b'p', ..] => (float::powi2(a), 2),
+        [_, b'i', ..] => (float::midpoint(a, operand(line, 2)), 3),
+        [b'f', ..] => (float::mul_add(a, operand(line, 2), operand(line, 3)), 4),
+        [b'c', ..] => (float::clamp(a, operand(line, 2), operand(line, 3)), 4),
+        _ => (
+            float::mul_add_rounded(a, operand(line, 2), operand(line, 3)),
+            4,
+        ),
     };
     to_bits(result) == number_at(line, k)
 }

@@ -7,16 +7,21 @@ mod sheets;
 mod transforms;
 
 use std::io;
-use words::{replay, word};
+use utils::blocks::Order;
+use utils::dct::Transform;
+use words::replay;
 
-// Whether the line has the answer that the proved code gives. The first word tells the operation.
+// Whether the line has the answer that the proved code gives. Its two first letters tell the
+// operation: a word that is no operation's name is read as one that begins as it does.
 fn same_line(line: &[u8]) -> bool {
-    match word(line, 0) {
-        b"idct" | b"dct" => transforms::same_transform(line),
-        b"from" | b"to" => transforms::same_order(line),
-        b"up" => transforms::same_up(line),
-        b"read" => sheets::same_read(line),
-        b"wide" => arith::same_wide(line),
+    match line {
+        [b'i', ..] => transforms::same_transform(line, Transform::Inverse),
+        [b'd', ..] => transforms::same_transform(line, Transform::Forward),
+        [b't', ..] => transforms::same_order(line, Order::Blocks),
+        [b'u', ..] => transforms::same_up(line),
+        [b'r', ..] => sheets::same_read(line),
+        [b'w', ..] => arith::same_wide(line),
+        [_, b'r', ..] => transforms::same_order(line, Order::Raster),
         _ => arith::same(line),
     }
 }

@@ -1,18 +1,17 @@
 // The reading of a sheet text: `read`, the limits of sides and of iterations, the reader's number, the refusal's number and line, a digest of what was read (the record's
 // numbers, lows, highs, tables), and the text's bytes.
 use by_numbers::{NUMBERS, reading};
-use contents::{Limits, Reader};
+use contents::Limits;
 use float::bits::to_bits;
-use refusal::Refusal;
 use sheet::Refused;
 use words::{bytes, number_at, with_all, word};
 
-// What a line asks: the reading of a text within limits, for a reader; nobody where its number is neither 0 nor 1.
+// What a line asks: the reading of a text within limits, for the reader of a number.
 #[derive(Clone, Copy)]
 struct Asked<'a> {
     text: &'a [u8],
     limits: Limits,
-    reader: Option<Reader>,
+    reader: u32,
 }
 
 // A level counts by the bits of its f32.
@@ -28,17 +27,11 @@ impl Asked<'_> {
         highs: &mut [i16],
         tables: &mut [u16],
     ) -> Result<u32, Refused> {
-        let Some(reader) = self.reader else {
-            return Err(Refused {
-                refusal: Refusal::Size,
-                line: 0,
-            });
-        };
         let mut header = [0u32; NUMBERS];
         reading::read(
             self.text,
             self.limits,
-            reader,
+            self.reader,
             lows,
             highs,
             tables,
@@ -53,7 +46,7 @@ impl Asked<'_> {
     // What reading gives for a text that measuring refuses: the same refusal, unless there is no such reader; None where it gives another.
     fn read_refused(&self, measured: Refused) -> Option<Result<u32, Refused>> {
         let read = self.read(&mut [0; 1], &mut [0; 1], &mut [0; 1]);
-        (self.reader.is_none() || read == Err(measured)).then_some(read)
+        (1 < self.reader || read == Err(measured)).then_some(read)
     }
 
     // Reads into the front of the buffers; None where there is no room.
@@ -74,11 +67,6 @@ impl Asked<'_> {
     }
 }
 
-// The reader of this number.
-fn reader_of(n: u32) -> Option<Reader> {
-    (n <= 1).then(|| Reader::from(n))
-}
-
 // Whether the line has what the proved call reads, or its refusal.
 pub fn same_read(line: &[u8]) -> bool {
     let mut text = [0u8; 4096];
@@ -89,7 +77,7 @@ pub fn same_read(line: &[u8]) -> bool {
             side: number_at(line, 1),
             iterations: number_at(line, 2),
         },
-        reader: reader_of(number_at(line, 3)),
+        reader: number_at(line, 3),
     };
     let (number, at, digest) = match asked.read_measured() {
         Some(Ok(digest)) => (0, 0, digest),

@@ -5,7 +5,7 @@ ghost use Rattle.std.specs.Prelude.{◌*◌, ◌<◌, ◌≤◌};
 use float::bits::{from_bits, to_bits};
 use utils::blocks::{Order, move_blocks};
 use utils::dct::{Transform, transform8x8};
-use words::{from_word, number_at, read, same_values, word};
+use words::{from_word, number_at, read, same_values};
 
 // Whether the words from word k on are the bits of the values.
 // Kept: the values are compared with words of the line, so that no derived equality does it.
@@ -13,15 +13,12 @@ fn same_bits(line: &[u8], k: usize, xs: &[f32]) -> bool {
     same_values(from_word(line, k), xs, |x, n| to_bits(x) == n)
 }
 
-// Whether the line has the 64 values that its transform gives.
+// Whether the line has the 64 values that this transform gives.
 // Kept: as `same_bits`, which it ends with.
-pub fn same_transform(line: &[u8]) -> bool {
+pub fn same_transform(line: &[u8], transform: Transform) -> bool {
     let mut a = [0.0f32; 64];
     read(from_word(line, 1), &mut a, from_bits);
-    match word(line, 0) {
-        b"idct" => transform8x8(&mut a, Transform::Inverse),
-        _ => transform8x8(&mut a, Transform::Forward),
-    }
+    transform8x8(&mut a, transform);
     same_bits(line, 65, &a)
 }
 
@@ -60,18 +57,15 @@ fn area(w: usize, h: usize) -> usize
     w * 8 * (h * 8)
 }
 
-// Whether the line has the values that its reordering gives.
+// Whether the line has the values that the reordering to this order gives.
 // Kept: as `same_bits`, which it ends with.
-pub fn same_order(line: &[u8]) -> bool {
+pub fn same_order(line: &[u8], order: Order) -> bool {
     let bw = blocks(line, 1);
     let bh = blocks(line, 2);
     let n = area(bw, bh);
     let image = count_up();
     let mut out = [0.0f32; 576];
-    match word(line, 0) {
-        b"from" => move_blocks(&image, &mut out, bw * 8, bh * 8, bw, bh, Order::Raster),
-        _ => move_blocks(&image, &mut out, bw * 8, bh * 8, bw, bh, Order::Blocks),
-    }
+    move_blocks(&image, &mut out, bw * 8, bh * 8, bw, bh, order);
     same_bits(line, 3, &out[..n])
 }
 

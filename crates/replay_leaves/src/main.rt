@@ -7,17 +7,17 @@ mod stitches;
 mod tapes;
 
 use std::io;
-use words::{replay, word};
+use words::replay;
 
-// Whether the line has what the proved code gives. The first word tells the call.
+// Whether the line has what the proved code gives. Its first letter tells the crate, and at the
+// tapes its third the call: a word that is no call's name is read as one of those too.
 fn same_line(line: &[u8]) -> bool {
-    match word(line, 0) {
-        b"import" => segments::same_import(line),
-        b"export" => segments::same_export(line),
-        b"stitch" => stitches::same_line(line),
-        b"rearrange" => tapes::same_call(line, archive::rearrange),
-        b"restore" => tapes::same_call(line, archive::restore),
-        _ => false,
+    match line {
+        [b'i', ..] => segments::same_import(line),
+        [b'e', ..] => segments::same_export(line),
+        [b's', ..] => stitches::same_line(line),
+        [_, _, b'a', ..] => tapes::same_call(line, archive::rearrange),
+        _ => tapes::same_call(line, archive::restore),
     }
 }
 

@@ -41,7 +41,7 @@ fn print_next<R: Read, W: Write>(
     Ok(true)
 }
 
-// All texts of standard input. The loop ends where there is no more.
+// The first 1,000,000 texts of standard input. The loop ends where there is no more.
 fn print_all<R: Read, W: Write>(
     input: &mut R,
     to: &mut W,
@@ -51,7 +51,7 @@ fn print_all<R: Read, W: Write>(
     requires { (65536 ≤ length space.old) × (most_printed ≤ length out.old) }
 {
     // Kept: each loop is proved to end, and nothing says that an input does: `while print_next(..)? {}` has no measure.
-    for _ in 0..u64::MAX {
+    for _ in 0..1_000_000 {
         if !print_next(input, to, space, out)? {
             return Ok(());
         }

@@ -1,5 +1,4 @@
 -- `replay_pictures::print_next` meets its contract: there is room for every text.
-use Rattle.std.proofs.Common.{rules}
 use Rattle.program.proofs.Printing.{has_room}
 use Rattle.replay_pictures.proofs.print_next.Goals as goal
 
