@@ -1,5 +1,5 @@
 -- A record whose nine numbers are mild is solved without 255.
-use mathlib.Core.Path.{◌≡◌, refl, sym, ap, ◌∙◌, subst}
+use mathlib.Core.Path.{◌≡◌, refl, sym, ap, ◌∙◌}
 use mathlib.Core.Logic.{◌≢◌}
 use mathlib.Core.Bool.{Bool, true, false, cond, not, ◌&&◌}
 use mathlib.Core.List.{List, [], ◌∷◌}
@@ -13,15 +13,12 @@ use Rattle.std.specs.Prelude.{slice_index}
 use Rattle.start.specs.Coef.{Levels}
 use Rattle.contents.specs.declared.Sheet.{Sheet}
 use Rattle.contents.specs.Weights.{value_of}
-use Rattle.contents.specs.Hold.{iterations_at}
-use Rattle.contents.specs.Sheets.{smoothing_at, data_at}
 use Rattle.calls.specs.Run.{Given, Place}
 use Rattle.calls.specs.Calls.{Tests, first, test, all, table_ok, level_ok, pair_faults, levels_fault, buffers_long, values_long, lengths, all_six, start_refusal}
 use Rattle.calls.specs.Run as Model
 use Rattle.calls.proofs.Tests.{first_one}
 use Rattle.record.specs.Model.{places_of}
-use Rattle.rounds.specs.Whole as ending
-use Rattle.rounds.specs.Whole.{Ending, Whole, Loan, Ended, Ends}
+use Rattle.rounds.specs.Whole.{Loan, Ended, Ends}
 use Rattle.solve.specs.Solve.{joint, joint_given, all_legal, blend_count, blows, whole_of, number_in, solve_refusal}
 use Rattle.mild.specs.Mild.{most_steps}
 use Rattle.unblown.specs.Sheet.{Light, MildSheet}

@@ -1,7 +1,7 @@
 -- The claim about every list of calls, of any program that makes the exported calls one by one, with the whole answers; and that a mild record's calls answer neither 255 nor 10.
 use mathlib.Core.Path.{◌≡◌, refl, sym, ap, ◌∙◌, subst}
 use mathlib.Core.Logic.{◌≢◌}
-use mathlib.Core.Bool.{Bool, true, false, cond, ◌||◌}
+use mathlib.Core.Bool.{true, false, ◌||◌}
 use mathlib.Core.List.{List, [], ◌∷◌, map}
 use Prim.Native.Nat.{ℕ, zero, suc, ◌<◌}
 use native.Mathlib.Nat.{not-suc-le-zero, le_of_suc-le-suc}
@@ -14,7 +14,7 @@ use Rattle.std.specs.Prelude.{All}
 use Rattle.start.specs.Coef.{Levels}
 use Rattle.start.specs.Buffers.{Buffers}
 use Rattle.calls.specs.Run.{Place, place}
-use Rattle.calls.specs.Jobs.{Job, push, fidelity, move, project, Call, on, blend}
+use Rattle.calls.specs.Jobs.{Job, push, fidelity, move, project, Call, on}
 use Rattle.calls.specs.Calls as Calls
 use Rattle.calls.specs.Calls.{Answer, all, refusal, lengths, lent, settle, accept, call, start, none_yet, plain_answers, plain_places}
 use Rattle.demand.specs.Solver.{jobs}
@@ -22,7 +22,7 @@ use Rattle.demand.proofs.Demand3.{demand3}
 use Rattle.record.specs.declared.Run.{Run}
 use Rattle.record.specs.Model.{places_of, clipped_of, given_of}
 use Rattle.record.proofs.Placed.{places_placed}
-use Rattle.run.specs.Public.{Outcome, state_of, call_of}
+use Rattle.run.specs.Public.{state_of, call_of}
 use Rattle.serve.proofs.Kept.{project_keeps}
 use Rattle.mild.specs.Mild.{calm}
 use Rattle.mild.specs.Checked.{RunNeverBlows}

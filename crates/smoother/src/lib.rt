@@ -14,7 +14,7 @@ ghost use Rattle.contents.specs.Sheets.{lent};
 ghost use Rattle.sheet.specs.Calls.{measuring, reading};
 ghost use Rattle.by_numbers.specs.Sheets.{Measures, ReadsNumbers, with_record, by_reader};
 
-use contents::{Limits, Reader};
+use contents::Limits;
 use record::{Channel, Run};
 use refusal::Refusal;
 use start::coef::Reorder;
@@ -127,13 +127,8 @@ pub extern "C" fn smoother_read(
     ensures { ReadsNumbers (reader_from partner) (by_reader partner (with_record (length header.old) (reading (record { side = side; iterations = iterations }) text.now (lent lows.old highs.old tables.old))))
         (lent lows.old highs.old tables.old) (lent lows.new highs.new tables.new) header.old header.new line.new result }
 {
-    if 1 < partner {
-        *line = 0;
-        return u32::from(Refusal::Size);
-    }
     let limits = Limits { side, iterations };
-    let who = Reader::from(partner);
-    match by_numbers::reading::read(text, limits, who, lows, highs, tables, header) {
+    match by_numbers::reading::read(text, limits, partner, lows, highs, tables, header) {
         Ok(()) => {
             *line = 0;
             0
