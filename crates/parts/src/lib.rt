@@ -5,17 +5,65 @@
 ghost use Rattle.std.specs.Prelude.{◌≡◌, ◌+◌, ◌*◌, ◌<◌, length};
 ghost use Rattle.fold.specs.Fold.{upto};
 ghost use Rattle.fold.specs.Part.{part};
-ghost use Rattle.calls.specs.Run.{place, coefs, levels_before};
+ghost use Rattle.calls.specs.Run.{own, place, coefs, levels_before};
 ghost use Rattle.calls.specs.Buffers.{part_of};
 ghost use Rattle.projection.specs.Blown.{is_blown};
 ghost use Rattle.record.specs.Lent.{levels_in, six_of, SameSix};
 ghost use Rattle.record.specs.Model.{sheet_of, places_of, given_of};
 ghost use Rattle.parts.specs.Parts.{Fed, FedAll, Whole, SixWhole, started_part};
 
-use record::Seen;
 use record::legal::{LegalRun, Turn};
 use record::lent::{Buffers, Given};
+use record::{Run, Seen};
 use start::coef::{Coef, Own};
+
+// The own sides and the factors of the turn's channel.
+// Rules out: those of another channel; a width in the height's place.
+pub fn own_of(turn: Turn) -> Own
+    ensures { result ≡ record {
+      width = (own (sheet_of turn.legal.run) turn.c).width;
+      height = (own (sheet_of turn.legal.run) turn.c).height;
+      horizontal = (own (sheet_of turn.legal.run) turn.c).across;
+      vertical = (own (sheet_of turn.legal.run) turn.c).down;
+    } }
+{
+    let x = turn.channel();
+    Own {
+        width: x.width as usize,
+        height: x.height as usize,
+        horizontal: x.across as usize,
+        vertical: x.down as usize,
+    }
+}
+
+// The data weight of the turn's channel. Rules out: that of another channel; the smoothing weight.
+pub fn weight_of(turn: Turn) -> f32
+    ensures { result ≡ (own (sheet_of turn.legal.run) turn.c).data_weight }
+{
+    turn.channel().weight
+}
+
+// The lows or the highs of the turn's channel, of those of all channels.
+// Rules out: the first channel's for each; one level more or less than the channel has.
+pub fn levels_of(turn: Turn, values: &[i16]) -> &[i16]
+    requires { length values.now ≡ levels_before (sheet_of turn.legal.run) turn.legal.run.count }
+    ensures { result.now ≡ part values.now (levels_before (sheet_of turn.legal.run) turn.c)
+        (levels_before (sheet_of turn.legal.run) turn.c + coefs (sheet_of turn.legal.run) turn.c) }
+{
+    let from = turn.legal.levels_before(turn.c);
+    let to = from + turn.coefs();
+    &values[from..to]
+}
+
+// Channel c's quantisers, of those of all channels of a record.
+// Rules out: the first channel's for each; one quantiser more or less than 64.
+pub fn table_of(run: Run, c: u32, tables: &[u16]) -> &[u16]
+    requires { (c < run.count) × (length tables.now ≡ run.count * 64) }
+    ensures { result.now ≡ part tables.now (c * 64) (c * 64 + 64) }
+{
+    let from = (c as usize) * 64;
+    &tables[from..from + 64]
+}
 
 // What a job of one channel is handed: the channel's turn, and the levels and tables of all channels.
 #[derive(Clone, Copy)]
@@ -41,19 +89,13 @@ impl<'a> Handed<'a> {
           vertical = (own (given_in self.now).sheet self.now.turn.c).down;
         } }
     {
-        let x = self.turn.channel();
-        Own {
-            width: x.width as usize,
-            height: x.height as usize,
-            horizontal: x.across as usize,
-            vertical: x.down as usize,
-        }
+        own_of(self.turn)
     }
 
     pub fn weight(&self) -> f32
         ensures { result ≡ (own (given_in self.now).sheet self.now.turn.c).data_weight }
     {
-        self.turn.channel().weight
+        weight_of(self.turn)
     }
 
     // The channel's lows or highs, of those of all channels.
@@ -62,16 +104,13 @@ impl<'a> Handed<'a> {
         ensures { result.now ≡ part values.now (levels_before (given_in self.now).sheet self.now.turn.c)
             (levels_before (given_in self.now).sheet self.now.turn.c + coefs (given_in self.now).sheet self.now.turn.c) }
     {
-        let from = self.turn.legal.levels_before(self.turn.c);
-        let to = from + self.turn.coefs();
-        &values[from..to]
+        levels_of(self.turn, values)
     }
 
     pub fn table(&self) -> &'a [u16]
         ensures { result.now ≡ part self.now.given.tables.now (self.now.turn.c * 64) (self.now.turn.c * 64 + 64) }
     {
-        let from = (self.turn.c as usize) * 64;
-        &self.given.tables[from..from + 64]
+        table_of(self.turn.legal.run, self.turn.c, self.given.tables)
     }
 
     // What the solver is handed of the channel: its own sides and factors, and its part of the levels and the tables.
