@@ -1,5 +1,6 @@
 // Reading line by line and field by field.
-ghost use Rattle.std.specs.Prelude.{◌≡◌, Some};
+ghost use Rattle.std.specs.Prelude.{◌≡◌, Some, false, replicate};
+ghost use Rattle.progress.specs.Progress.{most_blocks};
 ghost use Rattle.contents.specs.Sheets.{lent};
 ghost use Rattle.sheet.specs.Reading.{allowed};
 ghost use Rattle.sheet.specs.Walk.{Walks, shown};
@@ -50,7 +51,7 @@ fn are_allowed(limits: Limits) -> bool
 }
 
 // Reads a whole text and stops at the first bad field of the first bad line. Levels and quantisers go to the lent buffers as
-// far as there is room, and the marks to a map of all blocks.
+// far as there is room, and the marks to a map of all blocks, which is lent with no block marked.
 // Kept: lows, highs and tables one by one, here and in `read`: a struct of the three `&mut` would need in each contract that each is still the same buffer.
 pub fn walk(
     text: &[u8],
@@ -60,6 +61,7 @@ pub fn walk(
     tables: &mut [u16],
     bits: &mut [bool; 12288],
 ) -> Result<Walked, Refused>
+    requires { bits.old ≡ replicate most_blocks false }
     ensures { Walks limits text.now (lent lows.old highs.old tables.old) (lent lows.new highs.new tables.new) bits.new result }
 {
     if !are_allowed(limits) {
@@ -68,7 +70,6 @@ pub fn walk(
             line: 0,
         });
     }
-    bits.fill(false);
     let mut state = progress::nothing();
     let mut rest = text;
     let mut line: usize = 1;

@@ -1,15 +1,12 @@
 -- Kept: the check finds none of these alone (scripts/answers tries each).
-use mathlib.Core.Path.{◌≡◌, refl, sym, ap, ◌∙◌}
-use Prim.Native.Nat.{ℕ, ◌+◌}
-use lib.ListN.{length, replicate}
-use mathlib.Core.Bool.{false}
+use mathlib.Core.Path.{◌≡◌, refl, sym, ◌∙◌}
+use Prim.Native.Nat.{◌+◌}
 use native.Mathlib.Omega.{arith}
 use lib.Dec.{eqb}
 use borrow.Author.Tests.{eqb-true, eqb-false}
 use Rattle.lines.specs.Lines.{letter_of}
 use Rattle.std.proofs.Common.{rules}
 use Rattle.text.proofs.PieceLaws.{rest_whole}
-use Rattle.progress.specs.Progress.{most_blocks}
 use Rattle.progress.proofs.StateLaws.{due}
 use Rattle.sheet.proofs.WalkLaws.{field_end, field_read, check_begin, check_at, check_in, check_bad, check_step, read_begin, walk_limit, row_size, walk_long, walk_cut, on-line, walk_count, row_count, rules_count, low_place, high_place, table_room, walk_fault, walk_end, walk_after, walk_bad, walk_next}
 use Rattle.sheet.proofs.walk.walk.Goals as goal
@@ -18,10 +15,7 @@ pub returns-then-not-are_allowed : goal.returns-then-not-are_allowed
 returns-then-not-are_allowed c = walk_limit _ _ _ _ (sym c.are_allowed.ensures ∙ c.if-not-are_allowed.true)
 
 pub lines-init : goal.lines-init
-lines-init c =
-    let long : length c.args.bits.now ≡ most_blocks = search rules in
-    read_begin _ _ _ _ _ (sym c.are_allowed.ensures ∙ c.if-not-are_allowed.false) c.nothing-state.ensures
-    (c.fill.ensures.after (λ y h. search rules) ∙ ap (λ (n : ℕ). replicate n false) long)
+lines-init c = read_begin _ _ _ _ _ (sym c.are_allowed.ensures ∙ c.if-not-are_allowed.false) c.nothing-state.ensures c.requires
 
 pub loop-i-init : goal.loop-i-init
 loop-i-init c =
