@@ -10,6 +10,8 @@ use lib.IntN.{ℤ, pos, negsuc}
 use lib.ListN.{length, get_or, take}
 use lib.Seq.{take_all}
 use Rattle.std.proofs.lemmas.List.Folds.{list_all_more}
+use Rattle.std.proofs.Math.Bool.{and-true, and_assoc}
+use Rattle.std.specs.List.{fold}
 use lib.Signed.{le_z}
 use Rattle.answers.specs.Tests.{Tests, first, test, all, level_ok}
 use Rattle.answers.specs.Lists.{listed}
@@ -41,6 +43,12 @@ module _ {A : Type 0} (f : A → Bool) (d : A) where
   pub all_of : (xs : List A) → ((k : ℕ) → k < length xs → f (get_or xs k d) ≡ true) → all f xs ≡ true
   all_of [] h = refl
   all_of (x ∷ xs) h = rw (h zero (suc-le-suc zero-le)) (all_of xs (λ k l. h (suc k) (suc-le-suc l)))
+
+module _ {A : Type 0} (f : A → Bool) where
+  -- all of them, by a fold that looks at every value
+  pub all_fold : (b : Bool) (xs : List A) → fold (λ c x. c && f x) b xs ≡ (b && all f xs)
+  all_fold b [] = sym (and-true b)
+  all_fold b (x ∷ xs) = all_fold (b && f x) xs ∙ and_assoc b (f x) (all f xs)
 
 -- ---- refusals that were not given
 

@@ -28,8 +28,12 @@ pub fn level_ok(d: i32) -> bool
 }
 
 // Every level is within ±2,047. Ruled out: true where the last is 2,048; false for no levels.
+// Kept: no `all`, which stops at the first that is beyond: without a stop eight are looked at at once.
+#[tactic(auto, using(crate::proofs::Tests::all_fold))]
 pub fn levels_ok(levels: &[i16]) -> bool
     ensures { result ≡ all level_ok levels.now }
 {
-    levels.iter().all(|&d| level_ok(i32::from(d)))
+    levels
+        .iter()
+        .fold(true, |ok, &d| ok & level_ok(i32::from(d)))
 }
