@@ -36,8 +36,8 @@ none_zero (n ∷ s) = two (eqb n 0) (list_any (λ y. nat_eq y 0) s) (none_zero s
     two true c e = refl
     two false c e = e
 
--- a framed segment has a marker and a stated length
-pub framed_long : (s : List ℕ) → framed s ≡ true → 4 ≤ length s
+-- the least length of a framed segment
+pub framed_long : (s : List ℕ) → framed s ≡ true → 69 ≤ length s
 unfolding framed
 framed_long s e =
     let both = and_right (eqb (val s 0) 0xFF && eqb (val s 1) 0xDB) (eqb (lq s) (length s - 2) && leb 67 (lq s)) e in
