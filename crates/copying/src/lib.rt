@@ -48,7 +48,7 @@ impl<'a> Writer<'a> {
     {
         if self.at < self.out.len() {
             let n = bytes.len().min(self.out.len() - self.at);
-            self.out[self.at..self.at + n].copy_from_slice(&bytes[..n]);
+            fold::copy(&bytes[..n], &mut self.out[self.at..self.at + n]);
         }
         self.at += bytes.len();
     }

@@ -10,6 +10,7 @@ ghost use Rattle.projection.specs.Projection.{resample, mean_of, split, clamp_bl
 ghost use Rattle.projection.specs.Projection.{FromSheet, clipped_exactly};
 
 use crate::clip::{clamp_row, least_of, most_of};
+use fold::copy;
 use start::coef::{Coef, Sample};
 use utils::blocks::{from_blocks, to_blocks};
 use utils::dct::{dct_blocks, idct_blocks};
@@ -126,7 +127,7 @@ fn project_full(plane: &mut [f32], across: &mut [f32], saved: &mut [f32], coef: 
     to_blocks(plane, across, width, height, bw, bh);
     let moved = clamped(across, coef);
     let own = &mut across[..count];
-    saved[..count].copy_from_slice(own);
+    copy(own, &mut saved[..count]);
     idct_blocks(own);
     from_blocks(across, plane, width, height, bw, bh);
     moved

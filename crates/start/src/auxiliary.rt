@@ -6,6 +6,7 @@ ghost use Rattle.start.specs.AsCoef.{as_coef};
 ghost use Rattle.start.specs.Auxiliary.{init_pixels, aux_init};
 
 use crate::coef::{Coef, Reorder};
+use fold::copy;
 
 // The channel's pixels at full sides. Image and scratch have as many values as the own plane.
 fn init_pixels_into(
@@ -64,7 +65,7 @@ pub fn start(
 {
     let n = coef.px_count();
     init_pixels_into(plane, &mut across[..n], &mut down[..n], coef, reorder);
-    prior.copy_from_slice(plane);
+    copy(plane, prior);
     gradient.fill(0.0);
     across.fill(0.0);
     down.fill(0.0);

@@ -3,6 +3,7 @@ ghost use Rattle.std.specs.Prelude.{◌≡◌, ◌+◌, ◌*◌, ◌<◌, ◌≤
 ghost use Rattle.start.specs.declared.coef.Reorder.TheVariants.{Once};
 ghost use Rattle.start.specs.Coef.{Covers, Eights, EqualLevels, Lent, Placement, pairs};
 
+use fold::copy;
 use interval::Interval;
 use utils::blocks::{copy8, from_blocks};
 use utils::dct::idct_blocks;
@@ -120,7 +121,7 @@ impl ScalarCoef<'_> {
     {
         let w = self.own.width;
         let h = self.own.height;
-        scratch.copy_from_slice(image);
+        copy(image, scratch);
         from_blocks(scratch, image, w, h, w / 8, h / 8);
     }
 

@@ -22,7 +22,7 @@ returns c =
           (record {
             next = refl;
             last =
-                put_mid-paste w.at _ w.out.now _ part n b.copy_from_slice.ensures.after (omega arith) (sym f)
+                put_mid-paste w.at _ w.out.now _ part n b.copy.ensures (omega arith) (sym f)
                 ∙ paste_all w.out.now w.at part n (sym f)
                 ∙ sets_fitting xs w.out.now w.at n b.if-self.true b.min-n.ensures;
             same = refl;

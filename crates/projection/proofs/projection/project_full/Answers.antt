@@ -20,8 +20,8 @@ returns c =
     let x = c.clamped-moved.new.x in
     let long : w ≤ length x = search rules in
     let fill : block_count o * 64 ≡ w = blocks_fill o.width o.height c.args.coef.now.covers.eights.0 c.args.coef.now.covers.eights.1 ∙ sym c.px_count-count.ensures.0 in
-    let own : c.copy_from_slice.new.self ≡ take w x = search rules in
-    let saved : c.copy_from_slice.new.self ++ drop w c.args.saved.now ≡ keep w x c.args.saved.now =
+    let own : c.copy.new.to ≡ take w x = search rules in
+    let saved : c.copy.new.to ++ drop w c.args.saved.now ≡ keep w x c.args.saved.now =
     ap (λ t. t ++ drop w c.args.saved.now) own ∙ kept w x c.args.saved.now long (search rules) in
     let n : length (take w x) / 64 ≡ block_count o = omega (arith, length-take-le w x long, fill) in
     let across : c.idct_blocks.new.xs ++ drop w x ≡ upto (on_block idct8x8) (block_count o) x =

@@ -17,7 +17,7 @@ returns-clause-buffers c =
     let across : c.fill-2.new.self ≡ zeros = search rules in
     let down : c.fill-3.new.self ≡ zeros = search rules in
     let saved : c.fill-4.new.self ≡ zeros = search rules in
-    let prior : c.copy_from_slice.new.self ≡ c.init_pixels_into.new.plane = search rules in
+    let prior : c.copy.new.to ≡ c.init_pixels_into.new.plane = search rules in
     rw (prior, gradient, across, down, c.init_dct_target_into.ensures, saved, c.scalar.ensures.0, c.init_pixels_into.ensures)
 
 pub returns-clause-narrow : goal.returns-clause-narrow
