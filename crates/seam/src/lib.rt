@@ -3,8 +3,8 @@
 
 ghost use Rattle.std.specs.Prelude.{◌≡◌, eqb};
 ghost use Rattle.contents.specs.Hold.{hold_at};
-ghost use Rattle.contents.specs.Sheets.{channels_of};
-ghost use Rattle.seam.specs.Seam.{same, same_weight, same_weights, same_shape, same_header, second, same_letters, same_holds, same_channel, same_channels, same_numbers, same_sheet};
+ghost use Rattle.seam.specs.Seam.{same, same_weight, same_weights, same_shape, same_header, second, same_letters, same_channel, same_channels, same_numbers};
+ghost use Rattle.seam.specs.Used.{used, used_of, holds_used, same_used};
 
 use contents::{Channel, Header, Letter, Settings, Sheet, Weight};
 
@@ -56,12 +56,29 @@ fn same_letters(x: Settings, y: Settings) -> bool
     (x.rounding == second) == (y.rounding == second) && (x.start == second) == (y.start == second)
 }
 
+// How many of three channels are looked at where a header says n. It may say any number: a caller's
+// sheet need not be legal.
+fn used(n: u32) -> u32
+    ensures { result ≡ used n }
+{
+    if n == 1 { 1 } else { 3 }
+}
+
+// The channels in use of a sheet with n channels: the first alone if n is 1, else all three.
+// Ruled out: two channels of a header that says 2; the spare channels of one that says 1.
+pub fn used_of(n: u32, s: &Sheet) -> &[Channel]
+    ensures { result.now ≡ used_of n s.now }
+{
+    &s.channels[..used(n) as usize]
+}
+
 // The held counts of the channels in use.
 // Kept: `==` of the settings tells no line H from one with the iterations' counts, and compares those of spare channels.
 fn same_holds(s: Sheet, t: Sheet) -> bool
-    ensures { result ≡ same_holds s.header.channels s t }
+    ensures { result ≡ holds_used s.header.channels s t }
 {
-    (0..s.header.channels).all(|c| contents::held_after(s, c) == contents::held_after(t, c))
+    let n = used(s.header.channels);
+    (0..n).all(|c| contents::held_after(s, c) == contents::held_after(t, c))
 }
 
 // Own heights, factors, and own widths that fill the full widths w and v.
@@ -79,13 +96,15 @@ fn same_channel(w: u32, v: u32, c: Channel, d: Channel) -> bool
 // The channels in use.
 // Kept: each pair is compared as above, with its sheets' widths.
 fn same_channels(s: Sheet, t: Sheet) -> bool
-    ensures { result ≡ same_channels s.header.width t.header.width (channels_of s) (channels_of t) }
+    ensures { let n = s.header.channels in
+        result ≡ same_channels s.header.width t.header.width (used_of n s) (used_of n t) }
 {
+    let n = s.header.channels;
     let w = s.header.width;
     let v = t.header.width;
-    s.in_use()
+    used_of(n, &s)
         .iter()
-        .zip(t.in_use())
+        .zip(used_of(n, &t))
         .all(|(c, d)| same_channel(w, v, *c, *d))
 }
 
@@ -93,7 +112,7 @@ fn same_channels(s: Sheet, t: Sheet) -> bool
 // Kept: `==` of sheets asks for the same widths, spelling and spare channels.
 // Ruled out: w1 and h3f800000 told apart; no line F and `F t` told apart.
 pub fn same_sheet(s: Sheet, t: Sheet) -> bool
-    ensures { result ≡ same_sheet s t }
+    ensures { result ≡ same_used s t }
 {
     same_header(s.header, t.header)
         && same_letters(s.settings, t.settings)

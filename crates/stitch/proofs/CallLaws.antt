@@ -3,16 +3,17 @@ use Prim.Native.Nat.{ℕ, ◌+◌, ◌^◌, ◌≤◌, ◌<◌}
 use mathlib.Core.Path.{◌≡◌, refl, sym, ap, ◌∙◌}
 use mathlib.Core.List.{List, [], ◌∷◌, ◌++◌, append-nil}
 use mathlib.Core.Bool.{Bool, true, false, cond, ◌&&◌}
-use mathlib.Core.Logic.{⊎_elim}
+use mathlib.Core.Logic.{◌⊎◌, ⊎_elim}
 use native.Mathlib.Omega.{arith}
 use lib.Dec.{eqb, leb}
-use lib.ListN.{length, drop, replicate, drop_of_length-le}
+use lib.ListN.{length, take, drop, replicate, drop_of_length-le}
 use lib.Seq.{sets, sets-eq}
 use borrow.Author.Tests.{eq-eqb, ne_eqb, leb-true, le-leb}
 use Rattle.digits.specs.Written.{decimal}
 use Rattle.digits.proofs.Both.{both_left}
 use Rattle.std.specs.Prelude.{Result, Ok, Err}
 use Rattle.contents.specs.declared.Sheet.{Sheet}
+use Rattle.contents.specs.Sheets.{channels_of}
 use Rattle.contents.specs.Legal.{LegalSheet, LegalBlocks, LegalMarks}
 use Rattle.refusal.specs.Refusal.{number_of}
 use Rattle.sheet.specs.declared.Outlined.{Outlined}
@@ -29,14 +30,15 @@ use Rattle.grammar.proofs.PrefixLaws.{at-most}
 use Rattle.stitch.specs.declared.Fit.{Fit}
 use Rattle.stitch.specs.declared.Refused as faults
 use Rattle.stitch.specs.Numbers.{Numbers, numbers}
-use Rattle.seam.specs.Seam.{same_sheet, same_numbers, seam}
+use Rattle.seam.specs.Seam.{same_header, same_letters, same_holds, same_channels, same_sheet, same_numbers, seam}
+use Rattle.seam.specs.Used.{used_of, holds_used, same_used}
 use Rattle.stitch.specs.Stitched.{stitched_sheet, stitched_held}
 use Rattle.stitch.specs.Bytes.{stitch_text}
 use Rattle.stitch.specs.Calls.{whole, Stitch, output_of, joining, stitching, measuring, sized, answering, out_after, Stitches, FitTogether}
 use Rattle.stitch.specs.Calls.Stitch.{Text, Fault}
 use Rattle.stitch.specs.Judging.{outlining, neither, judging, fit_of}
 use Rattle.stitch.proofs.TextLaws.{as_copied}
-use Rattle.stitch.proofs.LegalLaws.{Fits, sheets_fit, pair, stitched_legal, stitched_blocks, stitched-marks}
+use Rattle.stitch.proofs.LegalLaws.{Fits, header_fits, sheets_fit, used_is, pair, stitched_legal, stitched_blocks, stitched-marks}
 
 -- A text's outline
 pub outlined : (which : ℕ) (T : Outcome Contents) (o : Outlined) → Gives o ≡ outline_of T → Ok o ≡ outlining which T
@@ -52,6 +54,37 @@ pub unread : (which : ℕ) (T : Outcome Contents) (r : walk.Refused) (n : Number
 unread which T r n e o = ap Err e ∙ unread_by which (number_of r.refusal) r.line T o
 
 -- Whether they fit
+
+-- of sheets with one channel or three the code looks at what `same_sheet` asks for
+
+holds_are : (n : ℕ) (s t : Sheet) → (n ≡ 1) ⊎ (n ≡ 3) → holds_used n s t ≡ same_holds n s t
+holds_are n s t x = ⊎_elim (λ e. rw e refl) (λ e. rw e refl) x
+
+used_same : (s t : Sheet) → (s.header.channels ≡ 1) ⊎ (s.header.channels ≡ 3)
+    → same_used s t ≡ same_sheet s t
+used_same s t x = two (same_header s.header t.header) refl
+  where
+    w : ℕ
+    w = s.header.width
+
+    v : ℕ
+    v = t.header.width
+
+    n : ℕ
+    n = s.header.channels
+
+    two : (b : Bool) → same_header s.header t.header ≡ b
+        → (b && (same_letters s.settings t.settings
+        && (holds_used n s t && same_channels w v (used_of n s) (used_of n t))))
+        ≡ (b && (same_letters s.settings t.settings
+        && (same_holds n s t && same_channels w v (channels_of s) (channels_of t))))
+    two false e = refl
+    two true e =
+        let m = header_fits s.header t.header e in
+        let a = holds_are n s t x in
+        let b = used_is n s x in
+        let c = used_is n t x ∙ ap (λ (k : ℕ). take k t.channels) m in
+        λ i. same_letters s.settings t.settings && (a i && same_channels w v (b i) (c i))
 
 -- equal ends need no look
 pub itself : (xs : List ℕ) → same_numbers xs xs ≡ true
@@ -82,6 +115,9 @@ module _ (left right : List ℕ) (c d : Contents) (p : read_text whole left ≡ 
 
   legal_right : LegalSheet whole d.sheet d.held.lent
   legal_right = legal whole right d.sheet d.held q
+
+  used_seam : same_used c.sheet d.sheet ≡ same_sheet c.sheet d.sheet
+  used_seam = used_same c.sheet d.sheet legal_left.header.channels
 
   seam_tables : (z : List ℕ) → length z ≡ 192 → same_sheet c.sheet d.sheet ≡ true
       → same_numbers (sets z 0 c.held.lent.tables) (sets z 0 d.held.lent.tables) ≡ same_numbers c.held.lent.tables d.held.lent.tables
@@ -230,8 +266,13 @@ module _ (left right : List ℕ) (s t : Outlined) where
       by false e = rw e
       by true e = rw e (seam_tables left right c d f g places refl e)
 
-      seam_is : (same_sheet c.sheet d.sheet && same_numbers (sets places 0 c.held.lent.tables) (sets places 0 d.held.lent.tables)) ≡ seam c d
-      seam_is = by (same_sheet c.sheet d.sheet) refl
+      tables : Bool
+      tables = same_numbers (sets places 0 c.held.lent.tables) (sets places 0 d.held.lent.tables)
+
+      seam_is : (same_used c.sheet d.sheet && tables) ≡ seam c d
+      seam_is =
+          ap (λ (b : Bool). b && tables) (used_seam left right c d f g)
+          ∙ by (same_sheet c.sheet d.sheet) refl
 
 -- What stitching two texts that fit writes
 module _ (left right : List ℕ) (c d : Contents) (f : FitTogether left right c d) where

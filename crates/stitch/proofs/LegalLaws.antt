@@ -24,6 +24,7 @@ use Rattle.grammar.proofs.LegalLaws.{blocks}
 use Rattle.grammar.proofs.MarkLaws.{Place}
 use Rattle.grammar.proofs.RoundTrip.{small_mark}
 use Rattle.seam.specs.Seam.{same_weights, same_numbers, same_shape, same, same_header, same_letters, same_holds, same_channel, same_channels, same_sheet}
+use Rattle.seam.specs.Used.{used_of}
 use Rattle.contents.specs.Marks.{blocks_in}
 use Rattle.stitch.specs.Stitched.{wider, besides, stitched_sheet, rows_in, columns_in, weave, woven, moved_by, stitched_held}
 use Rattle.stitch.specs.Calls.{whole}
@@ -87,8 +88,12 @@ abbrev three : Sheet → List Channel
 three s = channel_at s 0 ∷ channel_at s 1 ∷ channel_at s 2 ∷ []
 
 -- the channels in use, written out
-used_is : (s : Sheet) → length s.channels ≡ 3 → take s.header.channels (three s) ≡ channels_of s
-used_is s e = ap (take s.header.channels) (three_of no_channel s.channels e)
+take-three : (s : Sheet) → length s.channels ≡ 3 → take s.header.channels (three s) ≡ channels_of s
+take-three s e = ap (take s.header.channels) (three_of no_channel s.channels e)
+
+-- the channels that the code looks at are those in use
+pub used_is : (n : ℕ) (s : Sheet) → Number n → used_of n s ≡ take n s.channels
+used_is n s x = ⊎_elim (λ e. rw e refl) (λ e. rw e refl) x
 
 pairs_are : (n : ℕ) (s t : Sheet) → Number n → take n (three (stitched_sheet s t)) ≡ pairs_of (take n (three s)) (take n (three t))
 pairs_are n s t x = ⊎_elim (λ e. rw e refl) (λ e. rw e refl) x
@@ -255,7 +260,7 @@ module _ (s : Sheet) (h : Held) (l : LegalSheet whole s h.lent) (b : LegalBlocks
   whole_at j p = record { width = (l.channel j p).width.whole; height = (l.channel j p).height.whole }
 
   held_all : HeldFor (channels_of s) h
-  held_all = held_for (channels_of s) h counted (omega (arith, ap (λ (cs : List Channel). 64 * total cs) (sym (used_is s l.three_channels)), total_is s.header.channels s number whole_at, l.lows_count, b.kinds_count))
+  held_all = held_for (channels_of s) h counted (omega (arith, ap (λ (cs : List Channel). 64 * total cs) (sym (take-three s l.three_channels)), total_is s.header.channels s number whole_at, l.lows_count, b.kinds_count))
 
 -- all channels of a sheet are whole blocks wide: those that are not there have no width
 whole_width : (s : Sheet) (b : Lent) → LegalSheet whole s b → (c : ℕ) → c < 3 → (channel_at s c).width % 8 ≡ 0
@@ -275,12 +280,12 @@ module _ (s t : Sheet) (h k : Held) (l : LegalSheet whole s h.lent) (b : LegalBl
   each_same =
       same_each s.header.width t.header.width s.header.channels s t (number s h l b)
       (ap (λ (n : ℕ). same_channels s.header.width t.header.width (take s.header.channels (three s)) (take n (three t))) f.channels
-      ∙ (λ i. same_channels s.header.width t.header.width (used_is s l.three_channels i) (used_is t m.three_channels i))
+      ∙ (λ i. same_channels s.header.width t.header.width (take-three s l.three_channels i) (take-three t m.three_channels i))
       ∙ f.each)
 
   -- both lists of channels in use, written out
   both_used : take s.header.channels (three t) ≡ channels_of t
-  both_used = ap (λ (n : ℕ). take n (three t)) f.channels ∙ used_is t m.three_channels
+  both_used = ap (λ (n : ℕ). take n (three t)) f.channels ∙ take-three t m.three_channels
 
   there : (j : ℕ) → j < s.header.channels → j < t.header.channels
   there j p = omega (arith, f.channels)
@@ -296,11 +301,11 @@ module _ (s t : Sheet) (h k : Held) (l : LegalSheet whole s h.lent) (b : LegalBl
 
   all_beside : AllBeside (channels_of s) (channels_of t)
   all_beside =
-      subst (λ (cs : List Channel). AllBeside cs (channels_of t)) (used_is s l.three_channels)
+      subst (λ (cs : List Channel). AllBeside cs (channels_of t)) (take-three s l.three_channels)
       (subst (λ (ds : List Channel). AllBeside (take s.header.channels (three s)) ds) both_used (beside_each s.header.channels s t (number s h l b) beside_at))
 
   right_pairs : channels_of (stitched_sheet s t) ≡ pairs_of (channels_of s) (channels_of t)
-  right_pairs = pairs_are s.header.channels s t (number s h l b) ∙ (λ i. pairs_of (used_is s l.three_channels i) (both_used i))
+  right_pairs = pairs_are s.header.channels s t (number s h l b) ∙ (λ i. pairs_of (take-three s l.three_channels i) (both_used i))
 
   both_columns : (c : ℕ) → columns_in (channel_at (stitched_sheet s t) c) ≡ columns_in (channel_at s c) + columns_in (channel_at t c)
   both_columns c = ap columns_in (channel-at s t c) ∙ omega (arith, every_width s h.lent l c, every_width t k.lent m c)
@@ -308,6 +313,10 @@ module _ (s t : Sheet) (h k : Held) (l : LegalSheet whole s h.lent) (b : LegalBl
   pub pair : LegalMarks t [] k.marks → Pair s t h k
   pair n =
       record {
+        left = used_is s.header.channels s (number s h l b);
+        right =
+            used_is s.header.channels t (number s h l b)
+            ∙ ap (λ (n : ℕ). take n t.channels) f.channels;
         both = right_pairs;
         beside = all_beside;
         held_left = held_all s h l b;

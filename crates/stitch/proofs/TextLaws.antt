@@ -27,6 +27,7 @@ use Rattle.grammar.proofs.RowLaws.{header_free, channel_free}
 use Rattle.grammar.proofs.RoundTrip.{free_both, free_settings, free_channels}
 use Rattle.copying.specs.Parts.{up_to, past, after_two, refitted, rows_of, past_rows}
 use Rattle.copying.proofs.PartLaws.{up_zero, past_zero}
+use Rattle.seam.specs.Used.{used_of}
 use Rattle.stitch.specs.Stitched.{wider, besides, stitched_sheet, rows_in, columns_in, weave, woven, woven_held, stitched_marks, stitched_held}
 use Rattle.stitch.specs.Bytes.{lines_of, said_lines, head_text, head_left, pair_text, pair_left, pair_right, last_text, pairs_text, stitch_text}
 use Rattle.stitch.proofs.LineLaws.{up_line, past_line, free_drop, up_lines, past_lines, ended_both, rows_lines, past-rows, refit_line, two_gone}
@@ -353,6 +354,8 @@ module _ (h : Header) (x : Settings) (R : List (List ℕ)) (f : all_free 10 R �
 -- The whole text
 
 pub record Pair (s t : Sheet) (h k : Held) : Type 0 where
+  pub left : used_of s.header.channels s ≡ channels_of s
+  pub right : used_of s.header.channels t ≡ channels_of t
   pub both : channels_of (stitched_sheet s t) ≡ pairs_of (channels_of s) (channels_of t)
   pub beside : AllBeside (channels_of s) (channels_of t)
   pub held_left : HeldFor (channels_of s) h
@@ -382,7 +385,7 @@ as_copied s t h k p =
     let a = head-text s.header s.settings L fl (s.header.width + t.header.width) (s.header.picture_width + t.header.picture_width) in
     let b = head-left s.header s.settings L fl in
     let c = head_right t.header t.settings R fr in
-    (λ i. a i ++ pairs_text s cs ds (b i) (c i))
+    (λ i. a i ++ pairs_text s (p.left i) (p.right i) (b i) (c i))
     ∙ ap (λ (l : List ℕ). (joined (header_fields (wider s.header t.header)) ++ 10 ∷ ended (setting_lines s.settings)) ++ l)
     (pairs_lines s LM RM M (last_free h.marks) (last_free k.marks) (last_lines s t h.marks k.marks p.marks_right) cs ds h k p.beside p.held_left p.held_right)
     ∙ append_assoc (joined (header_fields (wider s.header t.header))) (10 ∷ ended (setting_lines s.settings)) (ended T)

@@ -4,12 +4,12 @@ use Rattle.std.specs.Prelude.{ℕ, zero, suc, ◌+◌, List, [], ◌∷◌, ◌+
 use Rattle.contents.specs.declared.Settings.{Settings}
 use Rattle.contents.specs.declared.Channel.{Channel}
 use Rattle.contents.specs.declared.Sheet.{Sheet}
-use Rattle.contents.specs.Sheets.{channels_of}
 use Rattle.contents.specs.declared.Mark.{Mark}
 use Rattle.digits.specs.Written.{decimal}
 use Rattle.text.specs.Pieces.{split, before}
 use Rattle.lines.specs.Lines.{mark_of}
 use Rattle.copying.specs.Parts.{up_to, past, count_of, refitted, after_two, channel_text, channel_left, channel_right}
+use Rattle.seam.specs.Used.{used_of}
 use Rattle.stitch.specs.Stitched.{rows_in, columns_in, moved_by}
 
 -- the lines of a setting, and of all settings
@@ -71,4 +71,5 @@ unfoldable pub stitch_text : Sheet → Sheet → List ℕ → List ℕ → List 
 unfolding refitted moved_line
 stitch_text s t xs ys =
     open_text s t xs
-    ++ pairs_text s (channels_of s) (channels_of t) (head_left (said_lines s.settings) xs) (past 10 (said_lines t.settings + 1) ys)
+    ++ pairs_text s (used_of s.header.channels s) (used_of s.header.channels t)
+    (head_left (said_lines s.settings) xs) (past 10 (said_lines t.settings + 1) ys)

@@ -7,7 +7,8 @@ use Rattle.sheet.specs.declared.Outlined.{Outlined}
 use Rattle.sheet.specs.Calls.{outline_in}
 use Rattle.stitch.specs.declared.Fit.{Fit}
 use Rattle.stitch.specs.Numbers.{Numbers}
-use Rattle.seam.specs.Seam.{same_numbers, same_sheet, seam}
+use Rattle.seam.specs.Seam.{same_numbers, seam}
+use Rattle.seam.specs.Used.{same_used}
 
 -- a text's sheet and tables, or the refusal of the text that `which` names
 abbrev pub outlining : ℕ → Outcome Contents → Result Outlined Numbers
@@ -30,6 +31,6 @@ judging (Gives c) (Gives d) =
 -- the same of two sheets and their tables, the tables in places of one number
 abbrev pub fit_of : Sheet → Sheet → List ℕ → List ℕ → Result Fit Numbers
 fit_of s t a b =
-    cond (same_sheet s t && same_numbers a b)
+    cond (same_used s t && same_numbers a b)
     (cond (leb (s.header.width + t.header.width) 512) (Ok (record { left = s; right = t })) (Err (neither 2)))
     (Err (neither 16))

@@ -2,7 +2,7 @@
 ghost use Rattle.std.specs.Prelude.{◌≡◌, ◌+◌, ◌^◌, ◌<◌, ◌≤◌, length};
 ghost use Rattle.std.proofs.lemmas.List.Edits.{sets};
 ghost use Rattle.copying.specs.Parts.{past, Put};
-ghost use Rattle.contents.specs.Sheets.{channels_of};
+ghost use Rattle.seam.specs.Used.{used_of};
 ghost use Rattle.stitch.specs.Bytes.{said_lines, head_text, head_left, pair_text, pair_left, pair_right, pairs_text, open_text, stitch_text};
 
 use crate::{Fit, marks};
@@ -59,11 +59,16 @@ fn write_pair<'a>(from: Texts<'a>, c: Channel, d: Channel, to: &mut Writer) -> T
 
 // The channels in use of both, and what follows them.
 fn write_pairs(from: Texts, s: Sheet, t: Sheet, to: &mut Writer)
-    requires { to.old.at + length (pairs_text s (channels_of s) (channels_of t) from.left.now from.right.now) < 2 ^ 64 }
-    ensures { Put to.old (pairs_text s (channels_of s) (channels_of t) from.entry.left.now from.entry.right.now) to.new }
+    requires { let n = s.header.channels in
+        to.old.at + length (pairs_text s (used_of n s) (used_of n t) from.left.now from.right.now)
+        < 2 ^ 64 }
+    ensures { let n = s.header.channels in
+        Put to.old (pairs_text s (used_of n s) (used_of n t)
+        from.entry.left.now from.entry.right.now) to.new }
 {
+    let n = s.header.channels;
     let mut rest = from;
-    for (c, d) in s.in_use().iter().zip(t.in_use()) {
+    for (c, d) in seam::used_of(n, &s).iter().zip(seam::used_of(n, &t)) {
         rest = write_pair(rest, *c, *d, to);
     }
     marks::write_last(rest, s, to)

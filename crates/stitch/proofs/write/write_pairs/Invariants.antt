@@ -2,8 +2,8 @@
 use Rattle.std.specs.Prelude.{ℕ, List, ◌++◌, ◌≡◌}
 use Rattle.std.specs.Iterator.Adapters.{zip_first, zip_second}
 use Rattle.std.specs.Slice.Iter.{iter_rest}
-use Rattle.contents.specs.Sheets.{channels_of}
 use Rattle.copying.specs.Parts.{Put}
+use Rattle.seam.specs.Used.{used_of}
 use Rattle.stitch.specs.Bytes.{pairs_text}
 use Rattle.stitch.proofs.write.write_pairs.Given as goal
 
@@ -11,5 +11,7 @@ abbrev pub invariant-loop-c : goal.invariant-loop-c
 invariant-loop-c l =
     let cs = iter_rest (zip_first l.c-iterator) in
     let ds = iter_rest (zip_second l.c-iterator) in
+    let n = l.fn.s.header.channels in
     (done : List ℕ) × Put l.initial.to done l.to
-    × (done ++ pairs_text l.fn.s cs ds l.rest.left.now l.rest.right.now ≡ pairs_text l.fn.s (channels_of l.fn.s) (channels_of l.fn.t) l.from.left.now l.from.right.now)
+    × (done ++ pairs_text l.fn.s cs ds l.rest.left.now l.rest.right.now
+    ≡ pairs_text l.fn.s (used_of n l.fn.s) (used_of n l.fn.t) l.from.left.now l.from.right.now)
