@@ -16,7 +16,7 @@ use Rattle.stitch.specs.Stitched.{besides, stitched_sheet, rows_in, columns_in, 
 use Rattle.stitch.proofs.WeaveLaws.{weave_length, weave_front, weave_both}
 use Rattle.stitch.proofs.BlockLaws.{once}
 use Rattle.stitch.proofs.MarkTextLaws.{kept, kept_both}
-use Rattle.stitch.proofs.TextLaws.{AllBeside, HeldFor, Pair, pairs_of, left_blocks, right_blocks, both_blocks}
+use Rattle.stitch.proofs.TextLaws.{AllBeside, HeldFor, InUse, Pair, in_use, pairs_of, left_blocks, right_blocks, both_blocks}
 
 -- enough values, u for each block
 abbrev pub Long : {A : Type 0} → ℕ → List Channel → List A → Type 0
@@ -173,11 +173,12 @@ marks_both s t v ms ns os w =
     ∙ (λ i. A ++ (sym (kept_again (moved_by s) (λ m. m) b Y ns) i ++ sym (kept_again (moved_by s) (moved_by t) b Y os) i))
     ∙ ap (λ (l : List Marked). A ++ l) (sym (kept_both (moved_by s) Y (kept (λ m. m) b ns) (kept (moved_by t) b os)))
 
--- "stitching is associative where the seams fit": three sheets give the same text in either order
-pub either_first : (s t v : Sheet) (h k g : Held) → Pair s t h k → Pair t v k g
+-- "stitching is associative where the seams fit": three sheets give the same text in either order,
+-- of as many channels as their headers say
+pub either_in_use : (s t v : Sheet) (h k g : Held) → InUse s t h k → InUse t v k g
     → written (stitched_sheet (stitched_sheet s t) v) (stitched_held (stitched_sheet s t) v (stitched_held s t h k) g)
     ≡ written (stitched_sheet s (stitched_sheet t v)) (stitched_held s (stitched_sheet t v) h (stitched_held t v k g))
-either_first s t v h k g p q =
+either_in_use s t v h k g p q =
     let cs = channels_of s in
     let ds = channels_of t in
     let es = channels_of v in
@@ -189,3 +190,9 @@ either_first s t v h k g p q =
     (λ i. written (sheet_both s t v i) (marking (woven_held (p.both i) es (woven_held cs ds h k) g) first))
     ∙ (λ i. written (stitched_sheet s (stitched_sheet t v)) (held (lent (lows i) (highs i) h.lent.tables) (kinds i) (marks_both s t v h.marks k.marks g.marks p.columns i)))
     ∙ (λ i. written (stitched_sheet s (stitched_sheet t v)) (marking (woven_held cs (sym q.both i) h (woven_held ds es k g)) last))
+
+-- and where the code looks at those channels
+pub either_first : (s t v : Sheet) (h k g : Held) → Pair s t h k → Pair t v k g
+    → written (stitched_sheet (stitched_sheet s t) v) (stitched_held (stitched_sheet s t) v (stitched_held s t h k) g)
+    ≡ written (stitched_sheet s (stitched_sheet t v)) (stitched_held s (stitched_sheet t v) h (stitched_held t v k g))
+either_first s t v h k g p q = either_in_use s t v h k g (in_use s t h k p) (in_use t v k g q)

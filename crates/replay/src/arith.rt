@@ -1,7 +1,7 @@
 // The f32 operations, and the sums of f64 that the totals are made of: `fma` (the method `mul_add`), `mac` (the macro `mul_add!`), `clamp`, `sqrt`, `pow` (`powi(2)`), `mid` (`f32::midpoint`).
 use float::bits::{from_bits, to_bits};
 use float::double;
-use words::number_at;
+use words::running::number_at;
 
 // Operand k of the line.
 fn operand(line: &[u8], k: usize) -> f32 {

@@ -9,7 +9,7 @@ mod transforms;
 use std::io;
 use utils::blocks::Order;
 use utils::dct::Transform;
-use words::replay;
+use words::running::replay;
 
 // Whether the line has the answer that the proved code gives. Its two first letters tell the
 // operation: a word that is no operation's name is read as one that begins as it does.

@@ -4,7 +4,8 @@ use by_numbers::{NUMBERS, reading};
 use contents::Limits;
 use float::bits::to_bits;
 use sheet::Refused;
-use words::{bytes, number_at, with_all, word};
+use words::running::{bytes, number_at, word};
+use words::with_all;
 
 // What a line asks: the reading of a text within limits, for the reader of a number.
 #[derive(Clone, Copy)]

@@ -5,7 +5,7 @@ ghost use Rattle.std.specs.Prelude.{◌*◌, ◌<◌, ◌≤◌};
 use float::bits::{from_bits, to_bits};
 use utils::blocks::{Order, move_blocks};
 use utils::dct::{Transform, transform8x8};
-use words::{from_word, number_at, read, same_values};
+use words::running::{from_word, number_at, read, same_values};
 
 // Whether the words from word k on are the bits of the values.
 // Kept: the values are compared with words of the line, so that no derived equality does it.

@@ -7,7 +7,8 @@ use float::bits::from_bits;
 use record::lent::{Buffers, Given};
 use record::{Channel, Run};
 use start::coef::Reorder;
-use words::{from_word, low_half, number_at, read};
+use words::low_half;
+use words::running::{from_word, number_at, read};
 
 // A number modulo 2^16 as a level.
 fn level(n: u32) -> i16 {

@@ -7,7 +7,7 @@ mod given;
 mod served;
 
 use std::io;
-use words::replay;
+use words::running::replay;
 
 fn main(rt: HostRuntime) -> io::Result<()> {
     replay(rt, given::same_line)

@@ -7,7 +7,7 @@ mod stitches;
 mod tapes;
 
 use std::io;
-use words::replay;
+use words::running::replay;
 
 // Whether the line has what the proved code gives. Its first letter tells the crate, and at the
 // tapes its third the call: a word that is no call's name is read as one of those too.

@@ -3,7 +3,8 @@
 ghost use Rattle.std.specs.Prelude.{◌≤◌};
 
 use refusal::answer_number;
-use words::{bytes, from_word, low_half, number_at, read, same_values, word};
+use words::low_half;
+use words::running::{bytes, from_word, number_at, read, same_values, word};
 
 // Word 2 as the length of the tables, at most 256.
 fn length_of(line: &[u8]) -> usize

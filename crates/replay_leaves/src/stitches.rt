@@ -1,7 +1,7 @@
 // The stitching of two texts: a line's words are `stitch`, the refusal's number, text and line (0 where there is none), the length that measuring gives (0 where it refuses),
 // and, as bytes in one word each, the left text, the right text, and the output afterwards; before, it is 7.
 use stitch::Refused;
-use words::{bytes, number_at, word};
+use words::running::{bytes, number_at, word};
 
 // Whether word k of the line is this number.
 fn is_word(line: &[u8], k: usize, n: usize) -> bool {

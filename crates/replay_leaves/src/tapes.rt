@@ -3,7 +3,8 @@
 ghost use Rattle.std.specs.Prelude.{◌≤◌};
 
 use refusal::{Refusal, answer_number};
-use words::{from_word, low_half, number_at, read, same_values};
+use words::low_half;
+use words::running::{from_word, number_at, read, same_values};
 
 // A number modulo 2^16 as a value.
 fn value(n: u32) -> i16 {

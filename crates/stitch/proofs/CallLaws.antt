@@ -33,11 +33,11 @@ use Rattle.stitch.specs.Numbers.{Numbers, numbers}
 use Rattle.seam.specs.Seam.{same_header, same_letters, same_holds, same_channels, same_sheet, same_numbers, seam}
 use Rattle.seam.specs.Used.{used_of, holds_used, same_used}
 use Rattle.stitch.specs.Stitched.{stitched_sheet, stitched_held}
-use Rattle.stitch.specs.Bytes.{stitch_text}
+use Rattle.stitch.specs.Bytes.{stitch_text, in_use_text}
 use Rattle.stitch.specs.Calls.{whole, Stitch, output_of, joining, stitching, measuring, sized, answering, out_after, Stitches, FitTogether}
 use Rattle.stitch.specs.Calls.Stitch.{Text, Fault}
 use Rattle.stitch.specs.Judging.{outlining, neither, judging, fit_of}
-use Rattle.stitch.proofs.TextLaws.{as_copied}
+use Rattle.stitch.proofs.TextLaws.{in_use, in_use_copied, as_copied}
 use Rattle.stitch.proofs.LegalLaws.{Fits, header_fits, sheets_fit, used_is, pair, stitched_legal, stitched_blocks, stitched-marks}
 
 -- A text's outline
@@ -161,6 +161,13 @@ module _ (left right : List ℕ) (c d : Contents) (p : read_text whole left ≡ 
         (λ i. stitch_text c.sheet d.sheet (canonical whole left c.sheet c.held p i) (canonical whole right d.sheet d.held q i))
         ∙ as_copied c.sheet d.sheet c.held d.held (pair c.sheet d.sheet c.held d.held legal_left blocks_left legal_right blocks_right fits marks_right)
 
+    pub in_use_is : in_use_text c.sheet d.sheet left right ≡ output_of c d
+    unfolding output_of
+    in_use_is =
+        (λ i. in_use_text c.sheet d.sheet (canonical whole left c.sheet c.held p i) (canonical whole right d.sheet d.held q i))
+        ∙ in_use_copied c.sheet d.sheet c.held d.held
+        (in_use c.sheet d.sheet c.held d.held (pair c.sheet d.sheet c.held d.held legal_left blocks_left legal_right blocks_right fits marks_right))
+
     text_fits : length (output_of c d) < 2 ^ 64
     text_fits = omega (arith, at-most whole (output_of c d) _ output_reads, few)
 
@@ -191,6 +198,31 @@ fit_by left right (Gives c) (Gives d) p q f e = by (seam c d) refl (leb (c.sheet
         let w = leb-true (c.sheet.header.width + d.sheet.header.width) 512 n in
         let x : stitch_text f.left f.right left right ≡ output_of c d = ap (λ (k : Fit). stitch_text k.left k.right left right) g ∙ text_is left right c d p q m w in
         record { text = whole_text left right c d p q m n ∙ ap Text (sym x); short = omega (arith, ap length x, text_fits left right c d p q m w) }
+
+-- of sheets that fit, what is copied of as many channels as the headers say is the same text
+fit_same : (left right : List ℕ) (T U : Outcome Contents) → read_text whole left ≡ T → read_text whole right ≡ U → (f : Fit) → Ok f ≡ judging T U
+    → in_use_text f.left f.right left right ≡ stitch_text f.left f.right left right
+fit_same left right (Refused k line) U p q f e = absurd cc
+fit_same left right (Gives c) (Refused k line) p q f e = absurd cc
+fit_same left right (Gives c) (Gives d) p q f e = by (seam c d) refl (leb (c.sheet.header.width + d.sheet.header.width) 512) refl e
+  where
+    by : (a : Bool) → seam c d ≡ a → (b : Bool) → leb (c.sheet.header.width + d.sheet.header.width) 512 ≡ b
+        → Ok f ≡ cond a (cond b (Ok (record { left = c.sheet; right = d.sheet })) (Err (neither 2))) (Err (neither 16))
+        → in_use_text f.left f.right left right ≡ stitch_text f.left f.right left right
+    by false m b n e = absurd cc
+    by true m false n e = absurd cc
+    by true m true n e =
+        let g : f ≡ record { left = c.sheet; right = d.sheet } = cc in
+        let w = leb-true (c.sheet.header.width + d.sheet.header.width) 512 n in
+        ap (λ (k : Fit). in_use_text k.left k.right left right) g
+        ∙ in_use_is left right c d p q m w
+        ∙ sym (text_is left right c d p q m w)
+        ∙ ap (λ (k : Fit). stitch_text k.left k.right left right) (sym g)
+
+-- Two sheets that fit: the same of as many channels as the headers say
+pub record InUseFitted (left right : List ℕ) (s t : Sheet) : Type 0 where
+  pub text : stitching left right ≡ Text (in_use_text s t left right)
+  pub short : length (in_use_text s t left right) < 2 ^ 64
 
 -- of a refusal
 abbrev fault : Numbers → Stitch
@@ -242,6 +274,26 @@ module _ (left right : List ℕ) where
         let a : last ≡ stitch_text f.left f.right left right = l ∙ all_set out (stitch_text f.left f.right left right) h in
         record { answer = sym (ap answering g); out = a ∙ sym (ap (λ (x : Stitch). out_after x out) g) }
 
+-- The same of as many channels as the headers say
+module _ (left right : List ℕ) (f : Fit) (e : Ok f ≡ judging (read_text whole left) (read_text whole right)) where
+  pub in_use_same : in_use_text f.left f.right left right ≡ stitch_text f.left f.right left right
+  in_use_same = fit_same left right (read_text whole left) (read_text whole right) refl refl f e
+
+  pub in_use_fit : InUseFitted left right f.left f.right
+  in_use_fit =
+      let x = fit left right f e in
+      record { text = x.text ∙ ap Text (sym in_use_same); short = omega (arith, ap length in_use_same, x.short) }
+
+  pub in_use_measured : Ok (length (in_use_text f.left f.right left right)) ≡ measuring (stitching left right)
+  in_use_measured = ap measuring (sym in_use_fit.text)
+
+  module _ (out : List ℕ) where
+    pub in_use_length : (length (in_use_text f.left f.right left right) ≡ length out → ⊥) → (r : faults.Refused) → numbers r ≡ neither 8 → Stitches left right out out (Err r)
+    in_use_length h r n = stitch_length left right f e out (λ z. h (ap length in_use_same ∙ z)) r n
+
+    pub in_use_done : length (in_use_text f.left f.right left right) ≡ length out → (last : List ℕ) → last ≡ sets out 0 (in_use_text f.left f.right left right) → Stitches left right out last (Ok tt)
+    in_use_done h last l = stitch_done left right f e out (sym (ap length in_use_same) ∙ h) last (l ∙ ap (sets out 0) in_use_same)
+
 -- What judging answers
 
 -- both are read
@@ -286,3 +338,6 @@ module _ (left right : List ℕ) (c d : Contents) (f : FitTogether left right c 
 
   pub joined_copied : stitch_text c.sheet d.sheet left right ≡ output_of c d
   joined_copied = text_is left right c d f.left_reads f.right_reads f.fit f.wide
+
+  pub joined_in_use : in_use_text c.sheet d.sheet left right ≡ output_of c d
+  joined_in_use = in_use_is left right c d f.left_reads f.right_reads f.fit f.wide

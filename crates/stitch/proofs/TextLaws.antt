@@ -29,7 +29,7 @@ use Rattle.copying.specs.Parts.{up_to, past, after_two, refitted, rows_of, past_
 use Rattle.copying.proofs.PartLaws.{up_zero, past_zero}
 use Rattle.seam.specs.Used.{used_of}
 use Rattle.stitch.specs.Stitched.{wider, besides, stitched_sheet, rows_in, columns_in, weave, woven, woven_held, stitched_marks, stitched_held}
-use Rattle.stitch.specs.Bytes.{lines_of, said_lines, head_text, head_left, pair_text, pair_left, pair_right, last_text, pairs_text, stitch_text}
+use Rattle.stitch.specs.Bytes.{lines_of, said_lines, head_text, head_left, pair_text, pair_left, pair_right, last_text, pairs_text, stitch_text, open_text, in_use_text}
 use Rattle.stitch.proofs.LineLaws.{up_line, past_line, free_drop, up_lines, past_lines, ended_both, rows_lines, past-rows, refit_line, two_gone}
 use Rattle.stitch.proofs.WeaveLaws.{weave_length, weave_front}
 use Rattle.stitch.proofs.MarkTextLaws.{AllSmall, last_free, last_lines}
@@ -353,6 +353,16 @@ module _ (h : Header) (x : Settings) (R : List (List ℕ)) (f : all_free 10 R �
 
 -- The whole text
 
+-- What makes the text of as many channels as the headers say
+pub record InUse (s t : Sheet) (h k : Held) : Type 0 where
+  pub both : channels_of (stitched_sheet s t) ≡ pairs_of (channels_of s) (channels_of t)
+  pub beside : AllBeside (channels_of s) (channels_of t)
+  pub held_left : HeldFor (channels_of s) h
+  pub held_right : HeldFor (channels_of t) k
+  pub columns : (c : ℕ) → columns_in (channel_at (stitched_sheet s t) c) ≡ columns_in (channel_at s c) + columns_in (channel_at t c)
+  pub marks_right : AllSmall k.marks
+
+-- and of the channels that the code looks at, where they are those
 pub record Pair (s t : Sheet) (h k : Held) : Type 0 where
   pub left : used_of s.header.channels s ≡ channels_of s
   pub right : used_of s.header.channels t ≡ channels_of t
@@ -363,14 +373,26 @@ pub record Pair (s t : Sheet) (h k : Held) : Type 0 where
   pub columns : (c : ℕ) → columns_in (channel_at (stitched_sheet s t) c) ≡ columns_in (channel_at s c) + columns_in (channel_at t c)
   pub marks_right : AllSmall k.marks
 
+pub in_use : (s t : Sheet) (h k : Held) → Pair s t h k → InUse s t h k
+in_use s t h k p =
+    record {
+      both = p.both;
+      beside = p.beside;
+      held_left = p.held_left;
+      held_right = p.held_right;
+      columns = p.columns;
+      marks_right = p.marks_right;
+    }
+
 -- the channels' lines hold no mark
 marks_apart : (cs : List Channel) (h : Held) (ms : List Marked) → channel_lines cs (held h.lent h.ranged ms) ≡ channel_lines cs h
 marks_apart [] h ms = refl
 marks_apart (c ∷ cs) h ms = refl
 
-pub as_copied : (s t : Sheet) (h k : Held) → Pair s t h k → stitch_text s t (written s h) (written t k) ≡ written (stitched_sheet s t) (stitched_held s t h k)
-unfolding stitch_text written
-as_copied s t h k p =
+pub in_use_copied : (s t : Sheet) (h k : Held) → InUse s t h k
+    → in_use_text s t (written s h) (written t k) ≡ written (stitched_sheet s t) (stitched_held s t h k)
+unfolding in_use_text written
+in_use_copied s t h k p =
     let cs = channels_of s in
     let ds = channels_of t in
     let ms = stitched_marks s t h.marks k.marks in
@@ -385,10 +407,18 @@ as_copied s t h k p =
     let a = head-text s.header s.settings L fl (s.header.width + t.header.width) (s.header.picture_width + t.header.picture_width) in
     let b = head-left s.header s.settings L fl in
     let c = head_right t.header t.settings R fr in
-    (λ i. a i ++ pairs_text s (p.left i) (p.right i) (b i) (c i))
+    (λ i. a i ++ pairs_text s cs ds (b i) (c i))
     ∙ ap (λ (l : List ℕ). (joined (header_fields (wider s.header t.header)) ++ 10 ∷ ended (setting_lines s.settings)) ++ l)
     (pairs_lines s LM RM M (last_free h.marks) (last_free k.marks) (last_lines s t h.marks k.marks p.marks_right) cs ds h k p.beside p.held_left p.held_right)
     ∙ append_assoc (joined (header_fields (wider s.header t.header))) (10 ∷ ended (setting_lines s.settings)) (ended T)
     ∙ ap (λ (l : List ℕ). joined (header_fields (wider s.header t.header)) ++ 10 ∷ l) (sym (ended_both (setting_lines s.settings) T))
     ∙ (λ i. ended (joined (header_fields (wider s.header t.header)) ∷ (setting_lines s.settings ++ (sym (marks_apart (pairs_of cs ds) (woven_held cs ds h k) ms) i ++ M))))
     ∙ (λ i. ended (joined (header_fields (wider s.header t.header)) ∷ (setting_lines s.settings ++ (channel_lines (sym p.both i) (stitched_held s t h k) ++ M))))
+
+pub as_copied : (s t : Sheet) (h k : Held) → Pair s t h k → stitch_text s t (written s h) (written t k) ≡ written (stitched_sheet s t) (stitched_held s t h k)
+unfolding stitch_text in_use_text
+as_copied s t h k p =
+    let xs = head_left (said_lines s.settings) (written s h) in
+    let ys = past 10 (said_lines t.settings + 1) (written t k) in
+    (λ i. open_text s t (written s h) ++ pairs_text s (p.left i) (p.right i) xs ys)
+    ∙ in_use_copied s t h k (in_use s t h k p)

@@ -15,7 +15,8 @@ use Rattle.contents.specs.declared.Sheet.{Sheet}
 use Rattle.digits.specs.Written.{decimal}
 use Rattle.copying.specs.Parts.{up_to, past}
 use Rattle.stitch.specs.Stitched.{moved_by}
-use Rattle.stitch.specs.Bytes.{front_mark, moved_line, moved_lines, head_left, said_lines, last_text, pairs_text, open_text, stitch_text}
+use Rattle.stitch.specs.Bytes.{front_mark, moved_line, moved_lines, head_left, said_lines, last_text, pairs_text, open_text, stitch_text, in_use_text}
+use Rattle.contents.specs.Sheets.{channels_of}
 use Rattle.seam.specs.Used.{used_of}
 
 -- The mark of a text's first line
@@ -79,3 +80,11 @@ stitch_long s t xs ys =
     length-append (open_text s t xs)
     (pairs_text s (used_of s.header.channels s) (used_of s.header.channels t)
     (head_left (said_lines s.settings) xs) (past 10 (said_lines t.settings + 1) ys))
+
+pub in_use_long : (s t : Sheet) (xs ys : List ℕ)
+    → length (in_use_text s t xs ys)
+    ≡ length (open_text s t xs)
+    + length (pairs_text s (channels_of s) (channels_of t) (head_left (said_lines s.settings) xs) (past 10 (said_lines t.settings + 1) ys))
+unfolding in_use_text
+in_use_long s t xs ys =
+    length-append (open_text s t xs) (pairs_text s (channels_of s) (channels_of t) (head_left (said_lines s.settings) xs) (past 10 (said_lines t.settings + 1) ys))

@@ -4,6 +4,7 @@ use Rattle.std.specs.Prelude.{ℕ, zero, suc, ◌+◌, List, [], ◌∷◌, ◌+
 use Rattle.contents.specs.declared.Settings.{Settings}
 use Rattle.contents.specs.declared.Channel.{Channel}
 use Rattle.contents.specs.declared.Sheet.{Sheet}
+use Rattle.contents.specs.Sheets.{channels_of}
 use Rattle.contents.specs.declared.Mark.{Mark}
 use Rattle.digits.specs.Written.{decimal}
 use Rattle.text.specs.Pieces.{split, before}
@@ -72,4 +73,12 @@ unfolding refitted moved_line
 stitch_text s t xs ys =
     open_text s t xs
     ++ pairs_text s (used_of s.header.channels s) (used_of s.header.channels t)
+    (head_left (said_lines s.settings) xs) (past 10 (said_lines t.settings + 1) ys)
+
+-- the whole text of as many channels as the headers say: of sheets that fit, what `stitch_text` is
+unfoldable pub in_use_text : Sheet → Sheet → List ℕ → List ℕ → List ℕ
+unfolding refitted moved_line
+in_use_text s t xs ys =
+    open_text s t xs
+    ++ pairs_text s (channels_of s) (channels_of t)
     (head_left (said_lines s.settings) xs) (past 10 (said_lines t.settings + 1) ys)

@@ -2,6 +2,8 @@
 #![tactic(auto)]
 
 mod marks;
+#[cfg(test)]
+mod tests;
 mod write;
 
 ghost use Rattle.std.specs.Prelude.{◌≡◌, ℕ, List, Some, length};
@@ -12,7 +14,7 @@ ghost use Rattle.stitch.specs.Numbers.{which_of, numbers, numbered, shown};
 ghost use Rattle.stitch.specs.Calls.{whole, stitching, output_of, measuring, Stitches, FitTogether};
 ghost use Rattle.stitch.specs.Calls.Stitch.{Text};
 ghost use Rattle.stitch.specs.Stitched.{stitched_sheet, stitched_held};
-ghost use Rattle.stitch.specs.Bytes.{stitch_text};
+ghost use Rattle.stitch.specs.Bytes.{stitch_text, in_use_text};
 ghost use Rattle.stitch.specs.Judging.{outlining, judging, fit_of};
 
 use contents::{Limits, Sheet};
@@ -159,7 +161,8 @@ pub fn stitch(left: &[u8], right: &[u8], out: &mut [u8]) -> Result<(), Refused>
 }
 
 /// Two texts that fit give the text of both sheets side by side: it is legal, so that it is read as
-/// those two sheets side by side, and it is what is copied of the two texts by their tabs and line ends.
+/// those two sheets side by side, and it is what is copied of the two texts by their tabs and line
+/// ends, of the channels that the code looks at and of those that the headers say alike.
 // Rules out: a text that is no sheet; a byte that is copied from another place.
 pub fn joined_law()
     ensures text { (left right : List ℕ) (c d : Contents) → FitTogether left right c d →
@@ -169,4 +172,6 @@ pub fn joined_law()
         (stitched_held c.sheet d.sheet c.held d.held) (output_of c d) }
     ensures copied { (left right : List ℕ) (c d : Contents) → FitTogether left right c d →
         stitch_text c.sheet d.sheet left right ≡ output_of c d }
+    ensures in_use { (left right : List ℕ) (c d : Contents) → FitTogether left right c d →
+        in_use_text c.sheet d.sheet left right ≡ output_of c d }
 {}

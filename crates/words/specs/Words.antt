@@ -1,14 +1,13 @@
--- The words that a line begins with, each ended by one space or by the line's end, and the number
--- that a word spells.
-use Rattle.std.specs.Prelude.{Bool, true, ◌&&◌, ◌||◌, List, [], ◌∷◌, ◌++◌, ℕ, zero, suc, Option, Some, None, ◌+◌, ◌*◌, ◌%◌, ◌^◌, ◌==◌, ltb, cond, take, drop, position}
+-- A line's words, parted by one space, and the number that a word spells.
+use Rattle.std.specs.Prelude.{Bool, true, ◌&&◌, List, [], ◌∷◌, ◌++◌, ℕ, zero, suc, Option, Some, None, ◌+◌, ◌*◌, ◌%◌, ◌^◌, ◌==◌, ltb, cond, take, drop, position}
 use Rattle.std.specs.List.{fold}
-use Rattle.std.specs.Char.{digit_value, is_ascii_uppercase}
+use Rattle.std.specs.Char.{digit_value}
 
--- where a line's first word ends: at a space, or at byte 10
+-- where a line's first word ends
 abbrev pub word_end : List ℕ → Option ℕ
-word_end line = position (λ b. b == 32 || b == 10) line
+word_end line = position (λ b. b == 32) line
 
--- what stands before that place, or all of the line, and what stands behind the byte there
+-- what stands before that place, or all of the line, and what stands behind the space there
 abbrev pub before : Option ℕ → List ℕ → List ℕ
 before (Some end) line = take end line
 before None line = line
@@ -28,9 +27,9 @@ abbrev pub from_word : ℕ → List ℕ → List ℕ
 from_word zero line = line
 from_word (suc k) line = after_word (from_word k line)
 
--- a lowercase hexadecimal digit's value; 0 for another byte
+-- a hexadecimal digit's value; 0 for another byte
 abbrev pub digit : ℕ → ℕ
-digit b = cond (is_ascii_uppercase b) 0 (cond (ltb (digit_value b) 16) (digit_value b) 0)
+digit b = cond (ltb (digit_value b) 16) (digit_value b) 0
 
 -- the number that hexadecimal digits spell, modulo 2^32
 abbrev pub number : List ℕ → ℕ

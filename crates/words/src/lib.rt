@@ -1,33 +1,36 @@
-// Words of a list of answers: lines ended by byte 10, words by that byte or by one space, numbers
-// as eight lowercase hexadecimal digits. For the programs that replay the oracle's answers and
-// count how many are the same. A word that is no number reads as some number. A `line` is here the
-// line with all that the buffer holds behind it: a line with too few words goes on with those of
-// the next.
+// Words of a list of answers: lines ended by byte 10, words parted by one space, numbers as eight hexadecimal digits. For the
+// programs that replay the oracle's answers and count how many are the same. A word that is no number reads as some number.
+// A `line` is here the line alone, without the byte that ends it; `running`, by which the programs
+// read, has the same of a line that is handed with what follows it, and `word_end` is from there.
 #![tactic(auto)]
 
-ghost use Rattle.std.specs.Prelude.{Bool, ℕ, ◌≡◌, ◌≤◌, ◌<◌, ◌+◌, ◌*◌, ◌%◌, ◌^◌, length, IfOk};
+pub mod running;
+#[cfg(test)]
+mod tests;
+
+ghost use Rattle.std.specs.Prelude.{Bool, ℕ, ◌≡◌, ◌≤◌, ◌+◌, ◌*◌, ◌%◌, ◌^◌, length, IfOk};
 ghost use Rattle.words.specs.Words.{word_end, first_word, after_word, from_word, digit, number, values_of, same_values, with, with_all};
 
+pub use crate::running::word_end;
 use filling::read_full;
 use std::io::Read;
 use std::ops::Range;
 use std::{fmt, io};
 
-// Where the line's first word ends. Ruled out: the place behind the byte that ends it; that of a
-// later space; the line's end passed over.
-pub fn word_end(line: &[u8]) -> Option<usize>
+// Where the line's first word ends. Ruled out: the place behind the space; that of a later space.
+fn first_space(line: &[u8]) -> Option<usize>
     ensures { result ≡ word_end line.now }
 {
-    line.iter().position(|&b| b == b' ' || b == b'\n')
+    line.iter().position(|&b| b == b' ')
 }
 
-// A line's first word, and what stands behind the byte that ends it.
+// A line's first word, and what stands behind the space that ends it.
 // Ruled out: the space left at the front of what follows; nothing for a line of one word.
 pub fn split_word(line: &[u8]) -> (&[u8], &[u8])
     ensures first { result.0.now ≡ first_word line.now }
     ensures after { result.1.now ≡ after_word line.now }
 {
-    match word_end(line) {
+    match first_space(line) {
         Some(end) => (&line[..end], &line[end + 1..]),
         None => (line, &[]),
     }
@@ -51,18 +54,12 @@ pub fn word(line: &[u8], k: usize) -> &[u8]
     split_word(from_word(line, k)).0
 }
 
-// A number with one more hexadecimal digit; a byte that is no digit counts as 0, and so does an
-// uppercase letter. Ruled out: 10 for an A.
-// Kept: std's `to_digit` reads uppercase letters too.
+// A number with one more hexadecimal digit; a byte that is no digit counts as 0.
 fn next_value(v: u32, b: u8) -> u32
     ensures { result ≡ ((v * 16) % 2 ^ 32 + digit b) % 2 ^ 32 }
 {
-    let digit = match b {
-        b'0'..=b'9' => b - b'0',
-        b'a'..=b'f' => b - b'a' + 10,
-        _ => 0,
-    };
-    v.wrapping_mul(16).wrapping_add(u32::from(digit))
+    let digit = char::from(b).to_digit(16).unwrap_or(0);
+    v.wrapping_mul(16).wrapping_add(digit)
 }
 
 // The number whose hexadecimal digits the word is; a byte that is no digit counts as 0. Ruled out: the digits' sum; the digits read from the last to the first.
@@ -178,43 +175,29 @@ impl fmt::Display for Tally {
     }
 }
 
-// One more, up to 2^32 - 1. Ruled out: 2^32.
-fn one_more(n: u64) -> u64
-    ensures more { n < 4294967295 → result ≡ n + 1 }
-    ensures full { 4294967295 ≤ n → result ≡ n }
+// The tally with the lines that end in `text`, and how many bytes they take.
+fn count_lines<F: Fn(&[u8]) -> bool>(text: &[u8], tally: Tally, same: &F) -> (Tally, usize)
+    requires { F.IsAlwaysCallable same.now }
+    ensures { result.1 ≤ length text.now }
 {
-    if n < 0xffff_ffff { n + 1 } else { n }
-}
-
-// The tally with the lines that end before `to`, and where the first line that has no end there
-// starts.
-fn count_lines<F: Fn(&[u8]) -> bool>(
-    text: &[u8],
-    to: usize,
-    tally: Tally,
-    same: &F,
-) -> (Tally, usize)
-    requires callable { F.IsAlwaysCallable same.now }
-    requires inside { to ≤ length text.now }
-    ensures { result.1 ≤ to }
-{
-    let mut tally = tally;
-    let mut at = 0;
-    while let Some(n) = text[at..to].iter().position(|&b| b == b'\n') {
-        if same(&text[at..]) {
-            tally.same = one_more(tally.same);
-        } else {
-            tally.other = one_more(tally.other);
+    match text.iter().rposition(|&b| b == b'\n') {
+        None => (tally, 0),
+        Some(end) => {
+            let mut tally = tally;
+            for line in text[..end].split(|&b| b == b'\n') {
+                if same(line) {
+                    tally.same = tally.same.saturating_add(1);
+                } else {
+                    tally.other = tally.other.saturating_add(1);
+                }
+            }
+            (tally, end + 1)
         }
-        at += n + 1;
     }
-    (tally, at)
 }
 
-// Counts for how many lines of the input `same` says that the line's answer is the oracle's. It is
-// handed the line and what the buffer holds behind it. The input is read piece by piece, at most
-// 1,000,000 times; the loop ends where nothing more is counted. Where a read fails its error is
-// answered. No clause promises anything of the two numbers.
+// Counts for how many lines of the input `same` says that the line's answer is the oracle's. The input is read piece by piece; the loop ends where nothing more
+// is counted. Where a read fails its error is answered. No clause promises anything of the two numbers.
 pub fn count<R: Read, F: Fn(&[u8]) -> bool>(input: &mut R, same: F) -> io::Result<Tally>
     requires { F.IsAlwaysCallable same }
 {
@@ -223,9 +206,9 @@ pub fn count<R: Read, F: Fn(&[u8]) -> bool>(input: &mut R, same: F) -> io::Resul
     let mut from = 0;
     let mut to = 0;
     // Kept: each loop is proved to end, and nothing says that an input does, so that a loop without a count has no measure; `lines` and `split` of std's `BufRead` put each line on a heap.
-    for _ in 0..1_000_000 {
+    for _ in 0..u64::MAX {
         to = refill(input, &mut text, from..to)?;
-        (tally, from) = count_lines(&text, to, tally, &same);
+        (tally, from) = count_lines(&text[..to], tally, &same);
         if from == 0 {
             break;
         }

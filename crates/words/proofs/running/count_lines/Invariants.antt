@@ -1,5 +1,5 @@
 use Rattle.std.proofs.Common.{◌≤◌, ◌-◌, length}
-use Rattle.words.proofs.count_lines.Given as goal
+use Rattle.words.proofs.running.count_lines.Given as goal
 
 abbrev pub invariant-loop-n : goal.invariant-loop-n
 invariant-loop-n g l = (l.at ≤ l.to) × (l.to ≤ length l.text) × goal.F-IsAlwaysCallable g l.same
